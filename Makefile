@@ -14,22 +14,24 @@ ZSH_COMPLETIONS = $(PREFIX)/share/zsh/site-functions
 take_program = mkdir -p build && { cmp -s crates/cpe/out/cpe build/cpe || \
 	{ cp crates/cpe/out/cpe build/cpe.new && mv -f build/cpe.new build/cpe; }; }
 
-.PHONY: help build program release library demo test limits install install-library deb bench clean need_rt need_python3
+.PHONY: help build program release library demo service test limits install install-library deb bench clean need_rt need_python3
 
 help:
 	@echo 'make demo     reads examples/names.txt, and goes the whole way from feeds to the advisories of two machines (that needs'
 	@echo '              python3): with the program in release/, if the gate built it from exactly the sources here, or else with'
 	@echo '              the one that make build makes. So do all targets below that need the program; with PROVE=1 they always prove it'
+	@echo 'make service  runs the service with the samples on http://127.0.0.1:8765/, its data in build/service (needs starlette and'
+	@echo '              uvicorn of Python, which Debian has)'
 	@echo 'make build    proves the program, and builds it into build/cpe'
 	@echo 'make library  proves the library for C, and builds it into build/libcpe.a and build/libcpe.so (needs cc and binutils)'
 	@echo 'make test     the gate: rt ci, what each crate took, then checks of the program as rt ci built it, of the release, of the'
-	@echo '              manual page, of the recipes, of the library for C where make library was run before, of the package and'
-	@echo '              the completions, and of the conformance cases'
+	@echo '              manual page, of the recipes, of the service, of the library for C where make library was run before, of the'
+	@echo '              package and the completions, and of the conformance cases'
 	@echo 'make release  makes release/ from what make test built, in a tree without changes'
 	@echo 'make limits   fills the program up to its limits, refuses each allocation of short sessions, and measures the stack that'
 	@echo '              each word needs: minutes, and 6 GB of memory; not in the gate'
-	@echo 'make install  puts the program into PREFIX/bin, and its manual page, its completions for bash and zsh and the recipes'
-	@echo '              into PREFIX/share (PREFIX=$(PREFIX))'
+	@echo 'make install  puts the program into PREFIX/bin, and its manual page, its completions for bash and zsh, the recipes and the'
+	@echo '              service into PREFIX/share (PREFIX=$(PREFIX))'
 	@echo 'make install-library  builds the library, and puts it into PREFIX/lib, and cpe.h into PREFIX/include'
 	@echo 'make deb      puts a package for Debian into PACKAGES, of what make install puts, and of the library where it is built'
 	@echo '              (PACKAGES=$(PACKAGES))'
@@ -67,6 +69,12 @@ demo: program
 	echo '$(whole_way) --all 2> /dev/null | grep CVE-2024-98001'; $(whole_way) --all 2> /dev/null | grep CVE-2024-98001; \
 	else echo 'SKIPPED: the whole way from feeds to advisories: there is no python3'; fi
 
+# (the first Python that has the libraries; Debian has them for its own)
+service: program
+	@for it in python3 /usr/bin/python3; do $$it -c 'import starlette, uvicorn' 2> /dev/null && { \
+	CPE='$(CURDIR)/build/cpe' PYTHONPATH=service exec $$it -m cpe_service --data build/service --samples; }; done; \
+	echo 'starlette and uvicorn are missing: apt-get install python3-starlette python3-uvicorn' >&2; exit 1
+
 test: need_rt
 	sh tests/gate.sh
 	@$(take_program)
@@ -76,6 +84,7 @@ test: need_rt
 	sh tests/manual-checks.sh build/cpe
 	sh tests/recipe-checks.sh build/cpe
 	sh tests/scan-checks.sh build/cpe
+	sh tests/service-checks.sh build/cpe
 	sh tests/library-checks.sh build/cpe
 	sh tests/package-checks.sh build/cpe
 	sh tests/conformance-checks.sh build/cpe
@@ -101,7 +110,7 @@ install: program
 	mkdir -p '$(DESTDIR)$(PREFIX)/share/bash-completion/completions' '$(DESTDIR)$(ZSH_COMPLETIONS)'
 	install -m 644 completions/cpe.bash '$(DESTDIR)$(PREFIX)/share/bash-completion/completions/cpe'
 	install -m 644 completions/_cpe '$(DESTDIR)$(ZSH_COMPLETIONS)/_cpe'
-	find recipes -name __pycache__ -prune -o -type f -exec install -D -m 644 {} '$(DESTDIR)$(PREFIX)/share/cpe/{}' \;
+	find recipes service -name __pycache__ -prune -o -type f -exec install -D -m 644 {} '$(DESTDIR)$(PREFIX)/share/cpe/{}' \;
 
 install-library: library
 	mkdir -p '$(DESTDIR)$(PREFIX)/include' '$(DESTDIR)$(PREFIX)/lib/pkgconfig'

@@ -32,7 +32,8 @@ if [ -f build/libcpe.a ] && [ -f build/libcpe.so ]; then
     linked="$linked $root/usr/lib/libcpe.so.0"
 fi
 gzip -9n "$root/usr/share/man/man1/cpe.1"
-mkdir -p "$root/usr/share/doc/cpe"
+mkdir -p "$root/usr/share/doc/cpe" "$root/usr/lib/systemd/system"
+install -m 644 package/systemd/* "$root/usr/lib/systemd/system"
 install -m 644 LICENSE "$root/usr/share/doc/cpe/copyright"
 
 architecture=$(dpkg --print-architecture)
@@ -46,6 +47,7 @@ Maintainer: $maintainer
 Installed-Size: $(du -sk "$root/usr" | cut -f 1)
 Depends: libc6 (>= $libc)
 Recommends: python3 (>= 3.11)
+Suggests: python3-starlette, python3-uvicorn
 Section: utils
 Priority: optional
 Description: names of products (CPE 2.3), and advisories over an inventory
@@ -54,6 +56,9 @@ Description: names of products (CPE 2.3), and advisories over an inventory
  .
  The recipes, in /usr/share/cpe/recipes, begin with feeds and software lists,
  and end with a table. They are in Python.
+ .
+ The service, cpe-service.service, does the same for a team. It needs the
+ suggested packages, and isn't enabled by itself.
 END
 (cd "$root" && find usr -type f -exec md5sum {} +) > "$root/DEBIAN/md5sums"
 mkdir -p "$folder"

@@ -29,7 +29,8 @@ wanted_files() {
     echo usr/share/doc/cpe/copyright
     echo usr/share/man/man1/cpe.1.gz
     echo usr/share/zsh/vendor-completions/_cpe
-    find recipes -name __pycache__ -prune -o -type f -print | sed 's|^|usr/share/cpe/|'
+    find recipes service -name __pycache__ -prune -o -type f -print | sed 's|^|usr/share/cpe/|'
+    for it in package/systemd/*; do echo "usr/lib/systemd/system/$(basename "$it")"; done
     if has_library; then
         for it in include/cpe.h lib/libcpe.a lib/libcpe.so lib/libcpe.so.0 lib/pkgconfig/cpe.pc; do echo "usr/$it"; done
     fi
@@ -48,7 +49,8 @@ has_files() {
         cmp share/zsh/vendor-completions/_cpe "$here/completions/_cpe"
         cmp share/doc/cpe/copyright "$here/LICENSE"
         gzip -dc share/man/man1/cpe.1.gz | cmp - "$here/docs/cpe.1"
-        cd share/cpe && find recipes -type f -exec cmp {} "$here/{}" \;
+        for it in "$here"/package/systemd/*; do cmp "lib/systemd/system/$(basename "$it")" "$it"; done
+        cd share/cpe && find recipes service -type f -exec cmp {} "$here/{}" \;
     ) > "$room/out" 2>&1
     judge 'its files are those of the checkout' 0 0 /dev/null
     (cd "$fresh" && md5sum --quiet -c "$room/control/md5sums") > "$room/out" 2>&1
@@ -100,6 +102,48 @@ answers_unpacked() {
         answers_sessions 'the README, by the recipes of the package' < "$room/sessions"
     fi
     cd "$here" || exit 2
+}
+
+# The units of the service are of systemd's form, and shut off what the service doesn't need.
+has_units() {
+    what='the units of the service'
+    needs "$what" systemd-analyze || return
+    # (what they run isn't there, and nothing is enabled)
+    mkdir "$room/units"
+    for it in "$fresh"/usr/lib/systemd/system/*; do sed 's|^ExecStart=[^ ]*|ExecStart=/bin/true|' "$it" > "$room/units/$(basename "$it")"; done
+    limited systemd-analyze verify --man=no --recursive-errors=no "$room"/units/* > "$room/out" 2>&1
+    judge "$what are right" $? 0 /dev/null
+    for it in cpe-service cpe-service-feeds; do
+        limited systemd-analyze security --offline=yes --threshold=25 "$room/units/$it.service" > "$room/said" 2>&1
+        status=$?
+        : > "$room/out"
+        judge "$it.service is exposed to little" "$status" 0 /dev/null
+    done
+}
+
+# The service, where nothing but the package is, begins with the samples and has their verdicts.
+serves_unpacked() {
+    what='the service of the package'
+    needs "$what" curl || return
+    for python in python3 /usr/bin/python3 ''; do
+        if [ -n "$python" ] && "$python" -c 'import starlette, uvicorn' 2> /dev/null; then break; fi
+    done
+    [ -n "$python" ] || { skip "$what" 'no python3 has starlette and uvicorn'; return; }
+    CPE=$fresh/usr/bin/cpe PYTHONPATH=$fresh/usr/share/cpe/service "$python" -B -m cpe_service --data "$room/data" --port 0 --samples > "$room/said" 2>&1 &
+    served=$!
+    tries=0
+    address=
+    while [ -z "$address" ] && [ $tries -lt 200 ]; do
+        sleep 0.1
+        tries=$((tries + 1))
+        address=$(sed -n 's|.*\(http://[0-9.:]*\)/.*|\1|p' "$room/said")
+    done
+    curl -s -T recipes/samples/ranges/legacy-1.txt "$address/machines/legacy-1" > "$room/answer" 2> "$room/error"
+    kill "$served"
+    wait "$served" 2> /dev/null
+    grep -o '"counts":{[^}]*}' "$room/answer" > "$room/out"
+    echo '"counts":{"TRUE":4,"UNKNOWN":1}' > "$room/wanted"
+    judge "$what begins with the samples, and has their verdicts" 0 0 "$room/wanted"
 }
 
 # The library is linked with as cpe.pc says, but that it isn't where it will be.
@@ -182,7 +226,9 @@ if unpacks; then
     has_files
     has_modes
     has_fields
+    has_units
     answers_unpacked
+    serves_unpacked
     links_unpacked
 fi
 end_of_checks 'package checks'

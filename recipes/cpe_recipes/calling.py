@@ -18,7 +18,7 @@ from __future__ import annotations
 from collections.abc import Iterable, Iterator, Mapping, Sequence
 from dataclasses import dataclass, replace
 
-from . import names, unlisted
+from . import names
 from .advisories import Range
 from .called import Called, Sure
 from .decide import Lead, Leads, Lists, leads_of
@@ -168,13 +168,14 @@ class Calling:
         program: Program,
         entries: Sequence[str],
         leads: Leads,
+        old: Sequence[Lead],
         items: Iterable[Lead],
         feed: Mapping[str, Sequence[str]],
         wanted: Wanted,
         letters: Letters,
     ) -> None:
+        """The entries by which names lead on, where the names lead that are known, `old` those that are deprecated, and the items."""
         own = list(items)
-        old = [leads.found[name] for name in unlisted.deprecated_names(entries) if name in leads.found]
         self._feed, self._wanted, self._letters = feed, wanted, letters
         self._found: dict[tuple[str, str, str], tuple[Called, ...]] = {}
         self._before = Before(old, {names.product_of(name) for lead in own for name in (lead.name, *lead.ends)})

@@ -9,12 +9,13 @@ of the other one of the two.
 """
 from __future__ import annotations
 
+import functools
 import json
 from collections.abc import Collection, Iterable, Iterator, Mapping, Sequence
 from dataclasses import dataclass, field
 
-from . import names, verdicts
-from .advisories import Range
+from . import names
+from .advisories import Range, base_id
 from .asked import OF_DEVICES, PARTS, Negated, asked_of, range_of
 from .called import Called, Sure
 from .calling import Wanted
@@ -23,6 +24,7 @@ from .feeds import Json, record_text
 from .near_products import Item, NearProducts, Product, item_of, keys_of, version_key
 from .portions import portions, size_of
 from .said import Fatal
+from .verdicts import Statements
 
 # An item or several, and results of checks, over which a statement is asked.
 Items = tuple[str, ...]
@@ -102,14 +104,24 @@ class Known:
         value, line = asked_of(json.loads(record), negated)
         return Asked(Statement.of(value, self.ranges), line, tuple(negated.values()))
 
-    def verdicts(self) -> verdicts.Statements:
-        """All that machines have verdicts of, asked for or not."""
-        return verdicts.Statements([*(statement.id for statement in self.statements), *self.elsewhere])
-
     def advisories(self) -> list[str]:
         """The ids of the advisories that have verdicts, in the order of the feeds."""
-        found = self.verdicts().advisories
+        found = self.ids.advisories
         return list(dict.fromkeys([*(id for id in self.order if id in found), *found]))
+
+    @functools.cached_property
+    def parts(self) -> dict[str, list[int]]:
+        """The places of the statements of each advisory, by its id and by those of its parts."""
+        parts: dict[str, list[int]] = {}
+        for place, statement in enumerate(self.statements):
+            for id in {statement.id, base_id(statement.id)}:
+                parts.setdefault(id, []).append(place)
+        return parts
+
+    @functools.cached_property
+    def ids(self) -> Statements:
+        """The ids of all of which machines have verdicts, asked for or not."""
+        return Statements([*(statement.id for statement in self.statements), *self.elsewhere])
 
     def facts(self) -> list[str]:
         """The names that statements and ranges ask for."""
@@ -235,18 +247,31 @@ def portions_of(known: Known) -> Iterator[range]:
 
 
 def lines_of(known: Known, portion: range, cases: Iterable[tuple[Items, Results, int, int]]) -> Iterator[str]:
-    """The statements of a portion, a question for each, and then the cases of these: the statement of each, over its items and results.
+    """The statements of a portion, a question for each, and then the cases of these."""
+    asks = questions_of(known, portion)
+    yield from lines_of_known(known, asks)
+    yield from lines_of_cases(cases, asks)
 
-    No entry is among it: in mode plain nothing is led on.
-    """
-    yield from (known.asked[place] for place in portion)
-    asks = {place: record_text({"do": "verdict", "id": known.statements[place].id}) for place in portion}
+
+def questions_of(known: Known, portion: Iterable[int]) -> dict[int, str]:
+    """The question for each statement of a portion, by its place."""
+    return {place: record_text({"do": "verdict", "id": known.statements[place].id}) for place in portion}
+
+
+def lines_of_known(known: Known, asks: Mapping[int, str]) -> Iterator[str]:
+    """The statements for which there are questions, and these, where there is no item. No entry is among it: in mode plain nothing is
+    led on."""
+    yield from (known.asked[place] for place in asks)
     # (where nothing is, nothing is there of what is negated, nor of any part)
-    negated = dict.fromkeys(key for place in portion for key in known.statements[place].checks if key in known.negated)
+    negated = dict.fromkeys(key for place in asks for key in known.statements[place].checks if key in known.negated)
     nothing = [*negated, *PARTS.values(), *OF_DEVICES.values()]
     yield from (check_record(key, False) for key in nothing)
     yield from asks.values()
     yield from (drop_record(key) for key in nothing)
+
+
+def lines_of_cases(cases: Iterable[tuple[Items, Results, int, int]], asks: Mapping[int, str]) -> Iterator[str]:
+    """The statement of each case, over its items and results. After them the rows are as before."""
     here: Items = ()
     for items, results, place, _ in cases:
         if items != here:

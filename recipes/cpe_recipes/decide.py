@@ -228,6 +228,13 @@ class Decider:
         if asked_of_patterns:
             self._ask_items(in_part, asked_of_patterns)
 
+    def add(self, other: Decider) -> None:
+        """Adds what another one knows of other ends."""
+        self._covering |= other._covering
+        self._others |= other._others
+        self._may_cover |= other._may_cover
+        self.criteria |= other.criteria
+
     def stands(self, end: str, kind: str = "") -> Mapping[str, Stand]:
         """How this end, as a component of this kind, stands to the ranges that cover it, by the ids of their checks."""
         found = self._stands.get((end, kind))

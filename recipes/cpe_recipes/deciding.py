@@ -25,6 +25,8 @@ class Deciding:
 
     def __init__(self, program: Program, known: Known) -> None:
         self._program, self._known = program, known
+        # (one statement may be asked of many machines)
+        self._tests: dict[int, Json] = {}
 
     def reasons(self, called: Sequence[Called], decided: Decided, places: Sequence[int]) -> dict[int, list[str]]:
         """In words why these statements are TRUE over items that are called so, each by its place."""
@@ -39,15 +41,21 @@ class Deciding:
 
     def _put(self, found: dict[int, list[str]], items: Mapping[str, str], decided: Decided, places: Sequence[int]) -> None:
         """Puts in words why these statements are TRUE, of which cpe takes as many at once."""
-        lines = self._program.lines(["explain"], self._lines(items, decided, places))
+        lines = self._program.lines(["explain"], self.lines(items, decided, places))
         for place, line in zip(places, lines):
-            test, proof = json.loads(self._known.asked[place])["test"], _proof(line)
-            told = Told(self._known.ranges, decided, items).of(test, proof)
+            told = Told(self._known.ranges, decided, items).of(self._test(place), _proof(line))
             found[place] = list(dict.fromkeys(told))
         if any(place not in found for place in places) or next(lines, None) is not None:
             raise Fatal("cpe explained more or less than was asked")
 
-    def _lines(self, items: Iterable[str], decided: Decided, places: Sequence[int]) -> Iterator[str]:
+    def _test(self, place: int) -> Json:
+        """The test of a statement."""
+        if place not in self._tests:
+            self._tests[place] = json.loads(self._known.asked[place])["test"]
+        return self._tests[place]
+
+    def lines(self, items: Iterable[str], decided: Decided, places: Sequence[int]) -> Iterator[str]:
+        """The statements at these places, and over what they are asked."""
         yield from (self._known.asked[place] for place in places)
         yield from (record_text({"do": "item", "name": item}) for item in items)
         keys = dict.fromkeys(key for place in places for key in self._known.statements[place].checks)

@@ -44,9 +44,14 @@ def candidates_of(
     paths: Sequence[str], said: Said, strict: bool = False, reading: whole.Reading | None = None
 ) -> Iterator[Candidate]:
     """What the records of these feeds become: first the entries, and then the deprecations."""
+    yield from candidates_in(whole.pages(paths, said, KINDS, strict, reading), said)
+
+
+def candidates_in(pages: Iterable[Page], said: Said) -> Iterator[Candidate]:
+    """The same of pages."""
     products = Products()
     empty, is_empty = [], True
-    for page in whole.pages(paths, said, KINDS, strict, reading):
+    for page in pages:
         if not page.records:
             empty.append(f"{page.name}: no {page.kind} in it")
             continue

@@ -263,7 +263,8 @@ class _Names:
         own = {lead.name: lead for item in items if (lead := self.leads.found.get(item))}
         by_feed = listed_by_name(self._lists, ranges, self.leads)
         letters = read_letters(words.one("--letters") or decide.LETTERS)
-        calling = Calling(program, entries, self.leads, own.values(), by_feed, Wanted(named), letters)
+        old = [self.leads.found[name] for name in unlisted.deprecated_names(entries) if name in self.leads.found]
+        calling = Calling(program, entries, self.leads, old, own.values(), by_feed, Wanted(named), letters)
         self._is_strict, self._calling = words.has("--strict"), calling
         self._components = {machine.name: list(self._leads_of(machine)) for machine in machines}
         called = calling.of_components(leads for of in self._components.values() for leads in of)

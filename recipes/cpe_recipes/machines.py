@@ -57,23 +57,29 @@ def read_lists(paths: Sequence[str], said: Said) -> list[Machine]:
     for path, called in zip(paths, _names_of_lists(paths)):
         feed = name_of(path)
         try:
-            listed = lists.read(feed, read_feed(path))
+            machine = machine_of_list(called, feed, read_feed(path), said)
         except FeedFault as fault:
             raise Fatal(f"{feed}: {fault}") from fault
-        parts = list(listed.all())
-        for remark in listed.remarks:
-            said.remark(remark)
-        if not parts:
-            raise Fatal(f"{feed}: nothing is in it")
-        for one in parts:
-            if isinstance(one, lists.Odd):
-                said.left_out(f"{called} {one.id}", one.reason)
-            elif not one.names and (not one.purl or one is listed.platform):
-                said.left_out(f"{called} {one.called()}", NO_NAME)
-        _put(machines, Machine(called, listed.components(), listed.platform), said)
+        _put(machines, machine, said)
     if not machines:
         raise Fatal("no software list was given")
     return list(machines.values())
+
+
+def machine_of_list(called: str, feed: str, data: bytes, said: Said) -> Machine:
+    """The machine of a software list of these bytes. FeedFault where it can't be read, or has nothing in it."""
+    listed = lists.read(feed, data)
+    parts = list(listed.all())
+    for remark in listed.remarks:
+        said.remark(remark)
+    if not parts:
+        raise FeedFault("nothing is in it")
+    for one in parts:
+        if isinstance(one, lists.Odd):
+            said.left_out(f"{called} {one.id}", one.reason)
+        elif not one.names and (not one.purl or one is listed.platform):
+            said.left_out(f"{called} {one.called()}", NO_NAME)
+    return Machine(called, listed.components(), listed.platform)
 
 
 def _names_of_lists(paths: Sequence[str]) -> list[str]:

@@ -4,7 +4,7 @@ from __future__ import annotations
 from collections.abc import Callable, Iterable, Mapping, Sequence
 from dataclasses import dataclass, field
 
-from . import advisories, affected, names, verdicts
+from . import affected, names, verdicts
 from .asked import LONG
 from .called import Called
 from .cases import Known, Product, Statement
@@ -88,7 +88,7 @@ class Hanging:
     def __init__(self, known: Known, found: Iterable[Found]) -> None:
         self._known = known
         self._found = {one.machine.name: one for one in found}
-        self._parts = _parts(known)
+        self._parts = known.parts
 
     def on(self, advisory: str, machine: str | None) -> list[str]:
         """The reasons, in words, without repeats."""
@@ -114,18 +114,8 @@ class Hanging:
         return list(dict.fromkeys(remark for remarks in found for remark in remarks or ())) if all(found) else []
 
 
-def _parts(known: Known) -> dict[str, list[int]]:
-    """The places of the statements of each advisory, by its id and by those of its parts."""
-    parts: dict[str, list[int]] = {}
-    for place, statement in enumerate(known.statements):
-        for id in {statement.id, advisories.base_id(statement.id)}:
-            parts.setdefault(id, []).append(place)
-    return parts
-
-
 def machines_with_verdicts(known: Known, bare: Sequence[str], found: Iterable[Found]) -> list[verdicts.Machine]:
     """The machines with what isn't FALSE there, the parts of an advisory joined by OR."""
-    statements = known.verdicts()
     without_items = {place: truth for place, truth in enumerate(bare) if truth != "FALSE"}
     machines = []
     for one in found:
@@ -133,7 +123,7 @@ def machines_with_verdicts(known: Known, bare: Sequence[str], found: Iterable[Fo
             # (no verdict is known of it, so none is counted)
             machines.append(verdicts.Machine(one.machine.name, has_items=False))
             continue
-        machine = verdicts.Machine(one.machine.name, statements)
+        machine = verdicts.Machine(one.machine.name, known.ids)
         for place, truth in sorted({**without_items, **one.truths}.items()):
             if truth != "FALSE" or place in one.less:
                 machine.put(known.statements[place].id, truth, place in one.less)
@@ -174,11 +164,10 @@ def json_of(
     known: Known, found: Sequence[Found], machines: Sequence[verdicts.Machine], about: affected.About, unnamed: Unnamed | None = None
 ) -> dict[str, Json]:
     """The result as one value, with the verdicts that the machines show, and the packages that have no sure name."""
-    parts = _parts(known)
-    of_machines = [_machine_json(one, machine, about, parts) for one, machine in zip(found, machines)]
+    of_machines = [_machine_json(one, machine, about, known.parts) for one, machine in zip(found, machines)]
     for row in of_machines if unnamed is not None else ():
         row |= unnamed.json(row["name"])
-    return {"advisories": len(known.verdicts().advisories), "machines": of_machines}
+    return {"advisories": len(known.ids.advisories), "machines": of_machines}
 
 
 def _machine_json(

@@ -234,7 +234,7 @@ class _Writer(threading.Thread):
         # (a program that is gone takes no more; its status tells)
         with contextlib.suppress(BrokenPipeError), _pipe(self._run.stdin) as to_run:
             try:
-                for piece in _pieces(self._records):
+                for piece in pieces(self._records):
                     to_run.write(piece)
             except BrokenPipeError:
                 raise
@@ -248,7 +248,8 @@ def _pipe(stream: IO[bytes] | None) -> IO[bytes]:
     return stream
 
 
-def _pieces(records: Iterable[str]) -> Iterator[bytes]:
+def pieces(records: Iterable[str]) -> Iterator[bytes]:
+    """Lines as they are handed over."""
     gathered: list[str] = []
     size = 0
     for record in records:

@@ -128,7 +128,7 @@ class Scan:
         has_hardware: bool = True,
     ) -> None:
         self._program, self._known, self._lists, self._letters, self._progress = program, known, lists, letters, progress
-        self._deciding = Deciding(program, known) if has_why else None
+        self.deciding = Deciding(program, known) if has_why else None
         self._is_strict, self._has_hardware = is_strict, has_hardware
         self.bare: list[str] = []
         self.successors: dict[Product, list[Product]] = {}
@@ -165,15 +165,15 @@ class Scan:
         feed = listed_by_name(self._lists, self._known.ranges, self._leads)
         wanted = Wanted(self._leads.found[fact].name for fact in dict.fromkeys(facts))
         own = {lead.name: lead for item in items if (lead := self._leads.found.get(item))}
-        return Calling(self._program, entries, self._leads, own.values(), feed, wanted, self._letters)
+        old = [self._leads.found[name] for name in unlisted.deprecated_names(entries) if name in self._leads.found]
+        return Calling(self._program, entries, self._leads, old, own.values(), feed, wanted, self._letters)
 
     def _decide(self, found: Sequence[Found], is_all_asked: bool) -> None:
         """Puts what is decided of the ranges, and the verdicts."""
         self._progress.step("deciding ranges of versions")
-        index = Index(self._known, self._leads)
-        cases = Cases(self._known, index, is_all_asked)
+        cases = Cases(self._known, self._index(), is_all_asked)
         called = list({it.name: it for one in found for it in one.called}.values())
-        decider = Decider(self._program, self._known.ranges.values(), self._leads, _ends(called), self._letters)
+        decider = self._decider(_ends(called))
         negated = list(self._known.negated.values())
         negations = Negations(self._program, negated, self._leads, called, decider, self._lists, self._has_hardware)
         asked = [self._asked(one, decider, negations, cases) for one in found]
@@ -182,9 +182,9 @@ class Scan:
             self._put(one, of_machine, truths)
         Reasons(self._program, self._known, self._leads).put(found)
         for done, one in enumerate(found):
-            if self._deciding is not None:
+            if self.deciding is not None:
                 self._progress.count("asking which items decide", done, len(found))
-                one.deciding = self._deciding.reasons(one.asked, one.decided, one.places_of("TRUE"))
+                one.deciding = self.deciding.reasons(one.asked, one.decided, one.places_of("TRUE"))
             one.note_backported(self._known.statements, lambda fact: self._leads.found[fact].name)
             # (what is decided is in the verdicts, and would be much beside them)
             one.decided.clear()
@@ -207,17 +207,32 @@ class Scan:
         """The truths of the cases, by their numbers."""
         self._progress.step("asking for verdicts")
         truths: dict[int, str] = {}
+        for number, truth in self._answers(cases):
+            truths[number] = truth
+            self._progress.count("asking for verdicts", len(truths), len(cases))
+        return truths
+
+    # What a run that goes on from machine to machine keeps, it puts in place of these three.
+
+    def _index(self) -> Index:
+        """The statements by what they ask for."""
+        return Index(self._known, self._leads)
+
+    def _decider(self, ends: Iterable[str]) -> Decider:
+        """How these names stand to the ranges."""
+        return Decider(self._program, self._known.ranges.values(), self._leads, ends, self._letters)
+
+    def _answers(self, cases: Sequence[tuple[Items, Results, int, int]]) -> Iterator[tuple[int, str]]:
+        """The truths of the cases, with their numbers. Those of the statements without items are put into `bare`."""
         self.bare = []
         for portion in portions_of(self._known):
             of_portion = [case for case in cases if case[2] in portion]
             answers = verdicts_of(self._program.lines(["resolve"], lines_of(self._known, portion, of_portion)))
             self.bare += [_next(answers) for _ in portion]
             for _, _, _, number in of_portion:
-                truths[number] = _next(answers)
-                self._progress.count("asking for verdicts", len(truths), len(cases))
+                yield number, _next(answers)
             for answer in answers:
                 raise Fatal(f"cpe answered more than was asked: {answer}")
-        return truths
 
     def _put(self, one: Found, asked: _Asked, truths: Mapping[int, str]) -> None:
         """Puts verdicts of a machine. One that is another where items are what they say too little of is UNKNOWN."""
@@ -273,7 +288,10 @@ def read_known(
         feed = [page for page in states.sort(latest.advisories(feed, said)) if page.records]
         if _count(feed) > portions.MOST.statements:
             order = advisories.ids_in_order(feed)
-            cut = _of_products(feed, read, asked, entries, program, said, reading)
+            # (what isn't right in the match feed is said when it is read for the ranges)
+            matched = read.many("--matches")
+            listed = whole.pages(matched, Mute(), matches.KINDS, strict=True, reading=reading.again()) if matched else ()
+            cut = of_products(feed, listed, asked, entries, program, said)
             feed = cut.pages
     found = advisories.convert(feed, program, said, is_decided=True, states=states)
     found.tell_empty_pages(said)
@@ -284,18 +302,16 @@ def read_known(
     return Known(entries, records, found.ranges, found.details, found.stand_ins, cut.elsewhere, order), states
 
 
-def _of_products(
-    feed: Sequence[Page], read: Words, asked: Iterable[Machine], entries: Sequence[str], program: Program, said: Said, reading: whole.Reading
+def of_products(
+    feed: Sequence[Page], listed: Iterable[Page], asked: Iterable[Machine], entries: Sequence[str], program: Program, said: Said
 ) -> products.Cut:
-    """Of more advisories than cpe takes at once those that may concern a product of the machines; the others are FALSE on each."""
+    """Of more advisories than cpe takes at once those that may concern a product of the machines; the others are FALSE on each. `listed`
+    are the pages of the match feed."""
     items = dict.fromkeys(name for machine in asked for name in machine.asked_names())
     leads = leads_of(program, entries, items, unlisted.deprecated_names(entries))
     wanted = products.products_of(leads, items, entries)
-    matched, naming = read.many("--matches"), set[str]()
-    if matched:
-        # (what isn't right in it is said when it is read for the ranges)
-        beside, naming = matches.namings(whole.pages(matched, Mute(), matches.KINDS, strict=True, reading=reading.again()), wanted)
-        wanted |= beside
+    beside, naming = matches.namings(listed, wanted)
+    wanted |= beside
     before, found = _count(feed), products.Cut.of(feed, wanted, naming)
     said.remark(f"{found.count()} of {before} advisories may concern a product of these machines; the others are FALSE there")
     return found

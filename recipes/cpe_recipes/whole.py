@@ -140,7 +140,7 @@ def tell_uncounted(names: Sequence[str], said: Said) -> None:
 
 def missing_of(kind: str, spans: Sequence[Span], said: Said) -> list[Missing]:
     """What is missing of the feeds that have these pages. What is there twice is remarked."""
-    return [*_odd(kind, spans), *_missing(kind, spans, said)]
+    return [*odd_of(kind, spans), *_missing(kind, spans, said)]
 
 
 def span_of(page: Page) -> Span:
@@ -161,7 +161,7 @@ def _id(record: Json, kind: str) -> Json:
     return id if isinstance(id, str) else None
 
 
-def _odd(kind: str, spans: Iterable[Span]) -> Iterator[Missing]:
+def odd_of(kind: str, spans: Iterable[Span]) -> Iterator[Missing]:
     """Pages that have another number of records than they tell, or that end behind their feed."""
     for span in spans:
         if span.count and span.end() > span.total:

@@ -1,0 +1,180 @@
+"""Runs the service: python3 -m cpe_service --data DIR.
+
+    python3 -m cpe_service --data DIR [--host ADDRESS] [--port N] [--workers N] [--host-name NAME ..] [--most-list BYTES]
+        [--most-feed BYTES] [--seconds N] [--wait N] [--rate N] [--days N] [--samples]
+    python3 -m cpe_service token NAME --data DIR [--read]
+    python3 -m cpe_service backup FILE --data DIR
+    python3 -m cpe_service take FOLDER --data DIR
+
+It listens on this machine alone, and on another address only if the data folder has a file of tokens. `token` adds one, and prints it
+once. `backup` copies the database while the service runs. `take` takes feeds from a folder. With `--samples` the service begins with
+the samples of the recipes. docs/SERVICE.md has all of it.
+"""
+from __future__ import annotations
+
+import argparse
+import contextlib
+import fcntl
+import ipaddress
+import resource
+import sqlite3
+import sys
+from collections.abc import Iterator
+from pathlib import Path
+
+from . import RECIPES  # noqa: F401 (it puts the recipes on the path)
+
+if sys.version_info < (3, 11):
+    sys.exit("the service needs Python 3.11 or newer")
+try:
+    import uvicorn
+    from uvicorn.protocols.http.h11_impl import H11Protocol
+except ImportError as fault:
+    sys.exit(f"{fault.name} is missing: apt-get install python3-uvicorn python3-starlette")
+
+from cpe_recipes.said import Fatal
+
+from . import database, taking, tokens
+from .app import Settings, made
+
+_MOST_CONNECTIONS = 4_096
+# How long a connection may stay open without a whole head of a request.
+_SECONDS_IDLE = 30
+
+
+class Patient(H11Protocol):
+    """A connection that is closed if no request arrives in time."""
+
+    def connection_made(self, transport) -> None:  # noqa: ANN001 (as the library has it)
+        super().connection_made(transport)
+        self.loop.call_later(_SECONDS_IDLE, self._look)
+
+    def _look(self) -> None:
+        if self.cycle is None and not self.transport.is_closing():
+            self.transport.close()
+
+
+class Server(uvicorn.Server):
+    """A server that has those who listen to events go when it is to end."""
+
+    def __init__(self, config: uvicorn.Config, stop) -> None:  # noqa: ANN001
+        super().__init__(config)
+        self._stop = stop
+
+    async def startup(self, sockets=None) -> None:  # noqa: ANN001
+        await super().startup(sockets)
+        for one in () if self.should_exit else sockets or ():
+            host, port = one.getsockname()[:2]
+            # (whoever started it may be gone, which is no reason to end)
+            with contextlib.suppress(OSError):
+                print(f"cpe_service listens on http://{f'[{host}]' if ':' in host else host}:{port}/", flush=True)
+
+    def handle_exit(self, sig, frame) -> None:  # noqa: ANN001
+        self._stop()
+        super().handle_exit(sig, frame)
+
+
+def _options() -> argparse.ArgumentParser:
+    parser = argparse.ArgumentParser("cpe_service", description="Which machines are affected by which advisories, since when, and why.")
+    parser.add_argument("word", nargs="*", help="token NAME, backup FILE or take FOLDER; without it the service runs")
+    parser.add_argument("--data", type=Path, required=True, metavar="DIR", help="the data folder")
+    parser.add_argument("--host", default="127.0.0.1", help="the address to listen on")
+    parser.add_argument("--port", type=int, default=8765)
+    parser.add_argument("--host-name", action="append", default=[], help="a name by which the server is called")
+    for name, what in (
+        ("workers", "processes that judge, each with its own part of the machines"),
+        ("most-list", "bytes that a list may have"),
+        ("most-feed", "bytes that a page of a feed may have"),
+        ("seconds", "how long a client may take to send a body"),
+        ("wait", "how long a list that was put waits for its verdicts before the answer"),
+        ("rate", "requests a second that a client may send"),
+        ("days", "how long changes are kept"),
+    ):
+        parser.add_argument(f"--{name}", type=int, default=getattr(Settings, name.replace("-", "_")), metavar="N", help=what)
+    parser.add_argument("--samples", action="store_true", help="begins with the samples of the recipes, if there is no machine yet")
+    parser.add_argument("--read", action="store_true", help="of token: it may read alone")
+    return parser
+
+
+def _is_local(host: str) -> bool:
+    with contextlib.suppress(ValueError):
+        return ipaddress.ip_address(host).is_loopback
+    return host == "localhost"
+
+
+def _settings(given: argparse.Namespace) -> Settings:
+    hosts = tuple(given.host_name) or (("127.0.0.1", "localhost", "[::1]") if _is_local(given.host) else ())
+    numbers = {name: getattr(given, name) for name in ("workers", "most_list", "most_feed", "seconds", "wait", "rate", "days")}
+    for name, number in numbers.items():
+        if number < 1:
+            sys.exit(f"--{name.replace('_', '-')} is {number}, and 1 is the least")
+    return Settings(given.data, hosts=hosts, has_samples=given.samples, **numbers)
+
+
+def _backup(folder: Path, target: Path) -> None:
+    """Copies the database as it is at this moment. Whoever restores it puts the copy in place of the database."""
+    if target.exists():
+        sys.exit(f"{target} is there already")
+    with contextlib.closing(database.connected(folder, is_reader=True)) as source, contextlib.closing(sqlite3.connect(target)) as copy:
+        source.backup(copy)
+
+
+@contextlib.contextmanager
+def _alone(folder: Path) -> Iterator[None]:
+    """Whoever runs the service over a data folder is alone there. The system opens the lock again however they end."""
+    with (folder / "lock").open("wb") as lock:
+        try:
+            fcntl.flock(lock, fcntl.LOCK_EX | fcntl.LOCK_NB)
+        except BlockingIOError:
+            sys.exit(f"cpe_service: another service runs over the data folder {folder}")
+        yield
+
+
+def _run(given: argparse.Namespace) -> None:
+    settings = _settings(given)
+    app, service = made(settings)
+    if not _is_local(given.host) and not service.tokens.are_any():
+        sys.exit(f"{given.host} is no address of this machine alone, and {given.data / tokens.NAME} has no tokens: add one by token NAME")
+    most = resource.getrlimit(resource.RLIMIT_NOFILE)[1]
+    # (where that isn't allowed, the limit stays as it was given)
+    with contextlib.suppress(OSError, ValueError):
+        resource.setrlimit(resource.RLIMIT_NOFILE, (most if most != resource.RLIM_INFINITY else 65_536, most))
+    config = uvicorn.Config(
+        app, given.host, given.port, loop="asyncio", http=Patient, ws="none", lifespan="on", limit_concurrency=_MOST_CONNECTIONS, log_level="warning",
+        access_log=False, server_header=False, proxy_headers=False, timeout_keep_alive=_SECONDS_IDLE,
+    )
+    Server(config, service.stop).run([config.bind_socket()])
+
+
+def main() -> None:
+    """Runs what the words ask for."""
+    given = _options().parse_args()
+    # (the processes of the service run in a folder of their own)
+    given.data = given.data.resolve()
+    try:
+        given.data.mkdir(parents=True, exist_ok=True, mode=0o700)
+        database.made(given.data)
+        match given.word:
+            case []:
+                with _alone(given.data):
+                    _run(given)
+            case ["token", name]:
+                print(tokens.add(given.data, name, not given.read))
+            case ["backup", file]:
+                _backup(given.data, Path(file))
+            case ["take", folder]:
+                found = []
+                for is_taken, line in taking.take(given.data, Path(folder)):
+                    print(line, flush=True)
+                    found.append(is_taken)
+                sys.exit(not all(found))
+            case _:
+                sys.exit(_options().format_usage())
+    except (Fatal, tokens.NoTokens, database.OtherVersion) as fault:
+        sys.exit(f"cpe_service: {fault}")
+    except (OSError, sqlite3.Error) as fault:
+        sys.exit(f"cpe_service: the data folder {given.data} can not be used: {fault}")
+
+
+if __name__ == "__main__":
+    main()

@@ -1,0 +1,471 @@
+"""The server: it lets clients in, reads what they ask, and answers from the database and by its processes. It decides nothing itself."""
+from __future__ import annotations
+
+import asyncio
+import contextlib
+import http
+import json
+import os
+import time
+from collections import Counter
+from collections.abc import AsyncIterator, Callable, Mapping, Sequence
+from dataclasses import dataclass, field
+from datetime import datetime, timezone
+from pathlib import Path
+from typing import Any
+
+from cpe_recipes.feeds import Json
+from cpe_recipes.program import Program
+from cpe_recipes.said import Fatal
+from starlette.applications import Starlette
+from starlette.concurrency import run_in_threadpool
+from starlette.exceptions import HTTPException
+from starlette.requests import Request
+from starlette.responses import JSONResponse, RedirectResponse, Response, StreamingResponse
+from starlette.routing import Route as Address
+
+from . import entries, naming, pages, queries, samples
+from .asking import Problem, Rates, Room, body_of, read_path, read_query
+from .database import connected, writing
+from .processes import Gone, Keeper, Worker
+from .queries import time_text
+from .routes import ROUTES, Route, openapi
+from .tokens import ANYONE, Client, NoTokens, Tokens
+
+VERSION = "0.1.0"
+_DAY = 24 * 3600
+_EVENTS = 200
+# How many clients may listen to /events, and after how many seconds they hear that the server is still there.
+_MOST_LISTENERS, _PAUSE = 200, 15
+_BOUNDS = (0.01, 0.05, 0.1, 0.5, 1, 2, 5, 10)
+_SECURITY = {
+    "X-Content-Type-Options": "nosniff",
+    "Referrer-Policy": "no-referrer",
+    "Cache-Control": "no-store",
+    "Content-Security-Policy": pages.POLICY,
+}
+
+
+@dataclass(frozen=True)
+class Settings:
+    """How the service runs: its data folder, how many workers judge, its limits, and how long it keeps what changed."""
+
+    folder: Path
+    workers: int = 2
+    most_list: int = 32 << 20
+    most_feed: int = 128 << 20
+    seconds: float = 60
+    wait: float = 20
+    rate: float = 100
+    days: int = 365
+    hosts: tuple[str, ...] = ()
+    has_samples: bool = False
+
+
+@dataclass
+class Numbers:
+    """What the server counts of itself, for /metrics."""
+
+    requests: Counter[tuple[str, int]] = field(default_factory=Counter)
+    below: Counter[tuple[str, float]] = field(default_factory=Counter)
+    seconds: Counter[str] = field(default_factory=Counter)
+
+    def add(self, name: str, status: int, seconds: float) -> None:
+        """Adds a request."""
+        self.requests[name, status] += 1
+        self.seconds[name] += seconds
+        for bound in _BOUNDS:
+            self.below[name, bound] += seconds <= bound
+
+    def lines(self) -> list[str]:
+        """The lines of these numbers."""
+        found = ["# HELP cpe_requests_total Requests, by what answered them and the status.", "# TYPE cpe_requests_total counter"]
+        found += [f'cpe_requests_total{{route="{name}",status="{status}"}} {count}' for (name, status), count in sorted(self.requests.items())]
+        found += ["# HELP cpe_request_seconds How long requests took.", "# TYPE cpe_request_seconds histogram"]
+        for name in sorted(self.seconds):
+            count = sum(number for (other, _), number in self.requests.items() if other == name)
+            found += [f'cpe_request_seconds_bucket{{route="{name}",le="{bound:g}"}} {self.below[name, bound]}' for bound in _BOUNDS]
+            found.append(f'cpe_request_seconds_bucket{{route="{name}",le="+Inf"}} {count}')
+            found += [f'cpe_request_seconds_sum{{route="{name}"}} {self.seconds[name]:.6f}', f'cpe_request_seconds_count{{route="{name}"}} {count}']
+        return found
+
+
+class Service:
+    """The service behind the addresses."""
+
+    def __init__(self, settings: Settings) -> None:
+        self.settings, self.tokens, self.numbers = settings, Tokens(settings.folder), Numbers()
+        self._program = Program()
+        self._lists, self._feeds = Keeper(settings.folder), Keeper(settings.folder)
+        self._workers = [Worker(settings.folder, shard, settings.workers, self._notify) for shard in range(settings.workers)]
+        self._rates = Rates(settings.rate, 2 * settings.rate)
+        self._changed = asyncio.Event()
+        self._room = Room(4 * settings.most_feed)
+        self._listeners = 0
+        self._is_ending = False
+        self._readers: list[Any] = []
+        self._pruning: asyncio.Task[None] | None = None
+
+    async def start(self) -> None:
+        """Starts the workers."""
+        for worker in self._workers:
+            worker.start()
+        self._pruning = asyncio.get_running_loop().create_task(self._prune())
+        if self.settings.has_samples and not (await self.ask(queries.machines, "", "", 1, 0))[1]:
+            await self._give_samples()
+
+    async def _give_samples(self) -> None:
+        """Keeps the samples of the recipes, as a client would send them."""
+        for path in samples.feeds():
+            await self._answer(self._feeds, {"do": "feed", "name": "", "is_whole": False, "client": "samples"}, path.read_bytes())
+        for path in samples.lists():
+            await self._answer(self._lists, {"do": "put", "name": path.name.split(".")[0], "client": "samples"}, path.read_bytes())
+
+    async def end(self) -> None:
+        """Ends all processes."""
+        self.stop()
+        if self._pruning is not None:
+            self._pruning.cancel()
+        for process in (*self._workers, self._lists, self._feeds):
+            await process.end()
+
+    def stop(self) -> None:
+        """Has those who listen to events go."""
+        self._is_ending = True
+        self._notify()
+
+    def _notify(self) -> None:
+        self._changed.set()
+        self._changed = asyncio.Event()
+
+    def _wake(self) -> None:
+        for worker in self._workers:
+            worker.wake()
+
+    async def _prune(self) -> None:
+        """Once a day removes the changes that are older than they are kept."""
+        while True:
+            with contextlib.suppress(Exception):
+                await run_in_threadpool(self._pruned)
+            await asyncio.sleep(_DAY)
+
+    def _pruned(self) -> None:
+        with contextlib.closing(connected(self.settings.folder)) as database, writing(database):
+            database.execute("DELETE FROM history WHERE at < ?", (time.time() - self.settings.days * _DAY,))
+
+    async def ask(self, question: Callable, *values: Json) -> Any:
+        """The answer of the database to a question."""
+        return await run_in_threadpool(self._asked, question, values)
+
+    def _asked(self, question: Callable, values: Sequence[Json]) -> Any:
+        # (a connection is one thread's at a time)
+        database = self._readers.pop() if self._readers else connected(self.settings.folder, is_reader=True)
+        try:
+            found = question(database, *values)
+            return list(found) if hasattr(found, "__next__") else found
+        finally:
+            self._readers.append(database)
+
+    # Who may ask.
+
+    def let_in(self, request: Request, is_writing: bool) -> Client:
+        """Who asks. Problem if they may not."""
+        self._check_origin(request)
+        peer = request.client.host if request.client else ""
+        try:
+            self.tokens.read()
+        except NoTokens as fault:
+            raise Problem(503, str(fault)) from fault
+        client = self.tokens.client(request.headers.get("authorization", "")) if self.tokens.are_any() else ANYONE
+        self._rates.take(client.name if client and client is not ANYONE else f"at {peer}", time.monotonic())
+        if client is None:
+            raise Problem(401, "a token is needed: Authorization: Bearer TOKEN", {"WWW-Authenticate": 'Basic realm="cpe", charset="UTF-8"'})
+        if is_writing and not client.may_write:
+            raise Problem(403, f"the token of {client.name} may read alone")
+        return client
+
+    def _check_origin(self, request: Request) -> None:
+        """Whether the request is meant for this server, and not sent by a page of another one."""
+        host = request.headers.get("host", "").lower()
+        name = host if host.endswith("]") or ":" not in host else host.rpartition(":")[0]
+        if self.settings.hosts and name not in self.settings.hosts:
+            raise Problem(421, "this server isn't called so; --host-name gives its names")
+        origin = request.headers.get("origin")
+        if request.method not in ("GET", "HEAD") and origin not in (None, f"http://{host}", f"https://{host}"):
+            raise Problem(403, "the request was sent by a page of another server")
+
+    # What changes something.
+
+    async def _keep(self, keeper: Keeper, request: Request, most: int, message: Mapping[str, Json]) -> dict[str, Json]:
+        async with body_of(request, most, self.settings.seconds, self._room) as body:
+            if not body:
+                raise Problem(422, "the body is empty")
+            return await self._answer(keeper, message, body)
+
+    async def _answer(self, keeper: Keeper, message: Mapping[str, Json], body: bytes = b"") -> dict[str, Json]:
+        # (a client that leaves doesn't stop what was begun)
+        found = await asyncio.shield(asyncio.ensure_future(keeper.ask(dict(message), body)))
+        if "refused" in found:
+            raise Problem(422, found["refused"])
+        if "fault" in found:
+            raise Problem(507, found["fault"])
+        self._wake()
+        return found
+
+    async def put_machine(self, request: Request, client: Client, machine: str) -> Response:
+        """Keeps a list, and waits for its verdicts for some time."""
+        found = await self._keep(self._lists, request, self.settings.most_list, {"do": "put", "name": machine, "client": client.name})
+        await self._wait(machine, found["edit"])
+        value = await self.ask(queries.machine, machine, "", "", 0, 0)
+        if value is None:
+            raise Problem(409, f"{machine} was removed meanwhile")
+        value = {key: value[key] for key in ("name", "state", "counts", "edit", "judged", "fault", "leftOut", "remarks") if key in value}
+        status = 202 if value["state"] == queries.WAITING else 201 if found["is_new"] else 200
+        return JSONResponse(value, status)
+
+    async def _wait(self, machine: str, edit: int) -> None:
+        """Waits for the verdicts of a list. They may be there before anyone waits, or not come for long."""
+        loop = asyncio.get_running_loop()
+        end = loop.time() + self.settings.wait
+        while (left := end - loop.time()) > 0:
+            changed = self._changed
+            if await self.ask(queries.is_settled, machine, edit):
+                return
+            with contextlib.suppress(asyncio.TimeoutError):
+                await asyncio.wait_for(changed.wait(), left)
+
+    async def delete_machine(self, _request: Request, client: Client, machine: str) -> Response:
+        found = await self._answer(self._lists, {"do": "delete", "name": machine, "client": client.name})
+        if "missing" in found:
+            raise Problem(404, f"there is no machine {machine}")
+        self._notify()
+        return JSONResponse({"name": machine, "state": "removed", "edit": found["edit"]})
+
+    async def feeds(self, request: Request, client: Client, feed: str, whole: str) -> Response:
+        message = {"do": "feed", "name": feed, "is_whole": whole == "true", "client": client.name}
+        found = await self._keep(self._feeds, request, self.settings.most_feed, message)
+        return JSONResponse(found, 202)
+
+    async def table(self, _request: Request, _client: Client, table: str) -> Response:
+        text = await self.ask(_table, table)
+        if text is None:
+            raise Problem(404, f"no table {table} was given")
+        return Response(text, media_type="text/plain")
+
+    async def put_table(self, request: Request, client: Client, table: str) -> Response:
+        async with body_of(request, self.settings.most_list, self.settings.seconds, self._room) as body:
+            return JSONResponse(await self._answer(self._lists, {"do": "table", "name": table, "client": client.name}, body))
+
+    # What is asked for.
+
+    async def machines(self, request: Request, _client: Client, q: str, kind: str, limit: str, offset: str) -> Json:
+        found, total = await self.ask(queries.machines, q, kind, int(limit), int(offset))
+        return await self._told(request, {"machines": found, "total": total}, int(limit), int(offset))
+
+    async def machine(self, request: Request, _client: Client, machine: str, q: str, kind: str, limit: str, offset: str) -> Json:
+        value = await self.ask(queries.machine, machine, q, kind, int(limit), int(offset))
+        if value is None:
+            raise Problem(404, f"there is no machine {machine}")
+        return _paged(request, value, int(limit), int(offset))
+
+    async def advisories(self, request: Request, _client: Client, q: str, kind: str, limit: str, offset: str) -> Json:
+        found, total = await self.ask(queries.advisories, q, kind, int(limit), int(offset))
+        return await self._told(request, {"advisories": found, "total": total}, int(limit), int(offset))
+
+    async def advisory(self, request: Request, _client: Client, advisory: str, kind: str, limit: str, offset: str) -> Json:
+        value = await self.ask(queries.advisory, advisory, kind, int(limit), int(offset))
+        if value is None:
+            raise Problem(404, f"the feeds have no advisory {advisory}")
+        return await self._told(request, value, int(limit), int(offset))
+
+    async def _told(self, request: Request, value: dict[str, Json], limit: int, offset: int) -> dict[str, Json]:
+        """The value, with how many machines wait for their verdicts."""
+        return _paged(request, value | {"waiting": await self.ask(queries.waiting_machines)}, limit, offset)
+
+    async def changes(
+        self, request: Request, _client: Client, since: str, until: str, after: str, machine: str, advisory: str, limit: str
+    ) -> Json:
+        values = _time(since, "since"), _time(until, "until"), int(after), machine, advisory, int(limit)
+        found = await self.ask(queries.changes, *values)
+        value: dict[str, Json] = {"changes": found}
+        if len(found) == int(limit):
+            value["next"] = str(request.url.include_query_params(after=found[-1]["id"]).replace(scheme="", netloc=""))
+        return value
+
+    async def names(self, request: Request, _client: Client, q: str, limit: str, offset: str) -> Json:
+        found, total = await run_in_threadpool(entries.search, self.settings.folder, q, int(limit), int(offset))
+        return _paged(request, {"names": found, "total": total}, int(limit), int(offset))
+
+    async def name(self, _request: Request, _client: Client, cpe: str, **more: str) -> Json:
+        return await run_in_threadpool(naming.about, self._program, self.settings.folder, cpe, more["with"])
+
+    async def certificate(self, _request: Request, _client: Client, machine: str, advisory: str) -> Json:
+        shard = await self.ask(_shard, machine)
+        if shard is None:
+            raise Problem(404, f"there is no machine {machine}")
+        message = {"do": "certificate", "machine": machine, "id": advisory}
+        try:
+            found = await self._workers[shard % len(self._workers)].ask(message, self.settings.seconds)
+        except asyncio.TimeoutError as fault:
+            raise Problem(503, "the workers are busy; ask again", {"Retry-After": "30"}) from fault
+        for word, status in (("missing", 404), ("fault", 503)):
+            if word in found:
+                raise Problem(status, found[word])
+        del found["answer"]
+        return {"machine": machine, "advisory": advisory, "made": time_text(time.time()), **found}
+
+    async def health(self, _request: Request, _client: Client) -> Response:
+        value = await self.ask(queries.health)
+        value["workers"] = len(self._workers)
+        value["restarts"] = sum(max(one.restarts, 0) for one in (*self._workers, self._lists, self._feeds))
+        return JSONResponse({"version": VERSION, **value})
+
+    async def metrics(self, _request: Request, _client: Client) -> Response:
+        lines, seen = [], set()
+        queues = (("lists", self._lists), ("feeds", self._feeds))
+        own = [("cpe_queue", "Requests that wait to be kept.", {"queue": name}, one.waiting) for name, one in queues]
+        own += [("cpe_process_restarts", "Processes that were started again.", {}, sum(max(one.restarts, 0) for one in self._workers))]
+        own += [("cpe_listeners", "Clients that listen to events.", {}, self._listeners)]
+        for name, what, labels, value in [*await self.ask(queries.metrics), *own]:
+            if name not in seen:
+                seen.add(name)
+                lines += [f"# HELP {name} {what}", f"# TYPE {name} gauge"]
+            marks = ",".join(f'{key}="{text}"' for key, text in labels.items())
+            lines.append(f"{name}{{{marks}}} {value}" if marks else f"{name} {value}")
+        return Response("\n".join([*lines, *self.numbers.lines()]) + "\n", media_type="text/plain; version=0.0.4")
+
+    async def openapi(self, _request: Request, _client: Client) -> Response:
+        return JSONResponse(openapi(VERSION))
+
+    async def events(self, request: Request, _client: Client, after: str) -> Response:
+        if self._listeners >= _MOST_LISTENERS:
+            raise Problem(503, f"{_MOST_LISTENERS} clients listen already", {"Retry-After": "60"})
+        last = request.headers.get("last-event-id", "")
+        begin = int(last) if last.isascii() and last.isdecimal() and len(last) < 19 else int(after)
+        begin = begin or await self.ask(queries.last_change)
+        return StreamingResponse(self._events(begin), media_type="text/event-stream")
+
+    async def _events(self, last: int) -> AsyncIterator[str]:
+        self._listeners += 1
+        try:
+            yield f"retry: 3000\n: listening behind {last}\n\n"
+            while not self._is_ending:
+                changed = self._changed
+                found = await self.ask(queries.changes, 0, 0, last, "", "", _EVENTS)
+                for one in found:
+                    last = one["id"]
+                    yield f"id: {last}\nevent: change\ndata: {json.dumps(one)}\n\n"
+                if len(found) < _EVENTS:
+                    try:
+                        await asyncio.wait_for(changed.wait(), _PAUSE)
+                    except asyncio.TimeoutError:
+                        yield ": still here\n\n"
+        finally:
+            self._listeners -= 1
+
+
+def _shard(database: Any, name: str) -> int | None:
+    row = database.execute("SELECT shard FROM machines WHERE name = ?", (name,)).fetchone()
+    return None if row is None else row[0]
+
+
+def _table(database: Any, name: str) -> str | None:
+    row = database.execute("SELECT text FROM tables WHERE name = ?", (name,)).fetchone()
+    return None if row is None else row[0]
+
+
+def _paged(request: Request, value: dict[str, Json], limit: int, offset: int) -> dict[str, Json]:
+    """The value, with the address of the next ones."""
+    if offset + limit < value["total"]:
+        value["next"] = str(request.url.include_query_params(offset=offset + limit).replace(scheme="", netloc=""))
+    return value
+
+
+def _time(text: str, name: str) -> float:
+    """The seconds of a time, 0 if there is none."""
+    try:
+        if not text:
+            return 0
+        if text.replace(".", "", 1).isdecimal():
+            return float(text)
+        found = datetime.fromisoformat(text)
+        return (found.replace(tzinfo=timezone.utc) if found.tzinfo is None else found).timestamp()
+    except (ValueError, OverflowError) as fault:
+        raise Problem(400, f"{name} is no time") from fault
+
+
+def _problem(fault: Problem, request: Request) -> Response:
+    title = http.HTTPStatus(fault.status).phrase
+    value = {"type": "about:blank", "title": title, "status": fault.status, "detail": fault.detail}
+    if pages.is_wanted(request):
+        return Response(pages.problem(value), fault.status, fault.headers, "text/html")
+    return JSONResponse(value, fault.status, fault.headers, "application/problem+json")
+
+
+def _endpoint(service: Service, route: Route) -> Callable:
+    async def endpoint(request: Request) -> Response:
+        begin = time.monotonic()
+        response: Response | None = None
+        try:
+            response = await _answered(service, route, request)
+        except Problem as fault:
+            response = _problem(fault, request)
+        except Gone:
+            response = _problem(Problem(503, "a process of the service ended meanwhile; ask again", {"Retry-After": "5"}), request)
+        except Fatal as fault:
+            response = _problem(Problem(503, str(fault)), request)
+        except OSError as fault:
+            response = _problem(Problem(503, f"the system refuses it: {os.strerror(fault.errno or 0)}"), request)
+        except Exception as fault:  # noqa: BLE001 (whatever it is, the client gets an answer, and the log has it)
+            print(f"{route.name}: {type(fault).__name__}: {fault}", flush=True)
+            response = _problem(Problem(500, "the service has a fault, which its log has"), request)
+        finally:
+            if response is not None:
+                service.numbers.add(route.name, response.status_code, time.monotonic() - begin)
+        for name, value in _SECURITY.items():
+            response.headers.setdefault(name, value)
+        return response
+
+    return endpoint
+
+
+async def _answered(service: Service, route: Route, request: Request) -> Response:
+    client = service.let_in(request, route.is_writing)
+    values = {**read_path(request, route.parameters), **read_query(request, route.parameters)}
+    found = await getattr(service, route.name)(request, client, **values)
+    if isinstance(found, Response):
+        return found
+    if pages.is_wanted(request):
+        return Response(pages.page(route.name, found, values), media_type="text/html", headers={"Vary": "Accept"})
+    return JSONResponse(found, headers={"Vary": "Accept"})
+
+
+async def _http_fault(request: Request, fault: HTTPException) -> Response:
+    known = {404: "there is no such address; /openapi.json lists them", 405: f"{request.method} isn't taken here"}
+    return _problem(Problem(fault.status_code, known.get(fault.status_code, str(fault.detail)), getattr(fault, "headers", None)), request)
+
+
+async def _front(_request: Request) -> Response:
+    return RedirectResponse("/machines")
+
+
+def made(settings: Settings) -> tuple[Starlette, Service]:
+    """The application, and the service behind it."""
+    service = Service(settings)
+    addresses = [Address("/", _front), *(Address(f"/assets/{name}", _asset_of(name)) for name in pages.ASSETS)]
+    for route in ROUTES:
+        # (an id is what feeds have, a slash too)
+        path = route.path.replace("{advisory}", "{advisory:path}")
+        addresses.append(Address(path, _endpoint(service, route), methods=[route.method]))
+    handlers = {HTTPException: _http_fault}
+    app = Starlette(routes=addresses, exception_handlers=handlers, on_startup=[service.start], on_shutdown=[service.end])
+    app.router.redirect_slashes = False
+    return app, service
+
+
+def _asset_of(name: str) -> Callable:
+    async def asset(_request: Request) -> Response:
+        body, kind = pages.ASSETS[name]
+        return Response(body, media_type=kind, headers={"Cache-Control": "max-age=3600", "X-Content-Type-Options": "nosniff"})
+
+    return asset

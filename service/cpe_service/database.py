@@ -1,0 +1,148 @@
+"""The database: what was accepted, what was judged of it, and which verdicts changed when.
+
+Each thing that was accepted is an edit: a list that was put or deleted, a feed, or a table of settings. Edits have numbers that grow.
+The ground is all that isn't a list. A machine has the edit of its list (`put`), and the two edits of which its verdicts are: that of its
+list (`judged_put`) and that of the ground (`judged_ground`). It waits while one of these is older than the edit that counts now. So the
+work that is left is always in the database, and a process that is started again continues with it.
+"""
+from __future__ import annotations
+
+import contextlib
+import sqlite3
+import time
+import zlib
+from collections.abc import Iterator
+from pathlib import Path
+
+NAME = "service.db"
+VERSION = 1
+# How long a writer waits for another one.
+_SECONDS = 60
+
+# The edits that change what each machine is judged by.
+GROUND = ("feed", "names", "letters", "suppression", "settled")
+
+_SCHEMA = """
+CREATE TABLE edits (
+    id INTEGER PRIMARY KEY AUTOINCREMENT, at REAL NOT NULL, kind TEXT NOT NULL, what TEXT NOT NULL, client TEXT NOT NULL);
+CREATE INDEX edits_of_ground ON edits (id) WHERE kind IN ('feed', 'names', 'letters', 'suppression', 'settled');
+CREATE TABLE machines (
+    id INTEGER PRIMARY KEY AUTOINCREMENT, name TEXT NOT NULL UNIQUE, shard INTEGER NOT NULL, put INTEGER NOT NULL,
+    judged_put INTEGER NOT NULL DEFAULT 0, judged_ground INTEGER NOT NULL DEFAULT 0, judged_at REAL, counts TEXT NOT NULL DEFAULT '{}',
+    fault TEXT NOT NULL DEFAULT '', said TEXT NOT NULL, list BLOB NOT NULL, result BLOB);
+CREATE INDEX machines_by_ground ON machines (judged_ground);
+CREATE INDEX machines_with_new_list ON machines (put) WHERE put <> judged_put;
+CREATE TABLE advisories (id TEXT PRIMARY KEY, asked INTEGER, state TEXT NOT NULL, details TEXT NOT NULL) WITHOUT ROWID;
+CREATE TABLE verdicts (
+    machine INTEGER NOT NULL, advisory TEXT NOT NULL, kind TEXT NOT NULL, since REAL NOT NULL, PRIMARY KEY (machine, advisory))
+    WITHOUT ROWID;
+CREATE INDEX verdicts_by_advisory ON verdicts (advisory, kind);
+CREATE TABLE history (
+    id INTEGER PRIMARY KEY AUTOINCREMENT, at REAL NOT NULL, machine TEXT NOT NULL, advisory TEXT NOT NULL, before TEXT NOT NULL,
+    after TEXT NOT NULL, cause TEXT NOT NULL, edit INTEGER NOT NULL, reason TEXT NOT NULL);
+CREATE INDEX history_by_time ON history (at);
+CREATE INDEX history_by_machine ON history (machine, id);
+CREATE INDEX history_by_advisory ON history (advisory, id);
+CREATE TABLE feeds (
+    id INTEGER PRIMARY KEY AUTOINCREMENT, kind TEXT NOT NULL, name TEXT NOT NULL, is_whole INTEGER NOT NULL, at REAL NOT NULL,
+    edit INTEGER, state TEXT NOT NULL);
+CREATE TABLE pages (feed INTEGER NOT NULL, sum TEXT NOT NULL, name TEXT NOT NULL, span TEXT NOT NULL, PRIMARY KEY (feed, sum));
+CREATE TABLE records (
+    id INTEGER PRIMARY KEY AUTOINCREMENT, feed INTEGER NOT NULL, kind TEXT NOT NULL, key TEXT NOT NULL, modified TEXT NOT NULL,
+    number INTEGER NOT NULL, body BLOB NOT NULL);
+CREATE INDEX records_by_key ON records (kind, key);
+CREATE INDEX records_by_feed ON records (feed);
+CREATE TABLE tables (name TEXT PRIMARY KEY, text TEXT NOT NULL);
+CREATE TABLE notes (name TEXT PRIMARY KEY, text TEXT NOT NULL);
+"""
+
+
+class OtherVersion(Exception):
+    """The data folder is of another version of the service."""
+
+
+def connected(folder: Path, is_reader: bool = False) -> sqlite3.Connection:
+    """A connection to the database of a data folder. What a writer committed is on the disk."""
+    mode = "ro" if is_reader else "rwc"
+    found = sqlite3.connect(
+        f"{(folder / NAME).resolve().as_uri()}?mode={mode}", _SECONDS, uri=True, isolation_level=None, check_same_thread=False
+    )
+    found.row_factory = sqlite3.Row
+    if not is_reader:
+        found.execute("PRAGMA journal_mode = WAL")
+        found.execute("PRAGMA synchronous = FULL")
+        found.execute("PRAGMA foreign_keys = ON")
+    return found
+
+
+def made(folder: Path) -> None:
+    """Makes the database of a data folder, if there is none."""
+    with contextlib.closing(connected(folder)) as database, writing(database):
+        version = database.execute("PRAGMA user_version").fetchone()[0]
+        if version == 0:
+            for statement in _SCHEMA.split(";\n"):
+                if statement.strip():
+                    database.execute(statement)
+            database.execute(f"PRAGMA user_version = {VERSION}")
+        elif version != VERSION:
+            raise OtherVersion(f"the database has version {version}, and this service reads {VERSION}")
+
+
+@contextlib.contextmanager
+def writing(database: sqlite3.Connection) -> Iterator[sqlite3.Connection]:
+    """A transaction that writes: all of it, or nothing if an exception ends it."""
+    database.execute("BEGIN IMMEDIATE")
+    try:
+        yield database
+    except BaseException:
+        # (a full disk may have ended the transaction already)
+        with contextlib.suppress(sqlite3.Error):
+            database.execute("ROLLBACK")
+        raise
+    database.execute("COMMIT")
+
+
+@contextlib.contextmanager
+def reading(database: sqlite3.Connection) -> Iterator[sqlite3.Connection]:
+    """A transaction in which all that is read is of one moment."""
+    database.execute("BEGIN")
+    try:
+        yield database
+    finally:
+        with contextlib.suppress(sqlite3.Error):
+            database.execute("COMMIT")
+
+
+def new_edit(database: sqlite3.Connection, kind: str, what: str, client: str) -> int:
+    """The number of a new edit."""
+    row = "INSERT INTO edits (at, kind, what, client) VALUES (?, ?, ?, ?)"
+    number = database.execute(row, (time.time(), kind, what, client)).lastrowid
+    assert number is not None
+    return number
+
+
+def ground_of(database: sqlite3.Connection) -> int:
+    """The number of the last edit of the ground, 0 if there is none."""
+    marks = ", ".join(f"'{kind}'" for kind in GROUND)
+    return database.execute(f"SELECT coalesce(max(id), 0) FROM edits WHERE kind IN ({marks})").fetchone()[0]
+
+
+def note(database: sqlite3.Connection, name: str, text: str) -> None:
+    """Keeps a text under a name."""
+    database.execute("INSERT INTO notes VALUES (?, ?) ON CONFLICT (name) DO UPDATE SET text = excluded.text", (name, text))
+
+
+def noted(database: sqlite3.Connection, name: str, otherwise: str = "") -> str:
+    """The text under a name."""
+    row = database.execute("SELECT text FROM notes WHERE name = ?", (name,)).fetchone()
+    return otherwise if row is None else row[0]
+
+
+def packed(data: bytes) -> bytes:
+    """Bytes as the database keeps them."""
+    return zlib.compress(data, 3)
+
+
+def unpacked(data: bytes) -> bytes:
+    """Bytes that the database keeps."""
+    return zlib.decompress(data)

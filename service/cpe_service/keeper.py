@@ -1,0 +1,141 @@
+"""The process that reads what clients send, and keeps it: python3 -m cpe_service.keeper DATA.
+
+It answers each message with one. What it can't read is `refused` with the reason, and nothing is kept of it. What the disk doesn't
+take is a `fault`. An answer without either was written to the disk before.
+"""
+from __future__ import annotations
+
+import json
+import signal
+import sqlite3
+import sys
+import tempfile
+import traceback
+import zlib
+from pathlib import Path
+
+from cpe_recipes.feeds import FeedFault
+from cpe_recipes.machines import machine_of_list
+from cpe_recipes.names_table import read_tables
+from cpe_recipes.said import Fatal
+from cpe_recipes.settled import read_settled
+from cpe_recipes.suppressed import read_suppressed
+from cpe_recipes.unpack import Limits, read_feed
+from cpe_recipes.versions import read_letters
+
+from . import frames
+from .database import connected, new_edit, packed, writing
+from .feeds import Feeds, Offer
+from .frames import Message
+from .ground import TABLES, table_files
+from .quiet import Quiet
+
+# To how many bytes a list may unpack.
+_LIMITS = Limits(most=256 << 20)
+# In how many parts the machines may be shared out among workers, at most.
+SHARDS = 256
+
+
+class Keeper:
+    """Keeps what it is sent."""
+
+    def __init__(self, folder: Path) -> None:
+        self._database = connected(folder)
+        self._does = {"put": self._put, "delete": self._delete, "feed": self._feed, "table": self._table}
+
+    def answer(self, message: Message, body: bytes) -> Message:
+        """The answer to a message."""
+        try:
+            return self._does[message["do"]](message, body)
+        except (FeedFault, Fatal) as fault:
+            return {"refused": str(fault)}
+        except RecursionError:
+            return {"refused": "it is nested too deep"}
+        except (sqlite3.Error, OSError) as fault:
+            return {"fault": f"it could not be kept: {fault}"}
+        except Exception as fault:  # noqa: BLE001 (what a reader didn't foresee is refused too, and the log has it)
+            traceback.print_exc()
+            return {"refused": f"it can not be read, since the reader has a fault: {type(fault).__name__} {fault}"}
+
+    def _put(self, message: Message, body: bytes) -> Message:
+        """Keeps the list of a machine, whose verdicts wait then."""
+        name, said = message["name"], Quiet()
+        data = _unpacked(body)
+        machine = machine_of_list(name, name, data, said)
+        with writing(self._database) as database:
+            edit = new_edit(database, "list", name, message["client"])
+            row = database.execute(
+                "INSERT INTO machines (name, list, said, shard, put) VALUES (?, ?, ?, ?, ?) ON CONFLICT (name) DO UPDATE "
+                "SET list = excluded.list, said = excluded.said, put = excluded.put RETURNING id, put, judged_put",
+                (name, packed(data), json.dumps(said.as_json()), zlib.crc32(name.encode()) % SHARDS, edit),
+            ).fetchone()
+        return {"edit": edit, "is_new": row["judged_put"] == 0, "components": len(machine.components), **said.as_json()}
+
+    def _delete(self, message: Message, _body: bytes) -> Message:
+        """Removes a machine. Its verdicts are none, which is a part of their history."""
+        name = message["name"]
+        with writing(self._database) as database:
+            row = database.execute("SELECT id FROM machines WHERE name = ?", (name,)).fetchone()
+            if row is None:
+                return {"missing": True}
+            edit = new_edit(database, "delete", name, message["client"])
+            database.execute(
+                "INSERT INTO history (at, machine, advisory, before, after, cause, edit, reason) SELECT edits.at, ?, advisory, verdicts.kind, 'none', "
+                "'delete', edits.id, 'it is no machine any more' FROM verdicts, edits WHERE machine = ? AND edits.id = ? ORDER BY advisory",
+                (name, row["id"], edit),
+            )
+            database.execute("DELETE FROM verdicts WHERE machine = ?", (row["id"],))
+            database.execute("DELETE FROM machines WHERE id = ?", (row["id"],))
+        return {"edit": edit}
+
+    def _feed(self, message: Message, body: bytes) -> Message:
+        return Feeds(self._database).take(body, Offer(message["name"], message["is_whole"], message["client"]))
+
+    def _table(self, message: Message, body: bytes) -> Message:
+        """Keeps a table of settings, if each line of it can be read."""
+        name = message["name"]
+        try:
+            text = body.decode("utf-8-sig")
+        except UnicodeDecodeError as fault:
+            raise Fatal(f"it is no UTF-8 at byte {fault.start + 1}") from fault
+        said = Quiet()
+        with table_files({name: text}) as paths:
+            _READ[name](paths[name], said)
+        if said.noted:
+            raise Fatal(f"{said.noted[0][0]}: {said.noted[0][1]}")
+        with writing(self._database) as database:
+            if database.execute("SELECT 1 FROM tables WHERE name = ? AND text = ?", (name, text)).fetchone():
+                return {"edit": None}
+            edit = new_edit(database, TABLES[name], name, message["client"])
+            database.execute("INSERT INTO tables VALUES (?, ?) ON CONFLICT (name) DO UPDATE SET text = excluded.text", (name, text))
+        return {"edit": edit}
+
+
+# How each table is read by the recipes, which says what can't be read.
+_READ = {
+    "names": lambda path, _: read_tables([path], are_needed=False),
+    "letters": lambda path, _: read_letters(path),
+    "suppress": lambda path, said: read_suppressed([path], said),
+    "settled": lambda path, said: read_settled([path], said),
+}
+
+
+def _unpacked(body: bytes) -> bytes:
+    """The bytes of a list, which gzip may have packed. (The recipes read files, and this one has a name of its own.)"""
+    with tempfile.TemporaryDirectory(prefix="cpe-service-") as folder:
+        path = Path(folder, "list")
+        path.write_bytes(body)
+        return read_feed(str(path), _LIMITS)
+
+
+def main() -> None:
+    """Answers messages until there is none."""
+    # (who interrupts the server ends it, and it ends its processes)
+    signal.signal(signal.SIGINT, signal.SIG_IGN)
+    keeper = Keeper(Path(sys.argv[1]))
+    while (found := frames.read(sys.stdin.buffer)) is not None:
+        frames.write(sys.stdout.buffer, keeper.answer(*found))
+
+
+if __name__ == "__main__":
+    main()

@@ -1,0 +1,220 @@
+"""What the database answers: each function is one question, over what was committed at one moment."""
+from __future__ import annotations
+
+import json
+import sqlite3
+from collections import Counter
+from collections.abc import Iterator
+from datetime import datetime, timezone
+
+from cpe_recipes.feeds import Json
+
+from .database import ground_of, noted, reading, unpacked
+from .feeds import WAITING, waiting
+
+# The kinds of verdicts that are listed, in their order.
+KINDS = ("TRUE", "ERROR", "UNKNOWN", "perhaps", "accepted")
+_RANKS = " ".join(f"WHEN '{kind}' THEN {rank}" for rank, kind in enumerate(KINDS))
+
+
+def time_text(seconds: float | None) -> str | None:
+    """A time as ISO 8601 has it, in UTC."""
+    if seconds is None:
+        return None
+    return datetime.fromtimestamp(seconds, timezone.utc).isoformat(timespec="milliseconds").replace("+00:00", "Z")
+
+
+def machines(database: sqlite3.Connection, q: str, kind: str, limit: int, offset: int) -> tuple[list[Json], int]:
+    """The machines in the order of their names, and how many there are."""
+    where = "instr(lower(name), lower(?)) > 0"
+    values: list[Json] = [q]
+    if kind:
+        where += " AND EXISTS (SELECT 1 FROM verdicts WHERE machine = machines.id AND kind = ?)"
+        values.append(kind)
+    with reading(database):
+        ground = ground_of(database)
+        count = database.execute(f"SELECT count(*) FROM machines WHERE {where}", values).fetchone()[0]
+        # (what is long of a machine isn't read for a list of them)
+        columns = "name, put, judged_put, judged_ground, judged_at, counts, fault"
+        rows = database.execute(f"SELECT {columns} FROM machines WHERE {where} ORDER BY name LIMIT ? OFFSET ?", (*values, limit, offset)).fetchall()
+    return [_machine(row, ground) for row in rows], count
+
+
+def waiting_machines(database: sqlite3.Connection) -> int:
+    """How many machines have verdicts that are older than their list or the ground."""
+    question = "SELECT count(*) FROM machines WHERE put <> judged_put OR judged_ground <> ?"
+    return database.execute(question, (ground_of(database),)).fetchone()[0]
+
+
+def _machine(row: sqlite3.Row, ground: int) -> dict[str, Json]:
+    return {
+        "name": row["name"],
+        "state": _state(row, ground),
+        "counts": json.loads(row["counts"]),
+        "judged": time_text(row["judged_at"]),
+        "edit": row["put"],
+        **({"fault": row["fault"]} if row["fault"] else {}),
+    }
+
+
+def _state(row: sqlite3.Row, ground: int) -> str:
+    if row["put"] != row["judged_put"] or row["judged_ground"] != ground:
+        return WAITING
+    return "fault" if row["fault"] else "judged"
+
+
+def result_text(row: dict[str, Json]) -> str:
+    """The result of a machine as the database keeps it: a line of all but its verdicts, and a line for each of these."""
+    head = {key: value for key, value in row.items() if key != "verdicts"}
+    return "\n".join(json.dumps(one, ensure_ascii=False) for one in (head, *row.get("verdicts", ())))
+
+
+def machine(database: sqlite3.Connection, name: str, q: str, kind: str, limit: int, offset: int) -> dict[str, Json] | None:
+    """A machine with some of its verdicts, each with what it hangs on, and how many there are; None if there is none of this name."""
+    with reading(database):
+        row = database.execute("SELECT * FROM machines WHERE name = ?", (name,)).fetchone()
+        if row is None:
+            return None
+        ground, put_at = ground_of(database), database.execute("SELECT at FROM edits WHERE id = ?", (row["put"],)).fetchone()
+        found, said = _machine(row, ground) | {"put": time_text(put_at["at"])}, json.loads(row["said"])
+        if row["result"] is None:
+            return found | said | {"verdicts": [], "total": 0}
+        first, *lines = unpacked(row["result"]).decode().split("\n")
+        head = json.loads(first)
+        if q or kind:
+            rows = [one for one in map(json.loads, lines) if _fits(one, q.lower(), kind)]
+        total = len(rows) if q or kind else len(lines)
+        shown = rows[offset : offset + limit] if q or kind else list(map(json.loads, lines[offset : offset + limit]))
+        for one in shown:
+            since = database.execute("SELECT since FROM verdicts WHERE machine = ? AND advisory = ?", (row["id"], one["id"])).fetchone()
+            one["since"] = time_text(since["since"] if since else None)
+    more = head.pop("said")
+    found |= {key: value for key, value in head.items() if key != "name"}
+    found |= {key: [*said[key], *more[key]] for key in said}
+    return found | {"verdicts": shown, "total": total}
+
+
+def _fits(verdict: dict[str, Json], q: str, kind: str) -> bool:
+    found = "accepted" if "accepted" in verdict else "perhaps" if verdict.get("perhaps") else verdict["verdict"]
+    return (not kind or found == kind) and (not q or q in f"{verdict['id']} {verdict.get('title', '')}".lower())
+
+
+def is_settled(database: sqlite3.Connection, name: str, edit: int) -> bool:
+    """Whether a list of this edit has its verdicts, or has to wait for feeds, or is no longer there."""
+    row = database.execute("SELECT judged_put FROM machines WHERE name = ?", (name,)).fetchone()
+    if row is None or row["judged_put"] >= edit:
+        return True
+    # (what an older ground lacked may be there)
+    is_read = int(noted(database, "noted", "-1")) == ground_of(database)
+    return is_read and bool(json.loads(noted(database, "ground", "{}")).get("lacks"))
+
+
+def advisories(database: sqlite3.Connection, q: str, kind: str, limit: int, offset: int) -> tuple[list[Json], int]:
+    """The advisories with a verdict that isn't FALSE on some machine, the most affected first, and how many there are."""
+    where, values = "instr(lower(advisory), lower(?)) > 0", [q]
+    if kind:
+        where, values = f"{where} AND kind = ?", [*values, kind]
+    with reading(database):
+        count = database.execute(f"SELECT count(DISTINCT advisory) FROM verdicts WHERE {where}", values).fetchone()[0]
+        rows = database.execute(
+            f"SELECT advisory, sum(kind = 'TRUE') affected, count(*) rows, min(since) since FROM verdicts WHERE {where} "
+            "GROUP BY advisory ORDER BY affected DESC, rows DESC, advisory LIMIT ? OFFSET ?",
+            (*values, limit, offset),
+        ).fetchall()
+        return [_advisory(database, row) for row in rows], count
+
+
+def _advisory(database: sqlite3.Connection, row: sqlite3.Row) -> dict[str, Json]:
+    kinds = database.execute("SELECT kind, count(*) FROM verdicts WHERE advisory = ? GROUP BY kind", (row["advisory"],)).fetchall()
+    return {"id": row["advisory"], **_details(database, row["advisory"]), "counts": dict(map(tuple, kinds)), "since": time_text(row["since"])}
+
+
+def _details(database: sqlite3.Connection, id: str) -> dict[str, Json]:
+    row = database.execute("SELECT state, details FROM advisories WHERE id = ?", (id,)).fetchone()
+    if row is None:
+        return {}
+    known = json.loads(row["details"])
+    return {key: value for key, value in known.items() if key != "id"} | ({"state": row["state"]} if row["state"] else {})
+
+
+def advisory(database: sqlite3.Connection, id: str, kind: str, limit: int, offset: int) -> dict[str, Json] | None:
+    """An advisory with its machines, each with its verdict and since when; None if the feeds don't have it, and no machine."""
+    where, values = "advisory = ?", [id]
+    if kind:
+        where, values = f"{where} AND kind = ?", [*values, kind]
+    with reading(database):
+        details = _details(database, id)
+        ground = ground_of(database)
+        rows = database.execute(
+            f"SELECT name, kind, since, put, judged_put, judged_ground, fault FROM verdicts JOIN machines ON machines.id = machine WHERE {where} "
+            f"ORDER BY CASE kind {_RANKS} END, since DESC, name LIMIT ? OFFSET ?",
+            (*values, limit, offset),
+        ).fetchall()
+        counts = Counter(dict(map(tuple, database.execute("SELECT kind, count(*) FROM verdicts WHERE advisory = ? GROUP BY kind", (id,)))))
+        is_known = database.execute("SELECT 1 FROM advisories WHERE id = ?", (id,)).fetchone() is not None
+    if not is_known and not counts:
+        return None
+    total = counts[kind] if kind else sum(counts.values())
+    of = [{"name": row["name"], "verdict": row["kind"], "since": time_text(row["since"]), "state": _state(row, ground)} for row in rows]
+    return {"id": id, **details, "counts": dict(counts), "machines": of, "total": total}
+
+
+def changes(database: sqlite3.Connection, since: float, until: float, after: int, machine: str, advisory: str, limit: int) -> list[Json]:
+    """The changes of verdicts in a span of time, behind the change of a number, in their order."""
+    where, values = ["id > ?"], [after]
+    for column, value in (("at >=", since), ("at <", until), ("machine =", machine), ("advisory =", advisory)):
+        if value:
+            where.append(f"{column} ?")
+            values.append(value)
+    rows = database.execute(f"SELECT * FROM history WHERE {' AND '.join(where)} ORDER BY id LIMIT ?", (*values, limit)).fetchall()
+    return [_change(row) for row in rows]
+
+
+def _change(row: sqlite3.Row) -> dict[str, Json]:
+    found = {key: row[key] for key in ("id", "machine", "advisory", "before", "after", "cause", "edit")}
+    return found | {"at": time_text(row["at"])} | ({"reason": row["reason"]} if row["reason"] else {})
+
+
+def last_change(database: sqlite3.Connection) -> int:
+    """The number of the last change."""
+    return database.execute("SELECT coalesce(max(id), 0) FROM history").fetchone()[0]
+
+
+def health(database: sqlite3.Connection) -> dict[str, Json]:
+    """Whether all that was accepted is judged, and of what the verdicts are."""
+    with reading(database):
+        ground = ground_of(database)
+        found = {
+            "machines": database.execute("SELECT count(*) FROM machines").fetchone()[0],
+            "waiting": waiting_machines(database),
+            "faults": database.execute("SELECT count(*) FROM machines WHERE fault <> ''").fetchone()[0],
+            "ground": ground,
+            "feeds": [_feed(row) for row in database.execute(
+                "SELECT kind, max(at) at FROM feeds WHERE state = 'counts' GROUP BY kind ORDER BY kind")],
+        }
+        found["trouble"] = [row["text"] for row in database.execute("SELECT text FROM notes WHERE name LIKE 'trouble %' ORDER BY name")]
+        is_read, about = int(noted(database, "noted", "-1")) == ground, json.loads(noted(database, "ground", "{}"))
+    found["feedsWaiting"] = [{**one, "at": time_text(one["at"])} for one in waiting(database)]
+    return found | {"groundIsRead": is_read, **about}
+
+
+def _feed(row: sqlite3.Row) -> dict[str, Json]:
+    return {"kind": row["kind"], "last": time_text(row["at"])}
+
+
+def metrics(database: sqlite3.Connection) -> Iterator[tuple[str, str, dict[str, str], float]]:
+    """The numbers of the database: names, what they are, labels and values."""
+    with reading(database):
+        yield "cpe_machines", "Machines.", {}, database.execute("SELECT count(*) FROM machines").fetchone()[0]
+        yield "cpe_machines_waiting", "Machines whose verdicts are older than their list or the feeds.", {}, waiting_machines(database)
+        faults = database.execute("SELECT count(*) FROM machines WHERE fault <> ''").fetchone()[0]
+        yield "cpe_machines_with_fault", "Machines of which there is no result.", {}, faults
+        counts = Counter(dict.fromkeys(KINDS, 0))
+        for row in database.execute("SELECT counts FROM machines"):
+            counts.update({kind: count for kind, count in json.loads(row["counts"]).items() if kind in counts})
+        for kind, count in counts.items():
+            yield "cpe_verdicts", "Verdicts that are not FALSE, by kind.", {"kind": kind}, count
+        for row in database.execute("SELECT kind, max(at) at FROM feeds WHERE state = 'counts' GROUP BY kind"):
+            yield "cpe_feed_time_seconds", "When the last feed of a kind was accepted.", {"kind": row["kind"]}, row["at"]
+        yield "cpe_feeds_waiting", "Feeds of which pages are missing.", {}, len(
+            database.execute("SELECT 1 FROM feeds WHERE state = ?", (WAITING,)).fetchall())

@@ -1,0 +1,283 @@
+"""The process that judges the machines of a shard: python3 -m cpe_service.worker DATA SHARD SHARDS.
+
+It takes what waits from the database, and writes the verdicts and what changed of them in one transaction. So whenever it is killed,
+the next one finds what is left. Machines with new lists come before those that wait for another ground.
+"""
+from __future__ import annotations
+
+import contextlib
+import gc
+import json
+import os
+import queue
+import signal
+import sqlite3
+import sys
+import threading
+import time
+import traceback
+from collections import Counter
+from collections.abc import Iterator, Sequence
+from pathlib import Path
+
+from cpe_recipes.components import Machine
+from cpe_recipes.feeds import FeedFault
+from cpe_recipes.program import Program
+from cpe_recipes.said import Fatal
+
+from . import certificates, entries, frames, queries
+from .database import connected, ground_of, note, noted, packed, reading, writing
+from .frames import Message
+from .ground import Ground, read_ground
+from .judge import Judge, Judged
+from .waiting import Waiting
+
+# How many machines are judged together: of new lists, on whose answers clients wait, and of others.
+_NEW, _OTHERS = 4, 16
+# How often the same machines are tried if cpe dies, and how long a worker waits before it looks again.
+_TRIES, _SECONDS = 3, 30
+# How long it waits after what it couldn't do.
+_PAUSE = 5
+
+
+class Worker:
+    """Judges the machines of a shard."""
+
+    def __init__(self, folder: Path, shard: int, shards: int) -> None:
+        self._folder, self._shard, self._shards = folder, shard, shards
+        self._database, self._program = connected(folder), Program()
+        self._judge: Judge | None = None
+        # (one before it may have noted what it couldn't do)
+        self._is_troubled = True
+        self._inbox: queue.SimpleQueue[Message] = queue.SimpleQueue()
+
+    def run(self) -> None:
+        """Judges, and answers questions, until the server is gone."""
+        threading.Thread(target=self._listen, daemon=True).start()
+        while True:
+            seconds = self._tried_step()
+            try:
+                message = self._inbox.get(timeout=seconds) if seconds else self._inbox.get_nowait()
+            except queue.Empty:
+                continue
+            if message["do"] == "certificate":
+                self._send({"answer": message["number"], **self._certificate(message)})
+
+    def _tried_step(self) -> float:
+        """Judges some of the machines that wait; how long there is nothing to do. What can't be done is noted, and tried again."""
+        try:
+            return 0 if self._step() else _SECONDS
+        except Exception as fault:  # noqa: BLE001 (whatever it is, it is noted, and the next try may do it)
+            self._end()
+            traceback.print_exception(fault)
+            self._is_troubled = True
+            with contextlib.suppress(sqlite3.Error), writing(self._database):
+                note(self._database, f"trouble {self._shard}", str(fault) or type(fault).__name__)
+            return _PAUSE
+
+    def _listen(self) -> None:
+        while (found := frames.read(sys.stdin.buffer)) is not None:
+            self._inbox.put(found[0])
+        # (at once: the next server has workers of its own, and what isn't written yet waits for them)
+        os._exit(0)
+
+    def _send(self, message: Message) -> None:
+        frames.write(sys.stdout.buffer, message)
+
+    def _step(self) -> bool:
+        """Judges some of the machines that wait, if there are any."""
+        judge = self._ready()
+        if self._is_troubled:
+            self._database.execute("DELETE FROM notes WHERE name = ?", (f"trouble {self._shard}",))
+            self._is_troubled = False
+        if judge.ground.lacks:
+            return False
+        waiting = self._waiting(judge.ground.edit)
+        if not waiting:
+            return False
+        if judge.ground.is_before(max(one.put for one in waiting)):
+            # (it has the advisories alone that may concern the machines of then)
+            self._end()
+        judged, faults = self._tried(waiting)
+        with writing(self._database):
+            for one in waiting:
+                if one.name in judged:
+                    self._write(one, judged[one.name])
+                else:
+                    self._write_fault(one, faults[one.name], judge.ground.edit)
+        self._send({"done": len(waiting)})
+        return True
+
+    def _ready(self) -> Judge:
+        """What judges by the ground as it is now."""
+        if self._judge is None or self._judge.ground.edit != ground_of(self._database):
+            self._end()
+            ground = read_ground(self._database, self._program, self._machines)
+            self._note(ground)
+            self._judge = Judge(self._program, ground)
+            # (the ground is large and stays, so Python needn't look through it for garbage again and again)
+            gc.unfreeze()
+            gc.collect()
+            gc.freeze()
+            self._send({"done": 0})
+        return self._judge
+
+    def _end(self) -> None:
+        if self._judge is not None:
+            self._judge.end()
+            self._judge = None
+
+    def _machines(self) -> list[Waiting]:
+        """All machines, those of other shards too."""
+        return [Waiting(*row) for row in self._database.execute("SELECT id, name, put, list FROM machines ORDER BY id")]
+
+    def _waiting(self, ground: int) -> list[Waiting]:
+        """Some machines that wait, those with new lists first."""
+        columns = f"SELECT id, name, put, list FROM machines WHERE shard % {self._shards} = {self._shard} AND"
+        with reading(self._database) as database:
+            rows = database.execute(f"{columns} put <> judged_put ORDER BY put LIMIT {_NEW}").fetchall()
+            rows = rows or database.execute(f"{columns} judged_ground <> ? ORDER BY judged_ground LIMIT {_OTHERS}", (ground,)).fetchall()
+        return [Waiting(*row) for row in rows]
+
+    def _tried(self, waiting: Sequence[Waiting]) -> tuple[dict[str, Judged], dict[str, str]]:
+        """The results of machines. If there is none of all together, each is judged alone, and the reasons are there of those without one."""
+        try:
+            return {one.name: one for one in self._again([one.machine() for one in waiting])}, {}
+        except (sqlite3.Error, OSError):
+            raise
+        except Exception as fault:  # noqa: BLE001 (a list that nobody foresaw keeps no other machine waiting)
+            self._end()
+            if len(waiting) == 1:
+                is_foreseen = isinstance(fault, (Fatal, FeedFault))
+                return {}, {waiting[0].name: str(fault) if is_foreseen else f"the recipes have a fault: {type(fault).__name__} {fault}"}
+        judged, faults = {}, {}
+        for one in waiting:
+            of_one, fault_of_one = self._tried([one])
+            judged |= of_one
+            faults |= fault_of_one
+        return judged, faults
+
+    def _again(self, machines: Sequence[Machine]) -> list[Judged]:
+        """The results of machines. If a run of cpe dies, all runs are started again."""
+        for left in reversed(range(_TRIES)):
+            try:
+                return self._ready().judge([Machine(one.name, one.components, one.platform) for one in machines])
+            except Fatal:
+                self._end()
+                if not left:
+                    raise
+        raise AssertionError("there is a last try")
+
+    def _write_fault(self, one: Waiting, fault: str, ground: int) -> None:
+        """Writes why there is no result. What was known before stays, and the fault is beside it."""
+        columns = "judged_put = ?, judged_ground = ?, judged_at = ?, fault = ?"
+        self._database.execute(f"UPDATE machines SET {columns} WHERE id = ?", (one.put, ground, time.time(), fault, one.id))
+
+    def _write(self, one: Waiting, judged: Judged) -> None:
+        """Writes the result of a machine, if it is still there."""
+        database = self._database
+        row = database.execute("SELECT judged_put, judged_ground FROM machines WHERE id = ?", (one.id,)).fetchone()
+        if row is None:
+            return
+        at = time.time()
+        self._write_changes(one, judged, row, at)
+        result = packed(queries.result_text(judged.row | {"said": judged.said}).encode(errors="replace"))
+        counts = json.dumps(Counter(judged.kinds.values()) if judged.has_items else {"no items": 1})
+        columns = "judged_put = ?, judged_ground = ?, judged_at = ?, fault = '', counts = ?, result = ?"
+        edits = one.put, judged.judge.ground.edit
+        database.execute(f"UPDATE machines SET {columns} WHERE id = ?", (*edits, at, counts, result, one.id))
+
+    def _write_changes(self, one: Waiting, judged: Judged, row: sqlite3.Row, at: float) -> None:
+        database = self._database
+        before = dict(database.execute("SELECT advisory, kind FROM verdicts WHERE machine = ?", (one.id,)).fetchall())
+        changes = list(self._changes(before, judged, row))
+        if not changes:
+            return
+        cause, edit = self._cause(one, row, judged.judge.ground.edit)
+        database.executemany(
+            "INSERT INTO history (at, machine, advisory, before, after, cause, edit, reason) VALUES (?, ?, ?, ?, ?, ?, ?, ?)",
+            [(at, one.name, id, then, now, cause, edit, reason) for id, then, now, reason in changes],
+        )
+        database.executemany(
+            "DELETE FROM verdicts WHERE machine = ? AND advisory = ?", [(one.id, id) for id, _, _, _ in changes if id not in judged.kinds]
+        )
+        database.executemany(
+            "INSERT INTO verdicts VALUES (?, ?, ?, ?) ON CONFLICT DO UPDATE SET kind = excluded.kind, since = excluded.since",
+            [(one.id, id, now, at) for id, _, now, _ in changes if id in judged.kinds],
+        )
+
+    def _changes(self, before: dict[str, str], judged: Judged, row: sqlite3.Row) -> Iterator[tuple[str, str, str, str]]:
+        """The advisories whose verdicts changed, with the verdicts before and now, and why there is none now."""
+        for id in sorted({**before, **judged.kinds}):
+            then = before.get(id) or self._without(id, row)
+            now, reason = (judged.kinds[id], "") if id in judged.kinds else judged.judge.now(id, judged.has_items)
+            if then != now:
+                yield id, then, now, reason
+
+    def _without(self, advisory: str, row: sqlite3.Row) -> str:
+        """The verdict before of an advisory that had no row: FALSE, if it was asked for when the machine was judged."""
+        asked = self._database.execute("SELECT asked FROM advisories WHERE id = ?", (advisory,)).fetchone()
+        is_asked = row["judged_put"] and asked is not None and asked["asked"] is not None and asked["asked"] <= row["judged_ground"]
+        return "FALSE" if is_asked else "none"
+
+    def _cause(self, one: Waiting, row: sqlite3.Row, ground: int) -> tuple[str, int]:
+        """By which edits verdicts may have changed: their kinds, and the number of the last of them."""
+        since = row["judged_ground"] if row["judged_put"] else ground
+        edits = self._database.execute(
+            "SELECT kind, id FROM edits WHERE id > ? AND id <= ? AND kind NOT IN ('list', 'delete') ORDER BY id", (since, ground)
+        ).fetchall()
+        found = {edit["kind"]: edit["id"] for edit in edits}
+        if one.put != row["judged_put"]:
+            found = {"list": one.put, **found}
+        return " and ".join(found), max(found.values(), default=ground)
+
+    def _note(self, ground: Ground) -> None:
+        """Notes what the feeds state of advisories, unless another worker did."""
+        with writing(self._database) as database:
+            if ground.edit > int(noted(database, "noted", "-1")):
+                _note_advisories(database, ground)
+                note(database, "ground", json.dumps(ground.json()))
+                note(database, "noted", str(ground.edit))
+        if self._shard == 0:
+            entries.write(self._folder, ground.entries)
+
+    def _certificate(self, message: Message) -> Message:
+        row = self._database.execute(
+            "SELECT id, name, put, list FROM machines WHERE name = ?", (message["machine"],)
+        ).fetchone()
+        if row is None:
+            return {"missing": f"there is no machine {message['machine']}"}
+        try:
+            return certificates.made(self._ready(), Waiting(*row).machine(), message["id"])
+        except Exception as fault:  # noqa: BLE001 (who asks gets an answer)
+            self._end()
+            return {"fault": str(fault) or type(fault).__name__}
+
+
+def _note_advisories(database: sqlite3.Connection, ground: Ground) -> None:
+    """Writes which advisories are asked for, and what is known of all."""
+    asked = ground.known.ids.advisories
+    states = dict.fromkeys(ground.states.rejected, "rejected")
+    states |= {id: f"not analysed: {state}" for id, state in ground.states.unanalysed.items()}
+    states |= {id: f"left out: {reason}" for id, reason, _ in ground.said.noted if id not in asked}
+    known = {row["id"]: tuple(row) for row in database.execute("SELECT id, asked, state, details FROM advisories")}
+    for id in {**dict.fromkeys(asked), **states}:
+        details = json.dumps(ground.known.details.get(id, {}), ensure_ascii=False)
+        before = known.pop(id, None)
+        since = (before[1] if before and before[1] is not None else ground.edit) if id in asked else None
+        now = id, since, "" if id in asked else states[id], details
+        if now != before:
+            database.execute("INSERT OR REPLACE INTO advisories VALUES (?, ?, ?, ?)", now)
+    database.executemany("DELETE FROM advisories WHERE id = ?", [(id,) for id in known])
+
+
+def main() -> None:
+    """Judges until the server is gone."""
+    # (who interrupts the server ends it, and it ends its processes)
+    signal.signal(signal.SIGINT, signal.SIG_IGN)
+    folder, shard, shards = sys.argv[1:]
+    Worker(Path(folder), int(shard), int(shards)).run()
+
+
+if __name__ == "__main__":
+    main()
