@@ -202,7 +202,8 @@ class Scan:
     def _ask(self, cases: Sequence[tuple[Items, Results, int, int]]) -> dict[int, str]:
         """The truths of the cases, by their numbers."""
         self._progress.step("asking for verdicts")
-        answers = self._answers(cases)
+        answers = verdicts_of(self._program.lines(["resolve"], lines_of(self._known, cases)))
+        self.bare = [_next(answers) for _ in self._known.statements]
         truths: dict[int, str] = {}
         for _, _, _, number in cases:
             truths[number] = _next(answers)
@@ -211,21 +212,15 @@ class Scan:
             raise Fatal(f"cpe answered more than was asked: {answer}")
         return truths
 
-    # What a run that goes on from machine to machine keeps, it puts in place of these three.
+    # A scan that keeps what it learned for the next machines puts its own in place of these two, and of _lead and _ask.
 
     def _index(self) -> Index:
         """The statements by what they ask for."""
         return Index(self._known, self._leads)
 
     def _decider(self, ends: Iterable[str]) -> Decider:
-        """How these names stand to the ranges."""
+        """How these names relate to the ranges."""
         return Decider(self._program, self._known.ranges.values(), self._leads, ends, self._letters)
-
-    def _answers(self, cases: Sequence[tuple[Items, Results, int, int]]) -> Iterator[str]:
-        """The truths of the cases. Those of the statements without items are put into `bare` before."""
-        answers = verdicts_of(self._program.lines(["resolve"], lines_of(self._known, cases)))
-        self.bare = [_next(answers) for _ in self._known.statements]
-        return answers
 
     def _put(self, one: Found, asked: _Asked, truths: Mapping[int, str]) -> None:
         """Puts verdicts of a machine. One that is another where items are what they say too little of is UNKNOWN."""

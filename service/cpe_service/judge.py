@@ -5,7 +5,7 @@ So a machine costs what concerns its own items.
 """
 from __future__ import annotations
 
-from collections.abc import Collection, Iterable, Iterator, Sequence
+from collections.abc import Collection, Iterable, Sequence
 from dataclasses import dataclass
 
 from cpe_recipes import affected, names, unlisted
@@ -112,14 +112,14 @@ class KeptScan(Scan):
             return self._known.ranges.values()
         return [one for product in (*products, None) for one in self._by_product.get(product, ())]
 
-    def _answers(self, cases: Sequence[tuple[Items, Results, int, int]]) -> Iterator[str]:
+    def _ask(self, cases: Sequence[tuple[Items, Results, int, int]]) -> dict[int, str]:
         """A statement has the same truth over the same items and results, so it is kept."""
         if len(self._truths) > _MOST_KEPT:
             self._truths.clear()
         new = [case for case in cases if case[:3] not in self._truths]
         lines = self._statements.lines(["resolve"], lines_of_cases(new, self._asks))
         self._truths.update(zip((case[:3] for case in new), verdicts_of(lines), strict=True))
-        return iter([self._truths[case[:3]] for case in cases])
+        return {case[3]: self._truths[case[:3]] for case in cases}
 
     def end(self) -> None:
         """Ends the runs."""
