@@ -204,35 +204,30 @@ class Scan:
         return asked
 
     def _ask(self, cases: Sequence[tuple[Items, Results, int, int]]) -> dict[int, str]:
-        """The truths of the cases, by their numbers."""
+        """The truths of the cases, by their numbers. Those of the statements without items are put into `bare`."""
         self._progress.step("asking for verdicts")
         truths: dict[int, str] = {}
-        for number, truth in self._answers(cases):
-            truths[number] = truth
-            self._progress.count("asking for verdicts", len(truths), len(cases))
-        return truths
-
-    # What a run that goes on from machine to machine keeps, it puts in place of these three.
-
-    def _index(self) -> Index:
-        """The statements by what they ask for."""
-        return Index(self._known, self._leads)
-
-    def _decider(self, ends: Iterable[str]) -> Decider:
-        """How these names stand to the ranges."""
-        return Decider(self._program, self._known.ranges.values(), self._leads, ends, self._letters)
-
-    def _answers(self, cases: Sequence[tuple[Items, Results, int, int]]) -> Iterator[tuple[int, str]]:
-        """The truths of the cases, with their numbers. Those of the statements without items are put into `bare`."""
         self.bare = []
         for portion in portions_of(self._known):
             of_portion = [case for case in cases if case[2] in portion]
             answers = verdicts_of(self._program.lines(["resolve"], lines_of(self._known, portion, of_portion)))
             self.bare += [_next(answers) for _ in portion]
             for _, _, _, number in of_portion:
-                yield number, _next(answers)
+                truths[number] = _next(answers)
+                self._progress.count("asking for verdicts", len(truths), len(cases))
             for answer in answers:
                 raise Fatal(f"cpe answered more than was asked: {answer}")
+        return truths
+
+    # A scan that keeps what it learned for the next machines puts its own in place of these two, and of _lead and _ask.
+
+    def _index(self) -> Index:
+        """The statements by what they ask for."""
+        return Index(self._known, self._leads)
+
+    def _decider(self, ends: Iterable[str]) -> Decider:
+        """How these names relate to the ranges."""
+        return Decider(self._program, self._known.ranges.values(), self._leads, ends, self._letters)
 
     def _put(self, one: Found, asked: _Asked, truths: Mapping[int, str]) -> None:
         """Puts verdicts of a machine. One that is another where items are what they say too little of is UNKNOWN."""

@@ -279,8 +279,8 @@ class Service:
         return await self._told(request, value, int(limit), int(offset))
 
     async def _told(self, request: Request, value: dict[str, Json], limit: int, offset: int) -> dict[str, Json]:
-        """The value, with how many machines wait for their verdicts."""
-        return _paged(request, value | {"waiting": await self.ask(queries.waiting_machines)}, limit, offset)
+        """The value, with what has to be known beside it."""
+        return _paged(request, value | await self.ask(queries.cautions), limit, offset)
 
     async def changes(
         self, request: Request, _client: Client, since: str, until: str, after: str, machine: str, advisory: str, limit: str
@@ -314,11 +314,11 @@ class Service:
         del found["answer"]
         return {"machine": machine, "advisory": advisory, "made": time_text(time.time()), **found}
 
-    async def health(self, _request: Request, _client: Client) -> Response:
+    async def health(self, _request: Request, _client: Client) -> Json:
         value = await self.ask(queries.health)
         value["workers"] = len(self._workers)
         value["restarts"] = sum(max(one.restarts, 0) for one in (*self._workers, self._lists, self._feeds))
-        return JSONResponse({"version": VERSION, **value})
+        return {"version": VERSION, **value}
 
     async def metrics(self, _request: Request, _client: Client) -> Response:
         lines, seen = [], set()

@@ -5,7 +5,7 @@ So a machine costs what concerns its own items.
 """
 from __future__ import annotations
 
-from collections.abc import Collection, Iterable, Iterator, Sequence
+from collections.abc import Collection, Iterable, Sequence
 from dataclasses import dataclass
 
 from cpe_recipes import affected, names, unlisted
@@ -114,7 +114,7 @@ class KeptScan(Scan):
             return self._known.ranges.values()
         return [one for product in (*products, None) for one in self._by_product.get(product, ())]
 
-    def _answers(self, cases: Sequence[tuple[Items, Results, int, int]]) -> Iterator[tuple[int, str]]:
+    def _ask(self, cases: Sequence[tuple[Items, Results, int, int]]) -> dict[int, str]:
         """A statement has the same truth over the same items and results, so it is kept."""
         if len(self._truths) > _MOST_KEPT:
             self._truths.clear()
@@ -123,7 +123,7 @@ class KeptScan(Scan):
             of_portion = [case for case in new if case[2] in asks]
             lines = run.lines(["resolve"], lines_of_cases(of_portion, asks))
             self._truths.update(zip((case[:3] for case in of_portion), verdicts_of(lines), strict=True))
-        return ((number, self._truths[items, results, place]) for items, results, place, number in cases)
+        return {number: self._truths[items, results, place] for items, results, place, number in cases}
 
     def end(self) -> None:
         """Ends the runs."""

@@ -25,7 +25,7 @@ ASSETS = {
     "style.css": ((RECIPES / "report.css").read_bytes() + (_HERE / "pages.css").read_bytes(), "text/css"),
     "live.js": ((_HERE / "live.js").read_bytes(), "text/javascript"),
 }
-_LINKS = (("/machines", "Machines"), ("/advisories", "Advisories"), ("/changes", "Changes"), ("/names", "Names"))
+_LINKS = (("/machines", "Machines"), ("/advisories", "Advisories"), ("/changes", "Changes"), ("/names", "Names"), ("/health", "Health"))
 _LEVELS = ((9.0, "critical"), (7.0, "high"), (4.0, "medium"), (0.0, "low"))
 _MEANINGS = (
     ("TRUE", "the machine is affected"),
@@ -156,10 +156,30 @@ def _missing(title: str, texts: Sequence[Json]) -> Iterator[str]:
 
 
 def _waits(value: Mapping[str, Json]) -> Iterator[str]:
-    """That verdicts are older than what they are of, if some are."""
+    """What has to be known beside a list of verdicts."""
+    found = []
     if count := value["waiting"]:
         are = "1 machine is" if count == 1 else f"{count:,} machines are"
-        yield f'<p class="none">{are} not judged yet by the newest list or feeds, so what is shown of them is older, or missing.</p>\n'
+        found.append(f"{are} not judged yet by the newest list or feeds, so what is shown of them is older, or missing.")
+    if count := value["feedsLeftOut"]:
+        found.append(f"Not read of the feeds and tables: {count:,}.")
+    if value.get("lacks"):
+        found.append(f"{text(value['lacks']).capitalize()}.")
+    if found:
+        yield f'<p class="none">{" ".join(found)} {_link("/health", "More of it")}</p>\n'
+
+
+def _health(value: Mapping[str, Json], _asked: Mapping[str, str]) -> Iterator[str]:
+    yield from _waits(value | {"feedsLeftOut": 0})
+    yield from _missing("Trouble", value["trouble"])
+    yield from _missing("Feeds of which pages are missing", [f"{one['kind']} {one['name']}, since {one['at']}" for one in value["feedsWaiting"]])
+    yield from _missing("Not read of the feeds and tables", [f"{one['id']}: {one['reason']}" for one in value.get("leftOut", ())])
+    names = (("machines", "Machines"), ("waiting", "Machines that wait"), ("faults", "Machines without a result"), ("workers", "Workers"))
+    rows = [(called, f"{value[name]:,}") for name, called in (*names, ("restarts", "Processes that were started again"))]
+    rows += [(f"Last feed of the {text(one['kind'])}", _time(one["last"])) for one in value["feeds"]]
+    yield from _table(("What", "Now"), rows, "The state of the service")
+    if value.get("remarks"):
+        yield f"<details><summary>Remarks <small>{len(value['remarks']):,}</small></summary>{_list(value['remarks'])}</details>\n"
 
 
 def _machines(value: Mapping[str, Json], asked: Mapping[str, str]) -> Iterator[str]:
@@ -309,7 +329,7 @@ def text_lines(lines: Sequence[str]) -> str:
 
 _PAGES = {
     "machines": _machines, "machine": _machine, "advisories": _advisories, "advisory": _advisory, "changes": _changes, "names": _names,
-    "name": _name, "certificate": _certificate,
+    "name": _name, "certificate": _certificate, "health": _health,
 }
 _WITH_LEGEND = ("machines", "machine", "advisories", "advisory", "changes")
 _TITLES = {
@@ -320,5 +340,6 @@ _TITLES = {
     "changes": lambda _: "Changes",
     "names": lambda _: "Names",
     "name": lambda _: "A name",
+    "health": lambda _: "Health",
     "certificate": lambda asked: f"Why {asked['advisory']} on {asked['machine']}",
 }

@@ -46,6 +46,13 @@ def waiting_machines(database: sqlite3.Connection) -> int:
     return database.execute(question, (ground_of(database),)).fetchone()[0]
 
 
+def cautions(database: sqlite3.Connection) -> dict[str, Json]:
+    """What has to be known beside a list of verdicts: how many machines wait, and how much of the feeds was not read."""
+    about = json.loads(noted(database, "ground", "{}"))
+    lacks = {"lacks": about["lacks"]} if about.get("lacks") else {}
+    return {"waiting": waiting_machines(database), "feedsLeftOut": len(about.get("leftOut", ())), **lacks}
+
+
 def _machine(row: sqlite3.Row, ground: int) -> dict[str, Json]:
     return {
         "name": row["name"],

@@ -181,6 +181,9 @@ class HistoryTest(ServiceCase):
         self.assertIn("no items", [one["reason"] for one in found["leftOut"]])
         server.feed(feed("vulnerabilities", {"cve": {"id": "CVE-2024-8", "configurations": [{"nodes": "no list"}]}}))
         self.assertIn("CVE-2024-8", [one["id"] for one in server.settled()["leftOut"]])
+        self.assertEqual(server.ask("GET", "/machines")[1]["feedsLeftOut"], 1)
+        self.assertIn(b"Not read of the feeds and tables: 1.", server.asked("GET", "/machines", Accept="text/html")[1])
+        self.assertIn(b"CVE-2024-8: ", server.asked("GET", "/health", Accept="text/html")[1])
 
 
 class ToldTest(ServiceCase):

@@ -74,7 +74,7 @@ class PagesTest(ServiceCase):
 
     def test_each_link_leads_somewhere(self):
         server = self.samples()
-        waiting, seen = ["/machines", "/advisories", "/changes?limit=10", "/names?q=openssl", "/name?cpe=cpe:/a:openssl:openssl"], set()
+        waiting, seen = ["/machines", "/advisories", "/changes?limit=10", "/names?q=openssl", "/name?cpe=cpe:/a:openssl:openssl", "/health"], set()
         while waiting and len(seen) < 150:
             path = waiting.pop(0)
             if path in seen or not path.startswith("/"):
