@@ -30,6 +30,7 @@ from .database import connected, ground_of, note, noted, packed, reading, writin
 from .frames import Message
 from .ground import Ground, read_ground
 from .judge import Judge, Judged
+from .texts import whole
 from .waiting import Waiting
 
 # How many machines are judged together: of new lists, on whose answers clients wait, and of others.
@@ -72,7 +73,7 @@ class Worker:
             traceback.print_exception(fault)
             self._is_troubled = True
             with contextlib.suppress(sqlite3.Error), writing(self._database):
-                note(self._database, f"trouble {self._shard}", str(fault) or type(fault).__name__)
+                note(self._database, f"trouble {self._shard}", whole(str(fault)) or type(fault).__name__)
             return _PAUSE
 
     def _listen(self) -> None:
@@ -171,7 +172,7 @@ class Worker:
     def _write_fault(self, one: Waiting, fault: str, ground: int) -> None:
         """Writes why there is no result. What was known before stays, and the fault is beside it."""
         columns = "judged_put = ?, judged_ground = ?, judged_at = ?, fault = ?"
-        self._database.execute(f"UPDATE machines SET {columns} WHERE id = ?", (one.put, ground, time.time(), fault, one.id))
+        self._database.execute(f"UPDATE machines SET {columns} WHERE id = ?", (one.put, ground, time.time(), whole(fault), one.id))
 
     def _write(self, one: Waiting, judged: Judged) -> None:
         """Writes the result of a machine, if it is still there."""
@@ -181,7 +182,7 @@ class Worker:
             return
         at = time.time()
         self._write_changes(one, judged, row, at)
-        result = packed(queries.result_text(judged.row | {"said": judged.said}).encode(errors="replace"))
+        result = packed(whole(queries.result_text(judged.row | {"said": judged.said})).encode())
         counts = json.dumps(Counter(judged.kinds.values()) if judged.has_items else {"no items": 1})
         columns = "judged_put = ?, judged_ground = ?, judged_at = ?, fault = '', counts = ?, result = ?"
         edits = one.put, judged.judge.ground.edit
@@ -196,7 +197,7 @@ class Worker:
         cause, edit = self._cause(one, row, judged.judge.ground.edit)
         database.executemany(
             "INSERT INTO history (at, machine, advisory, before, after, cause, edit, reason) VALUES (?, ?, ?, ?, ?, ?, ?, ?)",
-            [(at, one.name, id, then, now, cause, edit, reason) for id, then, now, reason in changes],
+            [(at, one.name, id, then, now, cause, edit, whole(reason)) for id, then, now, reason in changes],
         )
         database.executemany(
             "DELETE FROM verdicts WHERE machine = ? AND advisory = ?", [(one.id, id) for id, _, _, _ in changes if id not in judged.kinds]
@@ -262,10 +263,10 @@ def _note_advisories(database: sqlite3.Connection, ground: Ground) -> None:
     states |= {id: f"left out: {reason}" for id, reason, _ in ground.said.noted if id not in asked}
     known = {row["id"]: tuple(row) for row in database.execute("SELECT id, asked, state, details FROM advisories")}
     for id in {**dict.fromkeys(asked), **states}:
-        details = json.dumps(ground.known.details.get(id, {}), ensure_ascii=False)
-        before = known.pop(id, None)
+        details = whole(json.dumps(ground.known.details.get(id, {}), ensure_ascii=False))
+        before = known.pop(whole(id), None)
         since = (before[1] if before and before[1] is not None else ground.edit) if id in asked else None
-        now = id, since, "" if id in asked else states[id], details
+        now = whole(id), since, "" if id in asked else whole(states[id]), details
         if now != before:
             database.execute("INSERT OR REPLACE INTO advisories VALUES (?, ?, ?, ?)", now)
     database.executemany("DELETE FROM advisories WHERE id = ?", [(id,) for id in known])

@@ -1,0 +1,111 @@
+"""No machine is hidden: what wasn't read, known or decided is said, and keeps no machine waiting."""
+import json
+import os
+import sys
+import unittest
+from unittest import mock
+
+from service_case import CPE, ROOT, ServiceCase, feed
+
+sys.path.insert(0, str(ROOT / "service"))
+import cpe_service  # noqa: E402, F401 (it puts the recipes on the path)
+from cpe_service import database, keeper, worker  # noqa: E402
+
+NAME = "cpe:2.3:a:acme:agent:%s:*:*:*:*:*:*:*"
+# Half a character of two: JSON can spell it, and it has no bytes.
+HALF = "\ud800"
+
+
+def product(name, *titles):
+    return {"cpe": {"cpeName": name, "cpeNameId": name, "titles": [{"lang": "en", "title": title} for title in titles]}}
+
+
+def advisory(id, *names, title="", modified="2024-01-01T00:00:00.000", **more):
+    match = [{"vulnerable": True, "criteria": name, "matchCriteriaId": f"{id}-{name}"} for name in names]
+    descriptions = [{"lang": "en", "value": title}] if title else []
+    configurations = [{"nodes": [{"operator": "OR", "cpeMatch": match}]}] if match else []
+    return {"cve": {"id": id, "lastModified": modified, "descriptions": descriptions, "configurations": configurations, **more}}
+
+
+class WorkerCase(ServiceCase):
+    """A keeper and a worker without a server, so that what happens between two of their steps can be drawn."""
+
+    def setUp(self):
+        super().setUp()
+        data = self.folder / "data"
+        data.mkdir()
+        database.made(data)
+        self.during(mock.patch.dict(os.environ, {"CPE": CPE}))
+        self.keeps = keeper.Keeper(data)
+        self.judges = self.worker()
+
+    def during(self, patch):
+        self.addCleanup(patch.stop)
+        return patch.start()
+
+    def worker(self):
+        made = worker.Worker(self.folder / "data", 0, 1)
+        made.sent = []
+        made._send = made.sent.append
+        self.addCleanup(made._end)
+        return made
+
+    def feed(self, kind, *records, is_whole=False):
+        message = {"do": "feed", "name": "", "is_whole": is_whole, "client": "x"}
+        self.assertIn("edit", self.keeps.answer(message, json.dumps(feed(kind, *records)).encode()))
+
+    def put(self, name, *names):
+        self.assertIn("edit", self.keeps.answer({"do": "put", "name": name, "client": "x"}, "\n".join(names).encode()))
+
+    def judge(self):
+        while self.judges._step():
+            pass
+
+    def rows(self, columns, table="machines", **values):
+        where = " AND ".join(f"{key} = ?" for key in values) or "true"
+        return [tuple(row) for row in self.judges._database.execute(f"SELECT {columns} FROM {table} WHERE {where}", (*values.values(),))]
+
+    def verdicts(self, name):
+        found = self.judges._database.execute("SELECT advisory, kind FROM verdicts JOIN machines ON machines.id = machine WHERE name = ?", (name,))
+        return dict(map(tuple, found))
+
+
+class HalfTest(WorkerCase):
+    """Half a character of two in a feed keeps no machine waiting."""
+
+    def test_it_keeps_nobody_waiting(self):
+        self.feed("products", product(NAME % "1", f"agent {HALF} one"), product(NAME % "2"))
+        self.feed(
+            "vulnerabilities", advisory("CVE-2024-1", NAME % "1", title=f"bad {HALF} title"), advisory(f"CVE-2024-{HALF}", NAME % "1"),
+            advisory("CVE-2024-3", vulnStatus=f"Awaiting {HALF}"), advisory(f"CVE-2024-4{HALF}", vulnStatus="Rejected"),
+        )
+        self.put("m", NAME % "1")
+        self.judge()
+        self.assertEqual(self.verdicts("m"), {"CVE-2024-1": "TRUE"})
+        found = {id: (state.split(":")[0], json.loads(details).get("title")) for id, state, details in self.rows("id, state, details", "advisories")}
+        wanted = {"CVE-2024-1": ("", "bad \ufffd title"), "CVE-2024-\ufffd": ("left out", None), "CVE-2024-3": ("not analysed", None)}
+        self.assertEqual(found, {**wanted, "CVE-2024-4\ufffd": ("rejected", None)})
+
+    def test_it_is_a_reason_in_the_history(self):
+        self.feed("products", product(NAME % "1"))
+        self.feed("vulnerabilities", advisory("CVE-2024-1", NAME % "1"), advisory("CVE-2024-2", NAME % "1"))
+        self.put("m", NAME % "1")
+        self.judge()
+        self.feed("vulnerabilities", advisory("CVE-2024-1", modified="2024-02-01T00:00:00.000", vulnStatus=f"Awaiting {HALF}"))
+        self.judge()
+        self.assertEqual(self.rows("before, after, reason", "history", advisory="CVE-2024-1")[1:], [("TRUE", "none", "not analysed: Awaiting \ufffd")])
+
+    def test_it_is_in_a_fault_and_in_trouble(self):
+        self.feed("products", product(NAME % "1"))
+        self.feed("vulnerabilities", advisory("CVE-2024-1", NAME % "1"))
+        self.put("m", NAME % "1")
+        with mock.patch.object(worker.Judge, "judge", side_effect=KeyError(HALF)):
+            self.judge()
+        self.assertIn("the recipes have a fault: KeyError", self.rows("fault")[0][0])
+        with mock.patch.object(worker.Worker, "_ready", side_effect=ValueError(f"no {HALF}")), mock.patch("sys.stderr"):
+            self.assertEqual(self.judges._tried_step(), 5)
+        self.assertEqual(self.rows("text", "notes", name="trouble 0"), [("no \ufffd",)])
+
+
+if __name__ == "__main__":
+    unittest.main()
