@@ -10,8 +10,9 @@ from pathlib import Path
 
 from cpe_recipes import advisories, dictionary, latest, matches, products, scan
 from cpe_recipes.cases import Known
+from cpe_recipes.components import Machine
 from cpe_recipes.decide import LETTERS, Lists
-from cpe_recipes.feeds import Json
+from cpe_recipes.feeds import Json, Page
 from cpe_recipes.naming import name_machines
 from cpe_recipes.names_table import Tables, read_tables
 from cpe_recipes.program import Program
@@ -89,16 +90,31 @@ def read_ground(database: sqlite3.Connection, program: Program, machines: Callab
         cut_at = max((one.put for one in waiting), default=0)
         of_all = [one.machine() for one in waiting]
         name_machines(of_all, names, entries)
-        pages = scan.of_products(states.sort(latest.advisories(pages, said)), of_all, entries, program, said, states)
-    known = Known([], [], {}, {}, {})
+        pages = _of_products(states.sort(latest.advisories(pages, said)), of_all, entries, program, said, states)
+    known = Known(entries, [], {}, {}, {})
     if any(page.records for page in pages):
         found = advisories.convert(pages, program, said, is_decided=True, states=states)
         records = program.accepted(found.candidates, said)
         known = Known(entries, records, found.ranges, found.details, found.stand_ins)
-    if not known.statements:
+    if not known.statements and not states.elsewhere:
         lacks = lacks or "no advisory that can have a verdict was given yet"
     lists = Lists(program, matches.listed(listed, known.ranges.keys(), said) if listed else {})
     return Ground(edit, entries, known, states, lists, letters, names, suppressed, settled, said, lacks, cut_at)
+
+
+def _of_products(
+    pages: Sequence[Page], machines: Sequence[Machine], entries: Sequence[str], program: Program, said: Quiet, states: States
+) -> Sequence[Page]:
+    """Those that may concern a product of the machines. If none does, all are FALSE on each machine, where scan.py ends instead."""
+    try:
+        return scan.of_products(pages, machines, entries, program, said, states)
+    except Fatal as fault:
+        if not str(fault).startswith("none of "):
+            raise
+    states.put_elsewhere(pages, ())
+    states.tell(said)
+    said.remark(f"none of {sum(len(page.records) for page in pages)} advisories may concern a product of these machines; they are FALSE there")
+    return ()
 
 
 def _candidates(database: sqlite3.Connection, said: Quiet) -> Iterator:

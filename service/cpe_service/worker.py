@@ -91,14 +91,13 @@ class Worker:
         if self._is_troubled:
             self._database.execute("DELETE FROM notes WHERE name = ?", (f"trouble {self._shard}",))
             self._is_troubled = False
-        if judge.ground.lacks:
-            return False
         waiting = self._waiting(judge.ground.edit)
-        if not waiting:
-            return False
-        if judge.ground.is_before(max(one.put for one in waiting)):
+        if waiting and judge.ground.is_before(max(one.put for one in waiting)):
             # (it has the advisories alone that may concern the machines of then)
             self._end()
+            judge = self._ready()
+        if judge.ground.lacks or not waiting:
+            return False
         judged, faults = self._tried(waiting)
         with writing(self._database):
             for one in waiting:

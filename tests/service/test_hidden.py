@@ -9,9 +9,12 @@ from service_case import CPE, ROOT, ServiceCase, feed
 
 sys.path.insert(0, str(ROOT / "service"))
 import cpe_service  # noqa: E402, F401 (it puts the recipes on the path)
-from cpe_service import database, keeper, worker  # noqa: E402
+from cpe_recipes import products  # noqa: E402
+from cpe_recipes.said import Fatal  # noqa: E402
+from cpe_service import database, ground, keeper, queries, worker  # noqa: E402
 
 NAME = "cpe:2.3:a:acme:agent:%s:*:*:*:*:*:*:*"
+OTHER = "cpe:2.3:a:other:thing:1:*:*:*:*:*:*:*"
 # Half a character of two: JSON can spell it, and it has no bytes.
 HALF = "\ud800"
 
@@ -105,6 +108,44 @@ class HalfTest(WorkerCase):
         with mock.patch.object(worker.Worker, "_ready", side_effect=ValueError(f"no {HALF}")), mock.patch("sys.stderr"):
             self.assertEqual(self.judges._tried_step(), 5)
         self.assertEqual(self.rows("text", "notes", name="trouble 0"), [("no \ufffd",)])
+
+
+class ManyTest(WorkerCase):
+    """There are more advisories than cpe takes."""
+
+    def setUp(self):
+        super().setUp()
+        self.during(mock.patch.object(products, "MOST_STATEMENTS", 2))
+        self.feed("products", product(NAME % "1"), product(OTHER))
+        self.feed("vulnerabilities", *(advisory(f"CVE-2024-{number}", NAME % "1") for number in range(1, 4)))
+
+    def test_a_list_that_none_of_them_concerns_is_judged(self):
+        self.put("m", OTHER)
+        self.judge()
+        self.assertEqual(self.rows("put = judged_put, fault, counts"), [(1, "", "{}")])
+        self.assertEqual(queries.health(self.judges._database)["lacks"], "")
+        # (and a list that they concern has them read)
+        self.put("n", NAME % "1")
+        self.judge()
+        self.assertEqual(self.verdicts("n"), dict.fromkeys(("CVE-2024-1", "CVE-2024-2", "CVE-2024-3"), "TRUE"))
+
+    def test_feeds_that_come_before_all_machines(self):
+        self.judge()
+        health = queries.health(self.judges._database)
+        self.assertEqual((health["lacks"], health["groundIsRead"]), ("", True))
+        self.assertIn("none of 3 advisories may concern", " ".join(health["remarks"]))
+        self.put("m", OTHER)
+        self.judge()
+        self.assertEqual(self.rows("put = judged_put, fault, counts"), [(1, "", "{}")])
+        self.put("m", NAME % "1")
+        self.judge()
+        self.assertEqual(self.rows("counts"), [('{"TRUE": 3}',)])
+
+    def test_another_fault_is_no_list_that_none_concerns(self):
+        self.put("m", OTHER)
+        with mock.patch.object(ground.scan, "of_products", side_effect=Fatal("cpe resolve ended")), mock.patch("sys.stderr"):
+            self.assertEqual(self.judges._tried_step(), 5)
+        self.assertEqual(self.rows("judged_put, fault"), [(0, "")])
 
 
 if __name__ == "__main__":
