@@ -54,6 +54,10 @@ class Ground:
         """Whether it has too few advisories for a list of this edit, since it was cut to what the machines had before."""
         return self.cut_at is not None and put > self.cut_at
 
+    def version(self) -> tuple[int, int]:
+        """What was read: the edit, and the last list that was looked at."""
+        return self.edit, self.cut_at or 0
+
     def json(self) -> dict[str, Json]:
         """What was left out of the feeds and tables, and which advisories have no verdict."""
         return self.said.as_json() | {"lacks": self.lacks}

@@ -234,10 +234,12 @@ class Worker:
     def _note(self, ground: Ground) -> None:
         """Notes what the feeds state of advisories, unless another worker did."""
         with writing(self._database) as database:
-            if ground.edit > int(noted(database, "noted", "-1")):
+            # (what was cut to the machines has more after a new list)
+            if ground.version() > (int(noted(database, "noted", "-1")), int(noted(database, "noted up to list", "0"))):
                 _note_advisories(database, ground)
                 note(database, "ground", json.dumps(ground.json()))
                 note(database, "noted", str(ground.edit))
+                note(database, "noted up to list", str(ground.cut_at or 0))
         if self._shard == 0:
             entries.write(self._folder, ground.entries)
 

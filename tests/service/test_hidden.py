@@ -141,6 +141,17 @@ class ManyTest(WorkerCase):
         self.judge()
         self.assertEqual(self.rows("counts"), [('{"TRUE": 3}',)])
 
+    def test_what_is_read_for_a_new_list_is_noted(self):
+        self.feed("vulnerabilities", advisory("CVE-2024-9", OTHER, title="a thing"))
+        self.put("m", NAME % "1")
+        self.judge()
+        self.put("n", OTHER)
+        self.judge()
+        self.assertEqual(self.verdicts("n"), {"CVE-2024-9": "TRUE"})
+        value = queries.advisory(self.judges._database, "CVE-2024-9", "", 10, 0)
+        self.assertEqual(value["title"], "a thing")
+        self.assertIn("4 of 4 advisories may concern", " ".join(queries.health(self.judges._database)["remarks"]))
+
     def test_another_fault_is_no_list_that_none_concerns(self):
         self.put("m", OTHER)
         with mock.patch.object(ground.scan, "of_products", side_effect=Fatal("cpe resolve ended")), mock.patch("sys.stderr"):
