@@ -30,6 +30,7 @@ from .database import connected, writing
 from .processes import Gone, Keeper, Worker
 from .queries import time_text
 from .routes import ROUTES, Route, openapi
+from .texts import whole
 from .tokens import ANYONE, Client, NoTokens, Tokens
 
 VERSION = "0.1.0"
@@ -88,6 +89,14 @@ class Numbers:
             found.append(f'cpe_request_seconds_bucket{{route="{name}",le="+Inf"}} {count}')
             found += [f'cpe_request_seconds_sum{{route="{name}"}} {self.seconds[name]:.6f}', f'cpe_request_seconds_count{{route="{name}"}} {count}']
         return found
+
+
+class Answer(JSONResponse):
+    """An answer in JSON."""
+
+    def render(self, content: Json) -> bytes:
+        # (names of components are in answers, and may be what has no bytes)
+        return whole(json.dumps(content, ensure_ascii=False, allow_nan=False, separators=(",", ":"))).encode()
 
 
 class Service:
@@ -221,7 +230,7 @@ class Service:
             raise Problem(409, f"{machine} was removed meanwhile")
         value = {key: value[key] for key in ("name", "state", "counts", "edit", "judged", "fault", "leftOut", "remarks") if key in value}
         status = 202 if value["state"] == queries.WAITING else 201 if found["is_new"] else 200
-        return JSONResponse(value, status)
+        return Answer(value, status)
 
     async def _wait(self, machine: str, edit: int) -> None:
         """Waits for the verdicts of a list. They may be there before anyone waits, or not come for long."""
@@ -239,12 +248,12 @@ class Service:
         if "missing" in found:
             raise Problem(404, f"there is no machine {machine}")
         self._notify()
-        return JSONResponse({"name": machine, "state": "removed", "edit": found["edit"]})
+        return Answer({"name": machine, "state": "removed", "edit": found["edit"]})
 
     async def feeds(self, request: Request, client: Client, feed: str, whole: str) -> Response:
         message = {"do": "feed", "name": feed, "is_whole": whole == "true", "client": client.name}
         found = await self._keep(self._feeds, request, self.settings.most_feed, message)
-        return JSONResponse(found, 202)
+        return Answer(found, 202)
 
     async def table(self, _request: Request, _client: Client, table: str) -> Response:
         text = await self.ask(_table, table)
@@ -254,7 +263,7 @@ class Service:
 
     async def put_table(self, request: Request, client: Client, table: str) -> Response:
         async with body_of(request, self.settings.most_list, self.settings.seconds, self._room) as body:
-            return JSONResponse(await self._answer(self._lists, {"do": "table", "name": table, "client": client.name}, body))
+            return Answer(await self._answer(self._lists, {"do": "table", "name": table, "client": client.name}, body))
 
     # What is asked for.
 
@@ -318,7 +327,7 @@ class Service:
         value = await self.ask(queries.health)
         value["workers"] = len(self._workers)
         value["restarts"] = sum(max(one.restarts, 0) for one in (*self._workers, self._lists, self._feeds))
-        return JSONResponse({"version": VERSION, **value})
+        return Answer({"version": VERSION, **value})
 
     async def metrics(self, _request: Request, _client: Client) -> Response:
         lines, seen = [], set()
@@ -335,7 +344,7 @@ class Service:
         return Response("\n".join([*lines, *self.numbers.lines()]) + "\n", media_type="text/plain; version=0.0.4")
 
     async def openapi(self, _request: Request, _client: Client) -> Response:
-        return JSONResponse(openapi(VERSION))
+        return Answer(openapi(VERSION))
 
     async def events(self, request: Request, _client: Client, after: str) -> Response:
         if self._listeners >= _MOST_LISTENERS:
@@ -399,7 +408,7 @@ def _problem(fault: Problem, request: Request) -> Response:
     value = {"type": "about:blank", "title": title, "status": fault.status, "detail": fault.detail}
     if pages.is_wanted(request):
         return Response(pages.problem(value), fault.status, fault.headers, "text/html")
-    return JSONResponse(value, fault.status, fault.headers, "application/problem+json")
+    return Answer(value, fault.status, fault.headers, "application/problem+json")
 
 
 def _endpoint(service: Service, route: Route) -> Callable:
@@ -437,7 +446,7 @@ async def _answered(service: Service, route: Route, request: Request) -> Respons
         return found
     if pages.is_wanted(request):
         return Response(pages.page(route.name, found, values), media_type="text/html", headers={"Vary": "Accept"})
-    return JSONResponse(found, headers={"Vary": "Accept"})
+    return Answer(found, headers={"Vary": "Accept"})
 
 
 async def _http_fault(request: Request, fault: HTTPException) -> Response:

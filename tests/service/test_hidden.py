@@ -109,6 +109,22 @@ class HalfTest(WorkerCase):
             self.assertEqual(self.judges._tried_step(), 5)
         self.assertEqual(self.rows("text", "notes", name="trouble 0"), [("no \ufffd",)])
 
+    def test_it_is_in_answers(self):
+        server = self.server(name="served")
+        server.feed(feed("products", product(NAME % "1")))
+        odd = {"cve": {"id": f"CVE-2024-{HALF}", "configurations": [{"nodes": "no list"}]}}
+        server.feed(feed("vulnerabilities", advisory("CVE-2024-1", NAME % "1", title=HALF), odd))
+        components = [{"name": "a", "cpe": NAME % "1"}, {"name": HALF, "version": HALF}, {"name": "c", "cpe": f"cpe:2.3:a:{HALF}"}]
+        status, value = server.put("m", {"bomFormat": "CycloneDX", "components": components})
+        self.assertEqual((status, value["counts"], len(value["leftOut"])), (201, {"TRUE": 1}, 2), value)
+        server.settled()
+        for path in ("/machines/m", "/machines", "/advisories", "/advisories/CVE-2024-1", "/changes", "/health", "/certificates/m/CVE-2024-1"):
+            for kind in ("*/*", "text/html"):
+                self.assertEqual(server.asked("GET", path, Accept=kind)[0], 200, path)
+        self.assertIn("CVE-2024-\ufffd", [one["id"] for one in server.ask("GET", "/health")[1]["leftOut"]])
+        status, value = server.put("n", {"bomFormat": "CycloneDX", "specVersion": HALF, HALF: [], "components": HALF})
+        self.assertEqual(status, 422, value)
+
 
 class ManyTest(WorkerCase):
     """There are more advisories than cpe takes."""
