@@ -176,16 +176,16 @@ class Worker:
     def _write(self, one: Waiting, judged: Judged) -> None:
         """Writes the result of a machine, if it is still there."""
         database = self._database
-        row = database.execute("SELECT judged_put, judged_ground FROM machines WHERE id = ?", (one.id,)).fetchone()
+        row = database.execute("SELECT result_put, result_ground, fault, counts FROM machines WHERE id = ?", (one.id,)).fetchone()
         if row is None:
             return
         at = time.time()
         self._write_changes(one, judged, row, at)
         result = packed(whole(queries.result_text(judged.row | {"said": judged.said})).encode())
         counts = json.dumps(Counter(judged.kinds.values()) if judged.has_items else {"no items": 1})
-        columns = "judged_put = ?, judged_ground = ?, judged_at = ?, fault = '', counts = ?, result = ?"
+        columns = "judged_put = ?, judged_ground = ?, result_put = ?, result_ground = ?, judged_at = ?, fault = '', counts = ?, result = ?"
         edits = one.put, judged.judge.ground.edit
-        database.execute(f"UPDATE machines SET {columns} WHERE id = ?", (*edits, at, counts, result, one.id))
+        database.execute(f"UPDATE machines SET {columns} WHERE id = ?", (*edits, *edits, at, counts, result, one.id))
 
     def _write_changes(self, one: Waiting, judged: Judged, row: sqlite3.Row, at: float) -> None:
         database = self._database
@@ -215,19 +215,21 @@ class Worker:
                 yield id, then, now, reason
 
     def _without(self, advisory: str, row: sqlite3.Row) -> str:
-        """The verdict before of an advisory that had no row: FALSE, if it was asked for when the machine was judged."""
+        """The verdict before of an advisory that had no row: FALSE, if it was asked for when the machine was judged, and the machine had items."""
+        if not row["result_put"] or row["fault"] or "no items" in json.loads(row["counts"]):
+            return "none"
         asked = self._database.execute("SELECT asked FROM advisories WHERE id = ?", (advisory,)).fetchone()
-        is_asked = row["judged_put"] and asked is not None and asked["asked"] is not None and asked["asked"] <= row["judged_ground"]
+        is_asked = asked is not None and asked["asked"] is not None and asked["asked"] <= row["result_ground"]
         return "FALSE" if is_asked else "none"
 
     def _cause(self, one: Waiting, row: sqlite3.Row, ground: int) -> tuple[str, int]:
-        """By which edits verdicts may have changed: their kinds, and the number of the last of them."""
-        since = row["judged_ground"] if row["judged_put"] else ground
+        """By which edits verdicts may have changed since the last result: their kinds, and the number of the last of them."""
+        since = row["result_ground"] if row["result_put"] else ground
         edits = self._database.execute(
             "SELECT kind, id FROM edits WHERE id > ? AND id <= ? AND kind NOT IN ('list', 'delete') ORDER BY id", (since, ground)
         ).fetchall()
         found = {edit["kind"]: edit["id"] for edit in edits}
-        if one.put != row["judged_put"]:
+        if one.put != row["result_put"]:
             found = {"list": one.put, **found}
         return " and ".join(found), max(found.values(), default=ground)
 

@@ -175,5 +175,57 @@ class ManyTest(WorkerCase):
         self.assertEqual(self.rows("judged_put, fault"), [(0, "")])
 
 
+class HistoryTest(WorkerCase):
+    """The history says FALSE where that was decided alone."""
+
+    def setUp(self):
+        super().setUp()
+        self.feed("products", product(NAME % "1"), product(OTHER))
+        self.feed("vulnerabilities", advisory("CVE-2024-1", NAME % "1"), advisory("CVE-2024-2", OTHER))
+
+    def changes(self):
+        return self.rows("advisory, before, after, cause, reason", "history")
+
+    def test_a_list_without_items(self):
+        self.put("m", "cpe:2.3:no")
+        self.judge()
+        self.assertEqual((self.rows("counts"), self.changes()), ([('{"no items": 1}',)], []))
+        self.put("m", NAME % "1")
+        self.judge()
+        self.put("m", "cpe:2.3:no")
+        self.judge()
+        wanted = [("CVE-2024-1", "none", "TRUE", "list", ""), ("CVE-2024-1", "TRUE", "none", "list", "no items")]
+        self.assertEqual(self.changes(), wanted)
+        self.put("m", NAME % "1", OTHER)
+        self.judge()
+        wanted += [("CVE-2024-1", "none", "TRUE", "list", ""), ("CVE-2024-2", "none", "TRUE", "list", "")]
+        self.assertEqual(self.changes(), wanted)
+
+    def judge_nothing(self):
+        with mock.patch.object(worker.Judge, "judge", side_effect=KeyError("odd")):
+            self.judge()
+        self.assertEqual(len(self.rows("1", fault="the recipes have a fault: KeyError 'odd'")), 1)
+
+    def test_a_first_list_without_a_result(self):
+        self.put("m", NAME % "1")
+        self.judge_nothing()
+        self.feed("vulnerabilities", advisory("CVE-2024-3", NAME % "2"))
+        self.judge()
+        self.assertEqual(self.changes(), [("CVE-2024-1", "none", "TRUE", "list", "")])
+
+    def test_a_later_list_without_a_result(self):
+        self.put("m", NAME % "1")
+        self.judge()
+        self.put("m", OTHER)
+        self.judge_nothing()
+        self.feed("vulnerabilities", advisory("CVE-2024-3", NAME % "2"))
+        self.judge()
+        wanted = [("CVE-2024-1", "TRUE", "FALSE", "list and feed", ""), ("CVE-2024-2", "none", "TRUE", "list and feed", "")]
+        self.assertEqual(self.changes()[1:], wanted)
+        self.put("m", NAME % "1", OTHER)
+        self.judge()
+        self.assertEqual(self.changes()[3:], [("CVE-2024-1", "FALSE", "TRUE", "list", "")])
+
+
 if __name__ == "__main__":
     unittest.main()
