@@ -293,9 +293,17 @@ def _compared(value: Mapping[str, Json], other: Mapping[str, Json]) -> Iterator[
     yield from _table(("Attribute", "The name", "Is to", "The other"), rows, f"The name is {other['relation']} to {other['formattedString']}")
 
 
+_STATES = {
+    "waiting": "The machine waits for its verdicts, so those that are shown of it are older than this certificate.",
+    "fault": "There is no result of the list of the machine, so the verdicts that are shown of it are older than this certificate.",
+}
+
+
 def _certificate(value: Mapping[str, Json], _asked: Mapping[str, str]) -> Iterator[str]:
     machine, advisory = value["machine"], value["advisory"]
     yield f"<p>{_link(_path('machines', machine), machine)}, {_link(_path('advisories', advisory), advisory)}</p>\n"
+    if value["state"] != "judged":
+        yield f'<p class="none">{_STATES[value["state"]]}</p>\n'
     yield f"<h2>Why</h2><pre>{text_lines(value['words'])}</pre>\n"
     yield f"<h2>What <code>cpe check</code> says of it</h2><pre>{text_lines(value['check'])}</pre>\n"
     for key, called in (("certificates", "The certificate"), ("records", "The records over which it is")):

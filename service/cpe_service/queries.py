@@ -49,7 +49,7 @@ def waiting_machines(database: sqlite3.Connection) -> int:
 def _machine(row: sqlite3.Row, ground: int) -> dict[str, Json]:
     return {
         "name": row["name"],
-        "state": _state(row, ground),
+        "state": state_of(row, ground),
         "counts": json.loads(row["counts"]),
         "judged": time_text(row["judged_at"]),
         "edit": row["put"],
@@ -57,7 +57,8 @@ def _machine(row: sqlite3.Row, ground: int) -> dict[str, Json]:
     }
 
 
-def _state(row: sqlite3.Row, ground: int) -> str:
+def state_of(row: sqlite3.Row, ground: int) -> str:
+    """Whether the verdicts of a machine are of its list and this ground, and if not, why."""
     if row["put"] != row["judged_put"] or row["judged_ground"] != ground:
         return WAITING
     return "fault" if row["fault"] else "judged"
@@ -155,7 +156,7 @@ def advisory(database: sqlite3.Connection, id: str, kind: str, limit: int, offse
     if not is_known and not counts:
         return None
     total = counts[kind] if kind else sum(counts.values())
-    of = [{"name": row["name"], "verdict": row["kind"], "since": time_text(row["since"]), "state": _state(row, ground)} for row in rows]
+    of = [{"name": row["name"], "verdict": row["kind"], "since": time_text(row["since"]), "state": state_of(row, ground)} for row in rows]
     return {"id": id, **details, "counts": dict(counts), "machines": of, "total": total}
 
 

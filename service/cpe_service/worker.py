@@ -246,16 +246,20 @@ class Worker:
             entries.write(self._folder, ground.entries)
 
     def _certificate(self, message: Message) -> Message:
-        row = self._database.execute(
-            "SELECT id, name, put, list FROM machines WHERE name = ?", (message["machine"],)
-        ).fetchone()
+        """The certificate of the list and the ground as they are now; `state` says whether the verdicts that are shown are of these."""
+        row = self._database.execute("SELECT * FROM machines WHERE name = ?", (message["machine"],)).fetchone()
         if row is None:
             return {"missing": f"there is no machine {message['machine']}"}
+        one = Waiting(row["id"], row["name"], row["put"], row["list"])
         try:
-            return certificates.made(self._ready(), Waiting(*row).machine(), message["id"])
+            if self._ready().ground.is_before(one.put):
+                self._end()
+            judge = self._ready()
+            found = certificates.made(judge, one.machine(), message["id"])
         except Exception as fault:  # noqa: BLE001 (who asks gets an answer)
             self._end()
             return {"fault": str(fault) or type(fault).__name__}
+        return found | {"edit": one.put, "ground": judge.ground.edit, "state": queries.state_of(row, judge.ground.edit)}
 
 
 def _note_advisories(database: sqlite3.Connection, ground: Ground) -> None:

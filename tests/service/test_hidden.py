@@ -227,5 +227,48 @@ class HistoryTest(WorkerCase):
         self.assertEqual(self.changes()[3:], [("CVE-2024-1", "FALSE", "TRUE", "list", "")])
 
 
+class CertificateTest(WorkerCase):
+    """A certificate is of the list that counts now, and who has none reads why."""
+
+    def begin(self):
+        self.feed("products", product(NAME % "1"), product(OTHER))
+        self.feed("vulnerabilities", *(advisory(f"CVE-2024-{number}", NAME % "1") for number in range(1, 4)), advisory("CVE-2024-9", OTHER))
+        self.put("m", NAME % "1")
+        self.judge()
+
+    def certificate(self, id, machine="m"):
+        return self.judges._certificate({"machine": machine, "id": id})
+
+    def test_an_advisory_that_concerns_none_of_the_machines(self):
+        self.during(mock.patch.object(products, "MOST_STATEMENTS", 2))
+        self.begin()
+        wanted = "there is no certificate of CVE-2024-9: it concerns no product of these machines, so it is FALSE"
+        self.assertEqual(self.certificate("CVE-2024-9")["missing"], wanted)
+        self.assertEqual(self.certificate("CVE-2024-8")["missing"], "there is no verdict of CVE-2024-8: it isn't in the feeds")
+        self.put("empty", "cpe:2.3:no")
+        self.assertEqual(self.certificate("CVE-2024-9", "empty")["missing"], "empty has no items, so it has no verdict")
+        self.put("n", OTHER)
+        found = self.certificate("CVE-2024-9", "n")
+        self.assertEqual((found["check"], found["state"]), (["proof CVE-2024-9 holds"], "waiting"))
+
+    def test_it_says_of_which_list_it_is(self):
+        self.begin()
+        found = self.certificate("CVE-2024-1")
+        self.assertEqual((found["state"], [found["edit"]], [found["ground"]]), ("judged", *map(list, zip(*self.rows("put, judged_ground")))))
+        self.put("m", OTHER)
+        later = self.certificate("CVE-2024-9")
+        self.assertEqual((later["state"], later["edit"]), ("waiting", found["edit"] + 1))
+        self.judge()
+        self.feed("vulnerabilities", advisory("CVE-2024-10", OTHER))
+        self.assertEqual(self.certificate("CVE-2024-10")["state"], "waiting")
+        with mock.patch.object(worker.Judge, "judge", side_effect=KeyError("odd")):
+            self.judge()
+        self.assertEqual(self.certificate("CVE-2024-10")["state"], "fault")
+
+    def test_without_feeds_nobody_is_judged(self):
+        self.put("m", OTHER)
+        self.assertEqual(self.certificate("CVE-2024-9")["missing"], "nobody can be judged yet: no dictionary was given yet")
+
+
 if __name__ == "__main__":
     unittest.main()
