@@ -282,31 +282,36 @@ class Service:
         return await self._told(request, {"advisories": found, "total": total}, int(limit), int(offset))
 
     async def advisory(self, request: Request, _client: Client, advisory: str, kind: str, limit: str, offset: str) -> Json:
-        value = await self.ask(queries.advisory, advisory, kind, int(limit), int(offset))
+        try:
+            value = await self.ask(queries.advisory, advisory, kind, int(limit), int(offset))
+        except queries.Unread as fault:
+            raise Problem(503, "the feeds that were accepted aren't read yet; ask again", {"Retry-After": "10"}) from fault
         if value is None:
             raise Problem(404, f"the feeds have no advisory {advisory}")
         return await self._told(request, value, int(limit), int(offset))
 
     async def _told(self, request: Request, value: dict[str, Json], limit: int, offset: int) -> dict[str, Json]:
-        """The value, with how many machines wait for their verdicts."""
-        return _paged(request, value | {"waiting": await self.ask(queries.waiting_machines)}, limit, offset)
+        """The value, with how many machines wait for their verdicts, or have none."""
+        return _paged(request, value | await self.ask(queries.unjudged), limit, offset)
 
     async def changes(
         self, request: Request, _client: Client, since: str, until: str, after: str, machine: str, advisory: str, limit: str
     ) -> Json:
         values = _time(since, "since"), _time(until, "until"), int(after), machine, advisory, int(limit)
         found = await self.ask(queries.changes, *values)
-        value: dict[str, Json] = {"changes": found}
+        value: dict[str, Json] = {"changes": found, **await self.ask(queries.unjudged)}
         if len(found) == int(limit):
             value["next"] = str(request.url.include_query_params(after=found[-1]["id"]).replace(scheme="", netloc=""))
         return value
 
     async def names(self, request: Request, _client: Client, q: str, limit: str, offset: str) -> Json:
+        state = await self.ask(queries.dictionary)
         found, total = await run_in_threadpool(entries.search, self.settings.folder, q, int(limit), int(offset))
-        return _paged(request, {"names": found, "total": total}, int(limit), int(offset))
+        return _paged(request, {"names": found, "total": total, **state}, int(limit), int(offset))
 
     async def name(self, _request: Request, _client: Client, cpe: str, **more: str) -> Json:
-        return await run_in_threadpool(naming.about, self._program, self.settings.folder, cpe, more["with"])
+        state = await self.ask(queries.dictionary)
+        return await run_in_threadpool(naming.about, self._program, self.settings.folder, cpe, more["with"]) | state
 
     async def certificate(self, _request: Request, _client: Client, machine: str, advisory: str) -> Json:
         shard = await self.ask(_shard, machine)

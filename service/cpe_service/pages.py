@@ -155,11 +155,25 @@ def _missing(title: str, texts: Sequence[Json]) -> Iterator[str]:
         yield f'<section class="missing"><h2>{text(title)} <small>{len(texts):,}</small></h2>{_list(texts)}</section>\n'
 
 
+_UNJUDGED = (
+    ("waiting", "1 machine is", "machines are", "not judged yet by the newest list or feeds, so what is shown of them is older, or missing"),
+    ("faults", "1 machine has", "machines have", "no result of the newest list (their state is fault), so what is shown of them is older, or missing"),
+    ("noItems", "1 machine has", "machines have", "no items, so they have no verdicts"),
+)
+
+
 def _waits(value: Mapping[str, Json]) -> Iterator[str]:
-    """That verdicts are older than what they are of, if some are."""
-    if count := value["waiting"]:
-        are = "1 machine is" if count == 1 else f"{count:,} machines are"
-        yield f'<p class="none">{are} not judged yet by the newest list or feeds, so what is shown of them is older, or missing.</p>\n'
+    """That verdicts are older than what they are of, or that there are none, if there are such machines."""
+    for key, of_one, of_more, what in _UNJUDGED:
+        if count := value[key]:
+            yield f'<p class="none">{of_one if count == 1 else f"{count:,} {of_more}"} {what}.</p>\n'
+
+
+def _older_names(value: Mapping[str, Json]) -> Iterator[str]:
+    """That there is no dictionary yet, or a newer one."""
+    if (state := value["dictionary"]) != "current":
+        what = "No dictionary was given yet" if state == "none" else "The newest dictionary isn't read yet, so names may be missing, or older"
+        yield f'<p class="none">{what}.</p>\n'
 
 
 def _machines(value: Mapping[str, Json], asked: Mapping[str, str]) -> Iterator[str]:
@@ -231,6 +245,7 @@ def _advisory(value: Mapping[str, Json], asked: Mapping[str, str]) -> Iterator[s
 
 
 def _changes(value: Mapping[str, Json], asked: Mapping[str, str]) -> Iterator[str]:
+    yield from _waits(value)
     fields = (("since", "Since (2026-12-01)"), ("until", "Until"), ("machine", "Machine"), ("advisory", "Advisory"))
     yield from _form("/changes", asked, *fields)
     rows = (
@@ -244,6 +259,7 @@ def _changes(value: Mapping[str, Json], asked: Mapping[str, str]) -> Iterator[st
 
 
 def _names(value: Mapping[str, Json], asked: Mapping[str, str]) -> Iterator[str]:
+    yield from _older_names(value)
     yield from _form("/names", asked, ("q", "Words of a name or title"))
     rows = (
         (_link(_query("/name", cpe=one["name"]), one["name"]), text(one["title"]), _list(one.get("successors", ())) if one["deprecated"] else "")
@@ -254,6 +270,7 @@ def _names(value: Mapping[str, Json], asked: Mapping[str, str]) -> Iterator[str]
 
 
 def _name(value: Mapping[str, Json], asked: Mapping[str, str]) -> Iterator[str]:
+    yield from _older_names(value)
     yield from _form("/name", asked, ("cpe", "CPE name"), ("with", "Compare with"))
     forms = [(label, f"<code>{text(value[key])}</code>") for key, label in _FORMS if key in value]
     yield from _table(("Form", "The name"), forms, "The name in all its forms")

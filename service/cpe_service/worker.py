@@ -244,6 +244,8 @@ class Worker:
                 note(database, "noted up to list", str(ground.cut_at or 0))
         if self._shard == 0:
             entries.write(self._folder, ground.entries)
+            with writing(self._database) as database:
+                note(database, "names", str(ground.edit))
 
     def _certificate(self, message: Message) -> Message:
         """The certificate of the list and the ground as they are now; `state` says whether the verdicts that are shown are of these."""

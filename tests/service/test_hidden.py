@@ -1,6 +1,8 @@
 """No machine is hidden: what wasn't read, known or decided is said, and keeps no machine waiting."""
+import html
 import json
 import os
+import signal
 import sys
 import unittest
 from unittest import mock
@@ -11,7 +13,7 @@ sys.path.insert(0, str(ROOT / "service"))
 import cpe_service  # noqa: E402, F401 (it puts the recipes on the path)
 from cpe_recipes import products  # noqa: E402
 from cpe_recipes.said import Fatal  # noqa: E402
-from cpe_service import database, ground, keeper, queries, worker  # noqa: E402
+from cpe_service import database, ground, keeper, pages, queries, worker  # noqa: E402
 
 NAME = "cpe:2.3:a:acme:agent:%s:*:*:*:*:*:*:*"
 OTHER = "cpe:2.3:a:other:thing:1:*:*:*:*:*:*:*"
@@ -268,6 +270,80 @@ class CertificateTest(WorkerCase):
     def test_without_feeds_nobody_is_judged(self):
         self.put("m", OTHER)
         self.assertEqual(self.certificate("CVE-2024-9")["missing"], "nobody can be judged yet: no dictionary was given yet")
+
+
+class ShownTest(ServiceCase):
+    """Answers from which something is missing say so."""
+
+    def begin(self):
+        server = self.server("--rate", "100000", "--workers", "1", "--wait", "1")
+        self.assertEqual([server.ask("GET", path)[1]["dictionary"] for path in (self.names, f"/name?cpe={OTHER}")], ["none"] * 2)
+        self.assertIn("No dictionary was given yet", self.page(server, self.names))
+        server.feed(feed("products", product(NAME % "1")))
+        server.feed(feed("vulnerabilities", advisory("CVE-2024-1", NAME % "1")))
+        server.put("m", NAME % "1")
+        server.put("empty", "cpe:2.3:no")
+        server.settled()
+        self.assertEqual([server.ask("GET", path)[1]["dictionary"] for path in (self.names, f"/name?cpe={OTHER}")], ["current"] * 2)
+        return server
+
+    names = "/names?q=thing"
+
+    def page(self, server, path):
+        return server.asked("GET", path, Accept="text/html")[1].decode()
+
+    def stop(self, server):
+        pids = server.children("cpe_service.worker")
+        for pid in pids:
+            os.kill(pid, signal.SIGSTOP)
+            self.addCleanup(os.kill, pid, signal.SIGCONT)
+        return pids
+
+    def unjudged(self, server, path):
+        value = server.ask("GET", path)[1]
+        return value["waiting"], value["faults"], value["noItems"]
+
+    def test_feeds_that_are_not_read_yet(self):
+        server = self.begin()
+        self.assertEqual(server.ask("GET", "/advisories/CVE-2024-9")[0], 404)
+        pids = self.stop(server)
+        server.feed(feed("vulnerabilities", advisory("CVE-2024-9", NAME % "1")))
+        status, value = server.ask("GET", "/advisories/CVE-2024-9")
+        self.assertEqual((status, value["detail"]), (503, "the feeds that were accepted aren't read yet; ask again"))
+        for path in ("/machines?kind=TRUE", "/advisories", "/advisories/CVE-2024-1", "/changes"):
+            self.assertEqual(self.unjudged(server, path), (2, 0, 1), path)
+            self.assertIn("2 machines are not judged yet", self.page(server, path))
+            self.assertIn("1 machine has no items", self.page(server, path))
+        # (the dictionary is as it was)
+        self.assertEqual(server.ask("GET", self.names)[1]["dictionary"], "current")
+        server.feed(feed("products", product(OTHER)))
+        for path in (self.names, f"/name?cpe={OTHER}"):
+            self.assertEqual(server.ask("GET", path)[1]["dictionary"], "waiting")
+            self.assertIn("The newest dictionary isn't read yet", html.unescape(self.page(server, path)))
+        for pid in pids:
+            os.kill(pid, signal.SIGCONT)
+        server.settled()
+        self.assertEqual(server.ask("GET", "/advisories/CVE-2024-9")[1]["counts"], {"TRUE": 1})
+        self.assertEqual(self.unjudged(server, "/changes"), (0, 0, 1))
+        _, value = server.ask("GET", self.names)
+        self.assertEqual((value["total"], value["dictionary"]), (1, "current"))
+
+
+class UnjudgedTest(WorkerCase):
+    def test_machines_without_a_result_are_counted(self):
+        self.feed("products", product(NAME % "1"))
+        self.feed("vulnerabilities", advisory("CVE-2024-1", NAME % "1"))
+        self.put("m", NAME % "1")
+        with mock.patch.object(worker.Judge, "judge", side_effect=KeyError("odd")):
+            self.judge()
+        found = queries.unjudged(self.judges._database)
+        self.assertEqual(found, {"waiting": 0, "faults": 1, "noItems": 0})
+        page = pages.page("changes", {"changes": [], **found}, {})
+        self.assertIn("1 machine has no result of the newest list", page)
+        self.judge()
+        self.put("m", NAME % "1")
+        self.judge()
+        self.assertEqual(set(queries.unjudged(self.judges._database).values()), {0})
 
 
 if __name__ == "__main__":
