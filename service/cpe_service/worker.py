@@ -20,7 +20,6 @@ from collections import Counter
 from collections.abc import Iterator, Sequence
 from pathlib import Path
 
-from cpe_recipes.components import Machine
 from cpe_recipes.feeds import FeedFault
 from cpe_recipes.program import Program
 from cpe_recipes.said import Fatal
@@ -39,6 +38,10 @@ _NEW, _OTHERS = 4, 16
 _TRIES, _SECONDS = 3, 30
 # How long it waits after what it couldn't do.
 _PAUSE = 5
+
+
+class NoResult(Exception):
+    """There is no result of some machines: their lists or the recipes have a fault."""
 
 
 class Worker:
@@ -142,14 +145,10 @@ class Worker:
     def _tried(self, waiting: Sequence[Waiting]) -> tuple[dict[str, Judged], dict[str, str]]:
         """The results of machines. If there is none of all together, each is judged alone, and the reasons are there of those without one."""
         try:
-            return {one.name: one for one in self._again([one.machine() for one in waiting])}, {}
-        except (sqlite3.Error, OSError):
-            raise
-        except Exception as fault:  # noqa: BLE001 (a list that nobody foresaw keeps no other machine waiting)
-            self._end()
+            return {one.name: one for one in self._again(waiting)}, {}
+        except NoResult as fault:
             if len(waiting) == 1:
-                is_foreseen = isinstance(fault, (Fatal, FeedFault))
-                return {}, {waiting[0].name: str(fault) if is_foreseen else f"the recipes have a fault: {type(fault).__name__} {fault}"}
+                return {}, {waiting[0].name: str(fault)}
         judged, faults = {}, {}
         for one in waiting:
             of_one, fault_of_one = self._tried([one])
@@ -157,15 +156,22 @@ class Worker:
             faults |= fault_of_one
         return judged, faults
 
-    def _again(self, machines: Sequence[Machine]) -> list[Judged]:
-        """The results of machines. If a run of cpe dies, all runs are started again."""
+    def _again(self, waiting: Sequence[Waiting]) -> list[Judged]:
+        """The results of machines. If a run of cpe dies, all runs are started again. NoResult if that doesn't help, or the recipes fail."""
         for left in reversed(range(_TRIES)):
+            # (what can't be read of the ground is no fault of a list)
+            judge = self._ready()
             try:
-                return self._ready().judge([Machine(one.name, one.components, one.platform) for one in machines])
-            except Fatal:
+                return judge.judge([one.machine() for one in waiting])
+            except (sqlite3.Error, OSError):
+                raise
+            except (Fatal, FeedFault) as fault:
                 self._end()
-                if not left:
-                    raise
+                if not left or isinstance(fault, FeedFault):
+                    raise NoResult(str(fault)) from fault
+            except Exception as fault:  # noqa: BLE001 (a list that nobody foresaw keeps no other machine waiting)
+                self._end()
+                raise NoResult(f"the recipes have a fault: {type(fault).__name__} {fault}") from fault
         raise AssertionError("there is a last try")
 
     def _write_fault(self, one: Waiting, fault: str, ground: int) -> None:

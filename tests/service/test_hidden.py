@@ -330,6 +330,18 @@ class ShownTest(ServiceCase):
 
 
 class UnjudgedTest(WorkerCase):
+    def test_a_ground_that_can_not_be_read_again_is_no_fault_of_a_list(self):
+        self.feed("products", product(NAME % "1"))
+        self.feed("vulnerabilities", advisory("CVE-2024-1", NAME % "1"))
+        self.put("m", NAME % "1")
+        read = ground.read_ground
+        with mock.patch.object(worker.Judge, "judge", side_effect=Fatal("cpe resolve ended")), mock.patch("sys.stderr"):
+            with mock.patch.object(worker, "read_ground", side_effect=[read(self.judges._database, self.judges._program, list), Fatal("no room")]):
+                self.assertEqual(self.judges._tried_step(), 5)
+        self.assertEqual((self.rows("judged_put, fault"), queries.health(self.judges._database)["trouble"]), ([(0, "")], ["no room"]))
+        self.judge()
+        self.assertEqual(self.verdicts("m"), {"CVE-2024-1": "TRUE"})
+
     def test_machines_without_a_result_are_counted(self):
         self.feed("products", product(NAME % "1"))
         self.feed("vulnerabilities", advisory("CVE-2024-1", NAME % "1"))
