@@ -38,6 +38,8 @@ _DAY = 24 * 3600
 _EVENTS = 200
 # How many clients may listen to /events, and after how many seconds they hear that the server is still there.
 _MOST_LISTENERS, _PAUSE = 200, 15
+# How many certificates a worker is asked for at once.
+_MOST_ASKED = 4
 _BOUNDS = (0.01, 0.05, 0.1, 0.5, 1, 2, 5, 10)
 _SECURITY = {
     "X-Content-Type-Options": "nosniff",
@@ -317,11 +319,15 @@ class Service:
         shard = await self.ask(_shard, machine)
         if shard is None:
             raise Problem(404, f"there is no machine {machine}")
-        message = {"do": "certificate", "machine": machine, "id": advisory}
+        message = {"do": "certificate", "machine": machine, "id": advisory, "until": time.time() + self.settings.seconds}
+        worker, busy = self._workers[shard % len(self._workers)], Problem(503, "the workers are busy; ask again", {"Retry-After": "30"})
+        # (who asks for certificates doesn't keep lists waiting)
+        if worker.asked() >= _MOST_ASKED:
+            raise busy
         try:
-            found = await self._workers[shard % len(self._workers)].ask(message, self.settings.seconds)
+            found = await worker.ask(message, self.settings.seconds)
         except asyncio.TimeoutError as fault:
-            raise Problem(503, "the workers are busy; ask again", {"Retry-After": "30"}) from fault
+            raise busy from fault
         for word, status in (("missing", 404), ("fault", 503)):
             if word in found:
                 raise Problem(status, found[word])

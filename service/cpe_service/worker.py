@@ -64,7 +64,8 @@ class Worker:
                 message = self._inbox.get(timeout=seconds) if seconds else self._inbox.get_nowait()
             except queue.Empty:
                 continue
-            if message["do"] == "certificate":
+            # (nobody waits any more for what comes late)
+            if message["do"] == "certificate" and time.time() < message["until"]:
                 self._send({"answer": message["number"], **self._certificate(message)})
 
     def _tried_step(self) -> float:

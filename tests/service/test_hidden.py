@@ -4,6 +4,8 @@ import json
 import os
 import signal
 import sys
+import threading
+import time
 import unittest
 from unittest import mock
 
@@ -272,6 +274,48 @@ class CertificateTest(WorkerCase):
         self.assertEqual(self.certificate("CVE-2024-9")["missing"], "nobody can be judged yet: no dictionary was given yet")
 
 
+class AskedTest(ServiceCase):
+    """Who asks for certificates keeps no list waiting."""
+
+    def test_more_certificates_than_a_worker_is_asked_for(self):
+        server = self.server("--rate", "100000", "--workers", "1", "--seconds", "5")
+        server.feed(feed("products", product(NAME % "1")))
+        server.feed(feed("vulnerabilities", advisory("CVE-2024-1", NAME % "1")))
+        server.put("m", NAME % "1")
+        pids, path, found = stopped(self, server), "/certificates/m/CVE-2024-1", []
+        begin = time.monotonic()
+        threads = [threading.Thread(target=lambda: found.append((server.ask("GET", path)[0], time.monotonic() - begin))) for _ in range(7)]
+        for thread in threads:
+            thread.start()
+        for thread in threads:
+            thread.join()
+        self.assertEqual([status for status, _ in found], [503] * 7)
+        # (some are refused at once, and the others when their time is over)
+        self.assertEqual(sum(seconds > 4.9 for _, seconds in found), 4, found)
+        for pid in pids:
+            os.kill(pid, signal.SIGCONT)
+        self.assertEqual(server.ask("GET", path)[1]["check"], ["proof CVE-2024-1 holds"])
+
+
+class LateTest(WorkerCase):
+    def test_a_certificate_that_comes_late_is_not_made(self):
+        for until in (0, time.time() + 60):
+            self.judges._inbox.put({"do": "certificate", "machine": "m", "id": "CVE-2024-1", "number": until, "until": until})
+        self.judges._tried_step = mock.Mock(side_effect=[0, 0, KeyboardInterrupt])
+        with mock.patch.object(worker.threading, "Thread"), self.assertRaises(KeyboardInterrupt):
+            self.judges.run()
+        self.assertEqual(self.judges.sent, [{"answer": until, "missing": "there is no machine m"}])
+
+
+def stopped(case, server):
+    """The workers of a server, which do nothing until they are continued."""
+    pids = server.children("cpe_service.worker")
+    for pid in pids:
+        os.kill(pid, signal.SIGSTOP)
+        case.addCleanup(os.kill, pid, signal.SIGCONT)
+    return pids
+
+
 class ShownTest(ServiceCase):
     """Answers from which something is missing say so."""
 
@@ -292,13 +336,6 @@ class ShownTest(ServiceCase):
     def page(self, server, path):
         return server.asked("GET", path, Accept="text/html")[1].decode()
 
-    def stop(self, server):
-        pids = server.children("cpe_service.worker")
-        for pid in pids:
-            os.kill(pid, signal.SIGSTOP)
-            self.addCleanup(os.kill, pid, signal.SIGCONT)
-        return pids
-
     def unjudged(self, server, path):
         value = server.ask("GET", path)[1]
         return value["waiting"], value["faults"], value["noItems"]
@@ -306,7 +343,7 @@ class ShownTest(ServiceCase):
     def test_feeds_that_are_not_read_yet(self):
         server = self.begin()
         self.assertEqual(server.ask("GET", "/advisories/CVE-2024-9")[0], 404)
-        pids = self.stop(server)
+        pids = stopped(self, server)
         server.feed(feed("vulnerabilities", advisory("CVE-2024-9", NAME % "1")))
         status, value = server.ask("GET", "/advisories/CVE-2024-9")
         self.assertEqual((status, value["detail"]), (503, "the feeds that were accepted aren't read yet; ask again"))
