@@ -169,8 +169,11 @@ class Service:
         return await run_in_threadpool(self._asked, question, values)
 
     def _asked(self, question: Callable, values: Sequence[Json]) -> Any:
-        # (a connection is one thread's at a time)
-        database = self._readers.pop() if self._readers else connected(self.settings.folder, is_reader=True)
+        # (a connection is one thread's at a time, and another thread may take the last one first)
+        try:
+            database = self._readers.pop()
+        except IndexError:
+            database = connected(self.settings.folder, is_reader=True)
         try:
             found = question(database, *values)
             return list(found) if hasattr(found, "__next__") else found

@@ -15,7 +15,7 @@ sys.path.insert(0, str(ROOT / "service"))
 import cpe_service  # noqa: E402, F401 (it puts the recipes on the path)
 from cpe_recipes import products  # noqa: E402
 from cpe_recipes.said import Fatal  # noqa: E402
-from cpe_service import database, ground, keeper, pages, queries, worker  # noqa: E402
+from cpe_service import app, database, ground, keeper, pages, queries, worker  # noqa: E402
 
 NAME = "cpe:2.3:a:acme:agent:%s:*:*:*:*:*:*:*"
 OTHER = "cpe:2.3:a:other:thing:1:*:*:*:*:*:*:*"
@@ -314,6 +314,19 @@ def stopped(case, server):
         os.kill(pid, signal.SIGSTOP)
         case.addCleanup(os.kill, pid, signal.SIGCONT)
     return pids
+
+
+class ReadersTest(WorkerCase):
+    def test_another_thread_takes_the_last_connection_first(self):
+        service = app.Service(app.Settings(self.folder / "data"))
+
+        class Taken(list):
+            def pop(self):
+                raise IndexError("pop from empty list")
+
+        service._readers = Taken([None])
+        self.assertEqual(service._asked(queries.last_change, ()), 0)
+        service._readers[1].close()
 
 
 class ShownTest(ServiceCase):
