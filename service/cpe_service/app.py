@@ -30,6 +30,7 @@ from .database import connected, writing
 from .processes import Gone, Keeper, Worker
 from .queries import time_text
 from .routes import ROUTES, Route, openapi
+from .texts import whole
 from .tokens import ANYONE, Client, NoTokens, Tokens
 
 VERSION = "0.1.0"
@@ -37,6 +38,8 @@ _DAY = 24 * 3600
 _EVENTS = 200
 # How many clients may listen to /events, and after how many seconds they hear that the server is still there.
 _MOST_LISTENERS, _PAUSE = 200, 15
+# How many certificates a worker is asked for at once.
+_MOST_ASKED = 4
 _BOUNDS = (0.01, 0.05, 0.1, 0.5, 1, 2, 5, 10)
 _SECURITY = {
     "X-Content-Type-Options": "nosniff",
@@ -88,6 +91,14 @@ class Numbers:
             found.append(f'cpe_request_seconds_bucket{{route="{name}",le="+Inf"}} {count}')
             found += [f'cpe_request_seconds_sum{{route="{name}"}} {self.seconds[name]:.6f}', f'cpe_request_seconds_count{{route="{name}"}} {count}']
         return found
+
+
+class Answer(JSONResponse):
+    """An answer in JSON."""
+
+    def render(self, content: Json) -> bytes:
+        # (names of components are in answers, and may be what has no bytes)
+        return whole(json.dumps(content, ensure_ascii=False, allow_nan=False, separators=(",", ":"))).encode()
 
 
 class Service:
@@ -158,8 +169,11 @@ class Service:
         return await run_in_threadpool(self._asked, question, values)
 
     def _asked(self, question: Callable, values: Sequence[Json]) -> Any:
-        # (a connection is one thread's at a time)
-        database = self._readers.pop() if self._readers else connected(self.settings.folder, is_reader=True)
+        # (a connection is one thread's at a time, and another thread may take the last one first)
+        try:
+            database = self._readers.pop()
+        except IndexError:
+            database = connected(self.settings.folder, is_reader=True)
         try:
             found = question(database, *values)
             return list(found) if hasattr(found, "__next__") else found
@@ -221,7 +235,7 @@ class Service:
             raise Problem(409, f"{machine} was removed meanwhile")
         value = {key: value[key] for key in ("name", "state", "counts", "edit", "judged", "fault", "leftOut", "remarks") if key in value}
         status = 202 if value["state"] == queries.WAITING else 201 if found["is_new"] else 200
-        return JSONResponse(value, status)
+        return Answer(value, status)
 
     async def _wait(self, machine: str, edit: int) -> None:
         """Waits for the verdicts of a list. They may be there before anyone waits, or not come for long."""
@@ -239,12 +253,12 @@ class Service:
         if "missing" in found:
             raise Problem(404, f"there is no machine {machine}")
         self._notify()
-        return JSONResponse({"name": machine, "state": "removed", "edit": found["edit"]})
+        return Answer({"name": machine, "state": "removed", "edit": found["edit"]})
 
     async def feeds(self, request: Request, client: Client, feed: str, whole: str) -> Response:
         message = {"do": "feed", "name": feed, "is_whole": whole == "true", "client": client.name}
         found = await self._keep(self._feeds, request, self.settings.most_feed, message)
-        return JSONResponse(found, 202)
+        return Answer(found, 202)
 
     async def table(self, _request: Request, _client: Client, table: str) -> Response:
         text = await self.ask(_table, table)
@@ -254,7 +268,7 @@ class Service:
 
     async def put_table(self, request: Request, client: Client, table: str) -> Response:
         async with body_of(request, self.settings.most_list, self.settings.seconds, self._room) as body:
-            return JSONResponse(await self._answer(self._lists, {"do": "table", "name": table, "client": client.name}, body))
+            return Answer(await self._answer(self._lists, {"do": "table", "name": table, "client": client.name}, body))
 
     # What is asked for.
 
@@ -273,7 +287,10 @@ class Service:
         return await self._told(request, {"advisories": found, "total": total}, int(limit), int(offset))
 
     async def advisory(self, request: Request, _client: Client, advisory: str, kind: str, limit: str, offset: str) -> Json:
-        value = await self.ask(queries.advisory, advisory, kind, int(limit), int(offset))
+        try:
+            value = await self.ask(queries.advisory, advisory, kind, int(limit), int(offset))
+        except queries.Unread as fault:
+            raise Problem(503, "the feeds that were accepted aren't read yet; ask again", {"Retry-After": "10"}) from fault
         if value is None:
             raise Problem(404, f"the feeds have no advisory {advisory}")
         return await self._told(request, value, int(limit), int(offset))
@@ -287,27 +304,33 @@ class Service:
     ) -> Json:
         values = _time(since, "since"), _time(until, "until"), int(after), machine, advisory, int(limit)
         found = await self.ask(queries.changes, *values)
-        value: dict[str, Json] = {"changes": found}
+        value: dict[str, Json] = {"changes": found, **await self.ask(queries.cautions)}
         if len(found) == int(limit):
             value["next"] = str(request.url.include_query_params(after=found[-1]["id"]).replace(scheme="", netloc=""))
         return value
 
     async def names(self, request: Request, _client: Client, q: str, limit: str, offset: str) -> Json:
+        state = await self.ask(queries.dictionary)
         found, total = await run_in_threadpool(entries.search, self.settings.folder, q, int(limit), int(offset))
-        return _paged(request, {"names": found, "total": total}, int(limit), int(offset))
+        return _paged(request, {"names": found, "total": total, **state}, int(limit), int(offset))
 
     async def name(self, _request: Request, _client: Client, cpe: str, **more: str) -> Json:
-        return await run_in_threadpool(naming.about, self._program, self.settings.folder, cpe, more["with"])
+        state = await self.ask(queries.dictionary)
+        return await run_in_threadpool(naming.about, self._program, self.settings.folder, cpe, more["with"]) | state
 
     async def certificate(self, _request: Request, _client: Client, machine: str, advisory: str) -> Json:
         shard = await self.ask(_shard, machine)
         if shard is None:
             raise Problem(404, f"there is no machine {machine}")
-        message = {"do": "certificate", "machine": machine, "id": advisory}
+        message = {"do": "certificate", "machine": machine, "id": advisory, "until": time.time() + self.settings.seconds}
+        worker, busy = self._workers[shard % len(self._workers)], Problem(503, "the workers are busy; ask again", {"Retry-After": "30"})
+        # (who asks for certificates doesn't keep lists waiting)
+        if worker.asked() >= _MOST_ASKED:
+            raise busy
         try:
-            found = await self._workers[shard % len(self._workers)].ask(message, self.settings.seconds)
+            found = await worker.ask(message, self.settings.seconds)
         except asyncio.TimeoutError as fault:
-            raise Problem(503, "the workers are busy; ask again", {"Retry-After": "30"}) from fault
+            raise busy from fault
         for word, status in (("missing", 404), ("fault", 503)):
             if word in found:
                 raise Problem(status, found[word])
@@ -318,7 +341,7 @@ class Service:
         value = await self.ask(queries.health)
         value["workers"] = len(self._workers)
         value["restarts"] = sum(max(one.restarts, 0) for one in (*self._workers, self._lists, self._feeds))
-        return {"version": VERSION, **value}
+        return Answer({"version": VERSION, **value})
 
     async def metrics(self, _request: Request, _client: Client) -> Response:
         lines, seen = [], set()
@@ -335,7 +358,7 @@ class Service:
         return Response("\n".join([*lines, *self.numbers.lines()]) + "\n", media_type="text/plain; version=0.0.4")
 
     async def openapi(self, _request: Request, _client: Client) -> Response:
-        return JSONResponse(openapi(VERSION))
+        return Answer(openapi(VERSION))
 
     async def events(self, request: Request, _client: Client, after: str) -> Response:
         if self._listeners >= _MOST_LISTENERS:
@@ -399,7 +422,7 @@ def _problem(fault: Problem, request: Request) -> Response:
     value = {"type": "about:blank", "title": title, "status": fault.status, "detail": fault.detail}
     if pages.is_wanted(request):
         return Response(pages.problem(value), fault.status, fault.headers, "text/html")
-    return JSONResponse(value, fault.status, fault.headers, "application/problem+json")
+    return Answer(value, fault.status, fault.headers, "application/problem+json")
 
 
 def _endpoint(service: Service, route: Route) -> Callable:
@@ -437,7 +460,7 @@ async def _answered(service: Service, route: Route, request: Request) -> Respons
         return found
     if pages.is_wanted(request):
         return Response(pages.page(route.name, found, values), media_type="text/html", headers={"Vary": "Accept"})
-    return JSONResponse(found, headers={"Vary": "Accept"})
+    return Answer(found, headers={"Vary": "Accept"})
 
 
 async def _http_fault(request: Request, fault: HTTPException) -> Response:

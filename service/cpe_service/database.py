@@ -3,7 +3,8 @@
 Each thing that was accepted is an edit: a list that was put or deleted, a feed, or a table of settings. Edits have numbers that grow.
 The ground is all that isn't a list. A machine has the edit of its list (`put`), and the two edits of which its verdicts are: that of its
 list (`judged_put`) and that of the ground (`judged_ground`). It waits while one of these is older than the edit that counts now. So the
-work that is left is always in the database, and a process that is started again continues with it.
+work that is left is always in the database, and a process that is started again continues with it. If there was no result then, what is
+shown is of the two edits before (`result_put`, `result_ground`).
 """
 from __future__ import annotations
 
@@ -15,7 +16,7 @@ from collections.abc import Iterator
 from pathlib import Path
 
 NAME = "service.db"
-VERSION = 1
+VERSION = 2
 # How long a writer waits for another one.
 _SECONDS = 60
 
@@ -28,7 +29,8 @@ CREATE TABLE edits (
 CREATE INDEX edits_of_ground ON edits (id) WHERE kind IN ('feed', 'names', 'letters', 'suppression', 'settled');
 CREATE TABLE machines (
     id INTEGER PRIMARY KEY AUTOINCREMENT, name TEXT NOT NULL UNIQUE, shard INTEGER NOT NULL, put INTEGER NOT NULL,
-    judged_put INTEGER NOT NULL DEFAULT 0, judged_ground INTEGER NOT NULL DEFAULT 0, judged_at REAL, counts TEXT NOT NULL DEFAULT '{}',
+    judged_put INTEGER NOT NULL DEFAULT 0, judged_ground INTEGER NOT NULL DEFAULT 0, result_put INTEGER NOT NULL DEFAULT 0,
+    result_ground INTEGER NOT NULL DEFAULT 0, judged_at REAL, counts TEXT NOT NULL DEFAULT '{}',
     fault TEXT NOT NULL DEFAULT '', said TEXT NOT NULL, list BLOB NOT NULL, result BLOB);
 CREATE INDEX machines_by_ground ON machines (judged_ground);
 CREATE INDEX machines_with_new_list ON machines (put) WHERE put <> judged_put;

@@ -14,6 +14,8 @@ from cpe_recipes import names
 from cpe_recipes.feeds import Json, record_text
 from cpe_recipes.program import Program
 
+from .texts import whole
+
 NAME = "names.db"
 _WORD = re.compile(r"\w+")
 # Of how many steps of deprecations a chain is drawn.
@@ -52,8 +54,8 @@ def _fill(database: sqlite3.Connection, records: Iterable[str], sum: str) -> Non
         name = value["name"]
         if value["do"] == "entry":
             number = numbers[name] = len(numbers) + 1
-            title = value.get("title", "")
-            database.execute("INSERT INTO entries VALUES (?, ?, ?, ?, NULL)", (number, name, title, record))
+            title = whole(value.get("title", ""))
+            database.execute("INSERT INTO entries VALUES (?, ?, ?, ?, NULL)", (number, name, title, whole(record)))
             database.execute("INSERT INTO words (rowid, text) VALUES (?, ?)", (number, f"{title} {_words_of(name)}"))
         elif name in numbers:
             database.execute("UPDATE entries SET change = ? WHERE id = ?", (record, numbers[name]))

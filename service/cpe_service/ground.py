@@ -53,6 +53,10 @@ class Ground:
         """Whether it has too few advisories for a list of this edit, since it was cut to what the machines had before."""
         return self.cut_at is not None and put > self.cut_at
 
+    def version(self) -> tuple[int, int]:
+        """What was read: the edit, and the last list that was looked at."""
+        return self.edit, self.cut_at or 0
+
     def json(self) -> dict[str, Json]:
         """What was left out of the feeds and tables, and which advisories have no verdict."""
         return self.said.as_json() | {"lacks": self.lacks}
@@ -93,7 +97,7 @@ def read_ground(database: sqlite3.Connection, program: Program, machines: Callab
         pages = [page for page in states.sort(latest.advisories(pages, said)) if page.records]
         cut = scan.of_products(pages, listed, of_all, entries, program, said)
         pages = cut.pages
-    known = Known([], [], {}, {}, {}, cut.elsewhere)
+    known = Known(entries, [], {}, {}, {}, cut.elsewhere)
     if any(page.records for page in pages):
         found = advisories.convert(pages, program, said, is_decided=True, states=states)
         records = program.accepted_statements(found.candidates, said)

@@ -155,12 +155,19 @@ def _missing(title: str, texts: Sequence[Json]) -> Iterator[str]:
         yield f'<section class="missing"><h2>{text(title)} <small>{len(texts):,}</small></h2>{_list(texts)}</section>\n'
 
 
+_UNJUDGED = (
+    ("waiting", "1 machine is", "machines are", "not judged yet by the newest list or feeds, so what is shown of them is older, or missing"),
+    ("faults", "1 machine has", "machines have", "no result of the newest list (their state is fault), so what is shown of them is older, or missing"),
+    ("noItems", "1 machine has", "machines have", "no items, so they have no verdicts"),
+)
+
+
 def _waits(value: Mapping[str, Json]) -> Iterator[str]:
     """What has to be known beside a list of verdicts."""
     found = []
-    if count := value["waiting"]:
-        are = "1 machine is" if count == 1 else f"{count:,} machines are"
-        found.append(f"{are} not judged yet by the newest list or feeds, so what is shown of them is older, or missing.")
+    for key, of_one, of_more, what in _UNJUDGED:
+        if count := value.get(key):
+            found.append(f"{of_one if count == 1 else f'{count:,} {of_more}'} {what}.")
     if count := value["feedsLeftOut"]:
         found.append(f"Not read of the feeds and tables: {count:,}.")
     if value.get("lacks"):
@@ -180,6 +187,13 @@ def _health(value: Mapping[str, Json], _asked: Mapping[str, str]) -> Iterator[st
     yield from _table(("What", "Now"), rows, "The state of the service")
     if value.get("remarks"):
         yield f"<details><summary>Remarks <small>{len(value['remarks']):,}</small></summary>{_list(value['remarks'])}</details>\n"
+
+
+def _older_names(value: Mapping[str, Json]) -> Iterator[str]:
+    """That there is no dictionary yet, or a newer one."""
+    if (state := value["dictionary"]) != "current":
+        what = "No dictionary was given yet" if state == "none" else "The newest dictionary isn't read yet, so names may be missing, or older"
+        yield f'<p class="none">{what}.</p>\n'
 
 
 def _machines(value: Mapping[str, Json], asked: Mapping[str, str]) -> Iterator[str]:
@@ -251,6 +265,7 @@ def _advisory(value: Mapping[str, Json], asked: Mapping[str, str]) -> Iterator[s
 
 
 def _changes(value: Mapping[str, Json], asked: Mapping[str, str]) -> Iterator[str]:
+    yield from _waits(value)
     fields = (("since", "Since (2026-12-01)"), ("until", "Until"), ("machine", "Machine"), ("advisory", "Advisory"))
     yield from _form("/changes", asked, *fields)
     rows = (
@@ -264,6 +279,7 @@ def _changes(value: Mapping[str, Json], asked: Mapping[str, str]) -> Iterator[st
 
 
 def _names(value: Mapping[str, Json], asked: Mapping[str, str]) -> Iterator[str]:
+    yield from _older_names(value)
     yield from _form("/names", asked, ("q", "Words of a name or title"))
     rows = (
         (_link(_query("/name", cpe=one["name"]), one["name"]), text(one["title"]), _list(one.get("successors", ())) if one["deprecated"] else "")
@@ -274,6 +290,7 @@ def _names(value: Mapping[str, Json], asked: Mapping[str, str]) -> Iterator[str]
 
 
 def _name(value: Mapping[str, Json], asked: Mapping[str, str]) -> Iterator[str]:
+    yield from _older_names(value)
     yield from _form("/name", asked, ("cpe", "CPE name"), ("with", "Compare with"))
     forms = [(label, f"<code>{text(value[key])}</code>") for key, label in _FORMS if key in value]
     yield from _table(("Form", "The name"), forms, "The name in all its forms")
@@ -313,9 +330,17 @@ def _compared(value: Mapping[str, Json], other: Mapping[str, Json]) -> Iterator[
     yield from _table(("Attribute", "The name", "Is to", "The other"), rows, f"The name is {other['relation']} to {other['formattedString']}")
 
 
+_STATES = {
+    "waiting": "The machine waits for its verdicts, so those that are shown of it are older than this certificate.",
+    "fault": "There is no result of the list of the machine, so the verdicts that are shown of it are older than this certificate.",
+}
+
+
 def _certificate(value: Mapping[str, Json], _asked: Mapping[str, str]) -> Iterator[str]:
     machine, advisory = value["machine"], value["advisory"]
     yield f"<p>{_link(_path('machines', machine), machine)}, {_link(_path('advisories', advisory), advisory)}</p>\n"
+    if value["state"] != "judged":
+        yield f'<p class="none">{_STATES[value["state"]]}</p>\n'
     yield f"<h2>Why</h2><pre>{text_lines(value['words'])}</pre>\n"
     yield f"<h2>What <code>cpe check</code> says of it</h2><pre>{text_lines(value['check'])}</pre>\n"
     for key, called in (("certificates", "The certificate"), ("records", "The records over which it is")):

@@ -129,6 +129,10 @@ class Worker:
             return True
         return False
 
+    def asked(self) -> int:
+        """How many of its answers are waited for."""
+        return len(self._answers)
+
     async def ask(self, message: Message, seconds: float) -> Message:
         """Its answer. Gone if it ends before, asyncio.TimeoutError if it takes longer."""
         number = next(self._numbers)

@@ -9,12 +9,16 @@ from datetime import datetime, timezone
 
 from cpe_recipes.feeds import Json
 
-from .database import ground_of, noted, reading, unpacked
+from .database import GROUND, ground_of, noted, reading, unpacked
 from .feeds import WAITING, waiting
 
 # The kinds of verdicts that are listed, in their order.
 KINDS = ("TRUE", "ERROR", "UNKNOWN", "perhaps", "accepted")
 _RANKS = " ".join(f"WHEN '{kind}' THEN {rank}" for rank, kind in enumerate(KINDS))
+
+
+class Unread(Exception):
+    """The feeds that were accepted aren't read yet, so it isn't known whether they have what is asked for."""
 
 
 def time_text(seconds: float | None) -> str | None:
@@ -47,16 +51,32 @@ def waiting_machines(database: sqlite3.Connection) -> int:
 
 
 def cautions(database: sqlite3.Connection) -> dict[str, Json]:
-    """What has to be known beside a list of verdicts: how many machines wait, and how much of the feeds was not read."""
+    """What has to be known beside a list of verdicts: how many machines wait for their verdicts, have no result of their list, or have no
+    items, so that it is without these; and how much of the feeds was not read."""
+    row = database.execute(
+        "SELECT total(put <> judged_put OR judged_ground <> ?) waiting, total(fault <> '') faults, "
+        "total(instr(counts, '\"no items\"') > 0) noItems FROM machines",
+        (ground_of(database),),
+    ).fetchone()
     about = json.loads(noted(database, "ground", "{}"))
     lacks = {"lacks": about["lacks"]} if about.get("lacks") else {}
-    return {"waiting": waiting_machines(database), "feedsLeftOut": len(about.get("leftOut", ())), **lacks}
+    return {key: int(row[key]) for key in row.keys()} | {"feedsLeftOut": len(about.get("leftOut", ())), **lacks}
+
+
+def dictionary(database: sqlite3.Connection) -> dict[str, Json]:
+    """Of which dictionary the names are: `current`, an older one (`waiting`), or `none`."""
+    marks = ", ".join("?" * len(GROUND))
+    question = f"SELECT max(id) FROM edits WHERE kind IN ({marks}) AND what LIKE 'dictionary %'"
+    with reading(database):
+        edit = database.execute(question, GROUND).fetchone()[0]
+        is_read = edit is not None and int(noted(database, "names", "-1")) >= edit
+    return {"dictionary": "none" if edit is None else "current" if is_read else WAITING}
 
 
 def _machine(row: sqlite3.Row, ground: int) -> dict[str, Json]:
     return {
         "name": row["name"],
-        "state": _state(row, ground),
+        "state": state_of(row, ground),
         "counts": json.loads(row["counts"]),
         "judged": time_text(row["judged_at"]),
         "edit": row["put"],
@@ -64,7 +84,8 @@ def _machine(row: sqlite3.Row, ground: int) -> dict[str, Json]:
     }
 
 
-def _state(row: sqlite3.Row, ground: int) -> str:
+def state_of(row: sqlite3.Row, ground: int) -> str:
+    """Whether the verdicts of a machine are of its list and this ground, and if not, why."""
     if row["put"] != row["judged_put"] or row["judged_ground"] != ground:
         return WAITING
     return "fault" if row["fault"] else "judged"
@@ -145,7 +166,8 @@ def _details(database: sqlite3.Connection, id: str) -> dict[str, Json]:
 
 
 def advisory(database: sqlite3.Connection, id: str, kind: str, limit: int, offset: int) -> dict[str, Json] | None:
-    """An advisory with its machines, each with its verdict and since when; None if the feeds don't have it, and no machine."""
+    """An advisory with its machines, each with its verdict and since when; None if the feeds don't have it, and no machine. Unread if
+    the feeds aren't read yet."""
     where, values = "advisory = ?", [id]
     if kind:
         where, values = f"{where} AND kind = ?", [*values, kind]
@@ -159,10 +181,13 @@ def advisory(database: sqlite3.Connection, id: str, kind: str, limit: int, offse
         ).fetchall()
         counts = Counter(dict(map(tuple, database.execute("SELECT kind, count(*) FROM verdicts WHERE advisory = ? GROUP BY kind", (id,)))))
         is_known = database.execute("SELECT 1 FROM advisories WHERE id = ?", (id,)).fetchone() is not None
+        is_read = int(noted(database, "noted", "-1")) == ground
     if not is_known and not counts:
-        return None
+        if is_read:
+            return None
+        raise Unread
     total = counts[kind] if kind else sum(counts.values())
-    of = [{"name": row["name"], "verdict": row["kind"], "since": time_text(row["since"]), "state": _state(row, ground)} for row in rows]
+    of = [{"name": row["name"], "verdict": row["kind"], "since": time_text(row["since"]), "state": state_of(row, ground)} for row in rows]
     return {"id": id, **details, "counts": dict(counts), "machines": of, "total": total}
 
 

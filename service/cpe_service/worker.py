@@ -20,7 +20,6 @@ from collections import Counter
 from collections.abc import Iterator, Sequence
 from pathlib import Path
 
-from cpe_recipes.components import Machine
 from cpe_recipes.feeds import FeedFault
 from cpe_recipes.program import Program
 from cpe_recipes.said import Fatal
@@ -30,6 +29,7 @@ from .database import connected, ground_of, note, noted, packed, reading, writin
 from .frames import Message
 from .ground import Ground, read_ground
 from .judge import Judge, Judged
+from .texts import whole
 from .waiting import Waiting
 
 # How many machines are judged together: of new lists, on whose answers clients wait, and of others.
@@ -38,6 +38,10 @@ _NEW, _OTHERS = 4, 16
 _TRIES, _SECONDS = 3, 30
 # How long it waits after what it couldn't do.
 _PAUSE = 5
+
+
+class NoResult(Exception):
+    """There is no result of some machines: their lists or the recipes have a fault."""
 
 
 class Worker:
@@ -60,7 +64,8 @@ class Worker:
                 message = self._inbox.get(timeout=seconds) if seconds else self._inbox.get_nowait()
             except queue.Empty:
                 continue
-            if message["do"] == "certificate":
+            # (nobody waits any more for what comes late)
+            if message["do"] == "certificate" and time.time() < message["until"]:
                 self._send({"answer": message["number"], **self._certificate(message)})
 
     def _tried_step(self) -> float:
@@ -72,7 +77,7 @@ class Worker:
             traceback.print_exception(fault)
             self._is_troubled = True
             with contextlib.suppress(sqlite3.Error), writing(self._database):
-                note(self._database, f"trouble {self._shard}", str(fault) or type(fault).__name__)
+                note(self._database, f"trouble {self._shard}", whole(str(fault)) or type(fault).__name__)
             return _PAUSE
 
     def _listen(self) -> None:
@@ -90,14 +95,13 @@ class Worker:
         if self._is_troubled:
             self._database.execute("DELETE FROM notes WHERE name = ?", (f"trouble {self._shard}",))
             self._is_troubled = False
-        if judge.ground.lacks:
-            return False
         waiting = self._waiting(judge.ground.edit)
-        if not waiting:
-            return False
-        if judge.ground.is_before(max(one.put for one in waiting)):
+        if waiting and judge.ground.is_before(max(one.put for one in waiting)):
             # (it has the advisories alone that may concern the machines of then)
             self._end()
+            judge = self._ready()
+        if judge.ground.lacks or not waiting:
+            return False
         judged, faults = self._tried(waiting)
         with writing(self._database):
             for one in waiting:
@@ -142,14 +146,10 @@ class Worker:
     def _tried(self, waiting: Sequence[Waiting]) -> tuple[dict[str, Judged], dict[str, str]]:
         """The results of machines. If there is none of all together, each is judged alone, and the reasons are there of those without one."""
         try:
-            return {one.name: one for one in self._again([one.machine() for one in waiting])}, {}
-        except (sqlite3.Error, OSError):
-            raise
-        except Exception as fault:  # noqa: BLE001 (a list that nobody foresaw keeps no other machine waiting)
-            self._end()
+            return {one.name: one for one in self._again(waiting)}, {}
+        except NoResult as fault:
             if len(waiting) == 1:
-                is_foreseen = isinstance(fault, (Fatal, FeedFault))
-                return {}, {waiting[0].name: str(fault) if is_foreseen else f"the recipes have a fault: {type(fault).__name__} {fault}"}
+                return {}, {waiting[0].name: str(fault)}
         judged, faults = {}, {}
         for one in waiting:
             of_one, fault_of_one = self._tried([one])
@@ -157,35 +157,42 @@ class Worker:
             faults |= fault_of_one
         return judged, faults
 
-    def _again(self, machines: Sequence[Machine]) -> list[Judged]:
-        """The results of machines. If a run of cpe dies, all runs are started again."""
+    def _again(self, waiting: Sequence[Waiting]) -> list[Judged]:
+        """The results of machines. If a run of cpe dies, all runs are started again. NoResult if that doesn't help, or the recipes fail."""
         for left in reversed(range(_TRIES)):
+            # (what can't be read of the ground is no fault of a list)
+            judge = self._ready()
             try:
-                return self._ready().judge([Machine(one.name, one.components, one.platform) for one in machines])
-            except Fatal:
+                return judge.judge([one.machine() for one in waiting])
+            except (sqlite3.Error, OSError):
+                raise
+            except (Fatal, FeedFault) as fault:
                 self._end()
-                if not left:
-                    raise
+                if not left or isinstance(fault, FeedFault):
+                    raise NoResult(str(fault)) from fault
+            except Exception as fault:  # noqa: BLE001 (a list that nobody foresaw keeps no other machine waiting)
+                self._end()
+                raise NoResult(f"the recipes have a fault: {type(fault).__name__} {fault}") from fault
         raise AssertionError("there is a last try")
 
     def _write_fault(self, one: Waiting, fault: str, ground: int) -> None:
         """Writes why there is no result. What was known before stays, and the fault is beside it."""
         columns = "judged_put = ?, judged_ground = ?, judged_at = ?, fault = ?"
-        self._database.execute(f"UPDATE machines SET {columns} WHERE id = ?", (one.put, ground, time.time(), fault, one.id))
+        self._database.execute(f"UPDATE machines SET {columns} WHERE id = ?", (one.put, ground, time.time(), whole(fault), one.id))
 
     def _write(self, one: Waiting, judged: Judged) -> None:
         """Writes the result of a machine, if it is still there."""
         database = self._database
-        row = database.execute("SELECT judged_put, judged_ground FROM machines WHERE id = ?", (one.id,)).fetchone()
+        row = database.execute("SELECT result_put, result_ground, fault, counts FROM machines WHERE id = ?", (one.id,)).fetchone()
         if row is None:
             return
         at = time.time()
         self._write_changes(one, judged, row, at)
-        result = packed(queries.result_text(judged.row | {"said": judged.said}).encode(errors="replace"))
+        result = packed(whole(queries.result_text(judged.row | {"said": judged.said})).encode())
         counts = json.dumps(Counter(judged.kinds.values()) if judged.has_items else {"no items": 1})
-        columns = "judged_put = ?, judged_ground = ?, judged_at = ?, fault = '', counts = ?, result = ?"
+        columns = "judged_put = ?, judged_ground = ?, result_put = ?, result_ground = ?, judged_at = ?, fault = '', counts = ?, result = ?"
         edits = one.put, judged.judge.ground.edit
-        database.execute(f"UPDATE machines SET {columns} WHERE id = ?", (*edits, at, counts, result, one.id))
+        database.execute(f"UPDATE machines SET {columns} WHERE id = ?", (*edits, *edits, at, counts, result, one.id))
 
     def _write_changes(self, one: Waiting, judged: Judged, row: sqlite3.Row, at: float) -> None:
         database = self._database
@@ -196,7 +203,7 @@ class Worker:
         cause, edit = self._cause(one, row, judged.judge.ground.edit)
         database.executemany(
             "INSERT INTO history (at, machine, advisory, before, after, cause, edit, reason) VALUES (?, ?, ?, ?, ?, ?, ?, ?)",
-            [(at, one.name, id, then, now, cause, edit, reason) for id, then, now, reason in changes],
+            [(at, one.name, id, then, now, cause, edit, whole(reason)) for id, then, now, reason in changes],
         )
         database.executemany(
             "DELETE FROM verdicts WHERE machine = ? AND advisory = ?", [(one.id, id) for id, _, _, _ in changes if id not in judged.kinds]
@@ -215,43 +222,53 @@ class Worker:
                 yield id, then, now, reason
 
     def _without(self, advisory: str, row: sqlite3.Row) -> str:
-        """The verdict before of an advisory that had no row: FALSE, if it was asked for when the machine was judged."""
+        """The verdict before of an advisory that had no row: FALSE, if it was asked for when the machine was judged, and the machine had items."""
+        if not row["result_put"] or row["fault"] or "no items" in json.loads(row["counts"]):
+            return "none"
         asked = self._database.execute("SELECT asked FROM advisories WHERE id = ?", (advisory,)).fetchone()
-        is_asked = row["judged_put"] and asked is not None and asked["asked"] is not None and asked["asked"] <= row["judged_ground"]
+        is_asked = asked is not None and asked["asked"] is not None and asked["asked"] <= row["result_ground"]
         return "FALSE" if is_asked else "none"
 
     def _cause(self, one: Waiting, row: sqlite3.Row, ground: int) -> tuple[str, int]:
-        """By which edits verdicts may have changed: their kinds, and the number of the last of them."""
-        since = row["judged_ground"] if row["judged_put"] else ground
+        """By which edits verdicts may have changed since the last result: their kinds, and the number of the last of them."""
+        since = row["result_ground"] if row["result_put"] else ground
         edits = self._database.execute(
             "SELECT kind, id FROM edits WHERE id > ? AND id <= ? AND kind NOT IN ('list', 'delete') ORDER BY id", (since, ground)
         ).fetchall()
         found = {edit["kind"]: edit["id"] for edit in edits}
-        if one.put != row["judged_put"]:
+        if one.put != row["result_put"]:
             found = {"list": one.put, **found}
         return " and ".join(found), max(found.values(), default=ground)
 
     def _note(self, ground: Ground) -> None:
         """Notes what the feeds state of advisories, unless another worker did."""
         with writing(self._database) as database:
-            if ground.edit > int(noted(database, "noted", "-1")):
+            # (what was cut to the machines has more after a new list)
+            if ground.version() > (int(noted(database, "noted", "-1")), int(noted(database, "noted up to list", "0"))):
                 _note_advisories(database, ground)
                 note(database, "ground", json.dumps(ground.json()))
                 note(database, "noted", str(ground.edit))
+                note(database, "noted up to list", str(ground.cut_at or 0))
         if self._shard == 0:
             entries.write(self._folder, ground.entries)
+            with writing(self._database) as database:
+                note(database, "names", str(ground.edit))
 
     def _certificate(self, message: Message) -> Message:
-        row = self._database.execute(
-            "SELECT id, name, put, list FROM machines WHERE name = ?", (message["machine"],)
-        ).fetchone()
+        """The certificate of the list and the ground as they are now; `state` says whether the verdicts that are shown are of these."""
+        row = self._database.execute("SELECT * FROM machines WHERE name = ?", (message["machine"],)).fetchone()
         if row is None:
             return {"missing": f"there is no machine {message['machine']}"}
+        one = Waiting(row["id"], row["name"], row["put"], row["list"])
         try:
-            return certificates.made(self._ready(), Waiting(*row).machine(), message["id"])
+            if self._ready().ground.is_before(one.put):
+                self._end()
+            judge = self._ready()
+            found = certificates.made(judge, one.machine(), message["id"])
         except Exception as fault:  # noqa: BLE001 (who asks gets an answer)
             self._end()
             return {"fault": str(fault) or type(fault).__name__}
+        return found | {"edit": one.put, "ground": judge.ground.edit, "state": queries.state_of(row, judge.ground.edit)}
 
 
 def _note_advisories(database: sqlite3.Connection, ground: Ground) -> None:
@@ -262,10 +279,10 @@ def _note_advisories(database: sqlite3.Connection, ground: Ground) -> None:
     states |= {id: f"left out: {reason}" for id, reason, _ in ground.said.noted if id not in asked}
     known = {row["id"]: tuple(row) for row in database.execute("SELECT id, asked, state, details FROM advisories")}
     for id in {**dict.fromkeys(asked), **states}:
-        details = json.dumps(ground.known.details.get(id, {}), ensure_ascii=False)
-        before = known.pop(id, None)
+        details = whole(json.dumps(ground.known.details.get(id, {}), ensure_ascii=False))
+        before = known.pop(whole(id), None)
         since = (before[1] if before and before[1] is not None else ground.edit) if id in asked else None
-        now = id, since, "" if id in asked else states[id], details
+        now = whole(id), since, "" if id in asked else whole(states[id]), details
         if now != before:
             database.execute("INSERT OR REPLACE INTO advisories VALUES (?, ?, ?, ?)", now)
     database.executemany("DELETE FROM advisories WHERE id = ?", [(id,) for id in known])
