@@ -106,7 +106,11 @@ def add(folder: Path, name: str, may_write: bool) -> str:
     if _LINE.fullmatch(line) is None:
         raise NoTokens(f"{name!r} is no name of a client: it has letters, digits and _.@- alone, at most 100")
     path = folder / NAME
-    descriptor = os.open(path, os.O_WRONLY | os.O_APPEND | os.O_CREAT, 0o600)
-    with os.fdopen(descriptor, "a", encoding="utf-8") as file:
-        file.write(f"{line}\n")
+    descriptor = os.open(path, os.O_RDWR | os.O_APPEND | os.O_CREAT, 0o600)
+    with os.fdopen(descriptor, "ab+") as file:
+        # (an editor may have left the last line without its end)
+        size = file.seek(0, os.SEEK_END)
+        file.seek(max(size - 1, 0))
+        begin = b"" if file.read(1) in (b"", b"\n") else b"\n"
+        file.write(begin + f"{line}\n".encode())
     return token
