@@ -246,6 +246,11 @@ class Service:
         found = await self._keep(self._feeds, request, self.settings.most_feed, message)
         return JSONResponse(found, 202)
 
+    async def delete_feed(self, _request: Request, _client: Client, number: str) -> Response:
+        if "missing" in await self._answer(self._feeds, {"do": "drop", "feed": int(number)}):
+            raise Problem(404, f"no feed {number} waits for pages")
+        return JSONResponse({"feed": int(number), "state": "removed"})
+
     async def table(self, _request: Request, _client: Client, table: str) -> Response:
         text = await self.ask(_table, table)
         if text is None:

@@ -1,7 +1,8 @@
 """The feeds that were accepted, record by record: of each id that record which counts, by the recipes' own rule (cpe_recipes.latest).
 
-A page may be a part of its feed. Its records wait until all pages of the feed are there, as they say themselves (cpe_recipes.whole).
-Then all of them count, in one transaction. So no verdict is ever made over a part of a feed.
+A page may be a part of its feed. Then the client names the fetch of which it is, and its records wait until all pages of this name are
+there, as they say themselves (cpe_recipes.whole). Then all of them count, in one transaction. So no verdict is ever made over a part of a
+feed, or over pages of two. A feed of which no page arrives for an hour is given up, and said.
 """
 from __future__ import annotations
 
@@ -30,13 +31,15 @@ CALLED = {"products": "dictionary", "vulnerabilities": "advisories", RECORDS: "a
 KINDS = tuple(dict.fromkeys((*dictionary.KINDS, *advisories.KINDS, *matches.KINDS)))
 WAITING, COUNTS = "waiting", "counts"
 _CHUNK = 2_000
+# How long a feed waits for its next page, and of how many feeds the pages are known when they are sent again.
+_SECONDS_WAITING, _KNOWN = 3_600, 1_000
 # To how many bytes a page may unpack.
 _LIMITS = Limits(most=1 << 30)
 
 
 @dataclass(frozen=True)
 class Offer:
-    """A feed that a client gives: the name by which its pages belong together, and whether it replaces all of its kind."""
+    """A feed that a client gives: the name of the fetch of which its pages are, and whether it replaces all of its kind."""
 
     name: str
     is_whole: bool
@@ -57,55 +60,101 @@ class Feeds:
         if len(kinds) > 1:
             raise Fatal(f"pages of {' and of '.join(sorted(kinds))} are in it, and a feed has one kind")
         (called,) = kinds
+        spans = self._spans(found, offer)
+        missing = _missing_of(found[0].kind, spans, self.said)
+        if missing and not offer.name:
+            # (pages without a name could be those of two fetches)
+            raise Fatal(f"{missing[0]}: give the pages of a fetch a name (?feed=NAME), or put all of them into one file")
         sum = hashlib.sha256(data).hexdigest()
         with writing(self._database):
-            answer = self._put(called, found, sum, offer)
+            self._give_up_old()
+            if not missing:
+                answer = self._put(self._new(called, offer, ""), called, found, offer)
+            else:
+                answer = self._put_part(called, found, spans, sum, offer)
         return answer | {"remarks": self.said.lines}
 
-    def _put(self, called: str, found: list[Page], sum: str, offer: Offer) -> dict[str, Json]:
+    def _spans(self, found: list[Page], offer: Offer) -> list[Span]:
+        """The pages as parts of their feed. Fatal if one is odd, or can't be all of its kind though it is said to be."""
         spans = [whole.span_of(page) for page in found if "totalResults" in page.counts]
         for one in whole.odd_of(found[0].kind, spans):
             raise Fatal(f"{one.words()}; {one.where}")
-        feed = self._feed(called, offer, spans, sum)
-        known = self._database.execute("SELECT 1 FROM pages WHERE feed = ? AND sum = ?", (feed, sum)).fetchone()
-        if known is None:
+        if len(spans) < len(found):
+            if offer.is_whole:
+                raise Fatal("whole=true needs pages with totalResults, since it isn't known otherwise whether this is all of the feed")
+            self.said.remark("no totalResults, so it isn't known whether this is all of the feed")
+        if offer.is_whole and not any(span.total for span in spans):
+            raise Fatal("whole=true with no record would remove all of its kind")
+        return spans
+
+    def _put_part(self, called: str, found: list[Page], spans: list[Span], sum: str, offer: Offer) -> dict[str, Json]:
+        """Puts pages that aren't all of their feed, which has a name."""
+        finished = self._named(called, offer, COUNTS)
+        if finished is not None:
+            if self._database.execute("SELECT 1 FROM pages WHERE feed = ? AND sum = ?", (finished["id"], sum)).fetchone():
+                # (who asks again didn't get the answer)
+                return self._about(finished["id"], called) | {"state": COUNTS, "new": 0, "edit": finished["edit"]}
+            raise Fatal(f"all pages of {offer.name} were there, as feed {finished['id']}: another fetch needs another name")
+        row = self._named(called, offer, WAITING)
+        if row is not None and self._is_fetched_again(row["id"], spans, sum):
+            row = None
+        feed = self._new(called, offer, offer.name) if row is None else row["id"]
+        if self._database.execute("SELECT 1 FROM pages WHERE feed = ? AND sum = ?", (feed, sum)).fetchone() is None:
             text = json.dumps([asdict(span) for span in spans])
             self._database.execute("INSERT INTO pages VALUES (?, ?, ?, ?)", (feed, sum, offer.name, text))
-            for page in found:
-                self._database.executemany(
-                    "INSERT INTO records (feed, kind, key, modified, number, body) VALUES (?, ?, ?, ?, ?, ?)", _rows(feed, page)
-                )
-        missing = self._missing(feed, found[0].kind)
-        answer: dict[str, Json] = {"feed": feed, "kind": called, "records": self._records(feed)}
+            self._insert(feed, found)
+        self._database.execute("UPDATE feeds SET at = ? WHERE id = ?", (time.time(), feed))
+        rows = self._database.execute("SELECT span FROM pages WHERE feed = ?", (feed,)).fetchall()
+        missing = _missing_of(found[0].kind, [Span(**one) for row in rows for one in json.loads(row["span"])], self.said)
         if missing:
-            return answer | {"state": WAITING, "missing": missing}
+            return self._about(feed, called) | {"state": WAITING, "missing": missing}
+        return self._finished(feed, called, offer)
+
+    def _put(self, feed: int, called: str, found: list[Page], offer: Offer) -> dict[str, Json]:
+        """Puts pages that are all of their feed."""
+        self._insert(feed, found)
+        return self._finished(feed, called, offer)
+
+    def _insert(self, feed: int, found: list[Page]) -> None:
+        for page in found:
+            self._database.executemany(
+                "INSERT INTO records (feed, kind, key, modified, number, body) VALUES (?, ?, ?, ?, ?, ?)", _rows(feed, page)
+            )
+
+    def _finished(self, feed: int, called: str, offer: Offer) -> dict[str, Json]:
+        """Has a feed count, of which all pages are there."""
+        answer = self._about(feed, called)
         self._count(feed, called, offer.is_whole)
         new = self._records(feed)
         edit = new_edit(self._database, "feed", f"{called} {feed}", offer.client) if new or offer.is_whole else None
-        self._database.execute("UPDATE feeds SET state = ?, edit = ? WHERE id = ?", (COUNTS, edit, feed))
-        self._database.execute("DELETE FROM pages WHERE feed = ?", (feed,))
+        self._database.execute("UPDATE feeds SET state = ?, edit = ?, at = ? WHERE id = ?", (COUNTS, edit, time.time(), feed))
+        # (a page that is sent again is known by its sum)
+        self._database.execute("UPDATE pages SET span = '[]' WHERE feed = ?", (feed,))
+        self._database.execute(
+            "DELETE FROM pages WHERE feed IN (SELECT id FROM feeds WHERE state = ? ORDER BY id DESC LIMIT -1 OFFSET ?)", (COUNTS, _KNOWN)
+        )
         return answer | {"state": COUNTS, "new": new, "edit": edit}
+
+    def _about(self, feed: int, called: str) -> dict[str, Json]:
+        return {"feed": feed, "kind": called, "records": self._records(feed)}
 
     def _records(self, feed: int) -> int:
         return self._database.execute("SELECT count(*) FROM records WHERE feed = ?", (feed,)).fetchone()[0]
 
-    def _feed(self, called: str, offer: Offer, spans: list[Span], sum: str) -> int:
-        """The number of the feed to which pages belong: the one that waits under this name, or a new one."""
-        name = offer.name
-        if not name and spans and not all(map(Span.is_alone, spans)):
-            # (pages of one feed state the same total; who fetches two at once names them)
-            name = f"of {max(span.total for span in spans)}"
-        given = (called, name, offer.is_whole, WAITING)
-        row = self._database.execute(
-            "SELECT id FROM feeds WHERE kind = ? AND name = ? AND is_whole = ? AND state = ?", given
-        ).fetchone() if name else None
-        if row is not None and not self._is_fetched_again(row["id"], spans, sum):
-            return row["id"]
-        number = self._database.execute(
-            "INSERT INTO feeds (kind, name, is_whole, state, at) VALUES (?, ?, ?, ?, ?)", (*given, time.time())
-        ).lastrowid
+    def _new(self, called: str, offer: Offer, name: str) -> int:
+        """The number of a new feed."""
+        row = called, name, offer.is_whole, WAITING, time.time()
+        number = self._database.execute("INSERT INTO feeds (kind, name, is_whole, state, at) VALUES (?, ?, ?, ?, ?)", row).lastrowid
         assert number is not None
         return number
+
+    def _named(self, called: str, offer: Offer, state: str) -> sqlite3.Row | None:
+        """The feed of this name. Fatal if its other pages were sent with another `whole`."""
+        question = "SELECT id, is_whole, edit FROM feeds WHERE kind = ? AND name = ? AND state = ?"
+        row = self._database.execute(question, (called, offer.name, state)).fetchone()
+        if row is not None and bool(row["is_whole"]) != offer.is_whole:
+            raise Fatal(f"the other pages of {offer.name} were sent {'with' if row['is_whole'] else 'without'} whole=true")
+        return row
 
     def _is_fetched_again(self, feed: int, spans: list[Span], sum: str) -> bool:
         """Whether a page of a feed that waits arrives with other records. Then what waited of it is given up, and said."""
@@ -113,16 +162,30 @@ class Feeds:
         starts = {one["start"] for row in rows for one in json.loads(row["span"])}
         if starts.isdisjoint(span.start for span in spans):
             return False
-        self.said.remark(f"feed {feed}, of which pages are missing, is given up, since a page of it arrives with other records")
-        for table, column in (("pages", "feed"), ("records", "feed"), ("feeds", "id")):
-            self._database.execute(f"DELETE FROM {table} WHERE {column} = ?", (feed,))
+        self._give_up(feed, "since a page of it arrives with other records")
         return True
 
-    def _missing(self, feed: int, kind: str) -> list[str]:
-        """In words, what is missing of a feed."""
-        rows = self._database.execute("SELECT span FROM pages WHERE feed = ?", (feed,)).fetchall()
-        spans = [Span(**one) for row in rows for one in json.loads(row["span"])]
-        return [f"{one.words()}; {one.where}" for one in whole.missing_of(kind, spans, Quiet())]
+    def _give_up_old(self) -> None:
+        """Gives up the feeds of which no page arrived for long."""
+        old = self._database.execute("SELECT id FROM feeds WHERE state = ? AND at < ?", (WAITING, time.time() - _SECONDS_WAITING)).fetchall()
+        for row in old:
+            self._give_up(row["id"], f"since no page of it arrived for {_SECONDS_WAITING // 60} minutes")
+
+    def _give_up(self, feed: int, why: str) -> None:
+        self.said.remark(f"feed {feed}, of which pages are missing, is given up, {why}")
+        self._drop(feed)
+
+    def _drop(self, feed: int) -> None:
+        for table, column in (("pages", "feed"), ("records", "feed"), ("feeds", "id")):
+            self._database.execute(f"DELETE FROM {table} WHERE {column} = ?", (feed,))
+
+    def drop(self, feed: int) -> bool:
+        """Removes a feed that waits for pages. False if none of this number does."""
+        with writing(self._database):
+            is_there = self._database.execute("SELECT 1 FROM feeds WHERE id = ? AND state = ?", (feed, WAITING)).fetchone() is not None
+            if is_there:
+                self._drop(feed)
+        return is_there
 
     def _count(self, feed: int, called: str, is_whole: bool) -> None:
         """Has the records of a feed count: of each key the later ones, and those of the same time that differ."""
@@ -168,6 +231,11 @@ def _pages_in(data: bytes, said: Quiet) -> Iterator[Page]:
             yield from read_pages([str(path)], said, KINDS, strict=True, limits=_LIMITS)
         except Fatal as fault:
             raise Fatal(str(fault).removeprefix(f"{path.name}: ")) from fault
+
+
+def _missing_of(kind: str, spans: list[Span], said: Quiet) -> list[str]:
+    """In words, what is missing of the feed of these pages."""
+    return [f"{one.words()}; {one.where}" for one in whole.missing_of(kind, spans, said)]
 
 
 def _rows(feed: int, page: Page) -> Iterator[tuple]:

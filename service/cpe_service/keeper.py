@@ -41,7 +41,7 @@ class Keeper:
 
     def __init__(self, folder: Path) -> None:
         self._database = connected(folder)
-        self._does = {"put": self._put, "delete": self._delete, "feed": self._feed, "table": self._table}
+        self._does = {"put": self._put, "delete": self._delete, "feed": self._feed, "drop": self._drop, "table": self._table}
 
     def answer(self, message: Message, body: bytes) -> Message:
         """The answer to a message."""
@@ -90,6 +90,10 @@ class Keeper:
 
     def _feed(self, message: Message, body: bytes) -> Message:
         return Feeds(self._database).take(body, Offer(message["name"], message["is_whole"], message["client"]))
+
+    def _drop(self, message: Message, _body: bytes) -> Message:
+        """Removes a feed that waits for pages."""
+        return {} if Feeds(self._database).drop(message["feed"]) else {"missing": True}
 
     def _table(self, message: Message, body: bytes) -> Message:
         """Keeps a table of settings, if each line of it can be read."""

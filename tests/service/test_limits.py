@@ -1,8 +1,11 @@
 """Limits that no client passes, and what they see of it: files of tokens, connections, feeds whose pages are missing, and bodies that unpack to too much."""
+import contextlib
+import json
+import sqlite3
 import sys
 import unittest
 
-from service_case import ROOT, ServiceCase
+from service_case import ROOT, ServiceCase, feed
 
 sys.path.insert(0, str(ROOT / "service"))
 from cpe_service import tokens  # noqa: E402
@@ -17,6 +20,60 @@ class TokensTest(ServiceCase):
         second = tokens.add(folder, "b", False)
         known = tokens.Tokens(folder)
         self.assertEqual([known.client(f"Bearer {one}").name for one in (first, second)], ["a", "b"])
+
+
+def page(start, *ids, total=4):
+    """A page of advisories."""
+    records = [{"cve": {"id": id, "lastModified": "2024-01-01T00:00:00.000"}} for id in ids]
+    return {"startIndex": start, "resultsPerPage": len(records), "totalResults": total, "vulnerabilities": records}
+
+
+class FeedsTest(ServiceCase):
+    def test_pages_of_two_fetches_are_never_one_feed(self):
+        server = self.server()
+        for query in ({}, {"whole": "true"}):
+            status, value = server.feed(page(2, "CVE-1-3", "CVE-1-4"), **query)
+            self.assertEqual((status, value["detail"].partition(": ")[2][:34]), (422, "give the pages of a fetch a name ("))
+        self.assertEqual(server.feed(page(2, "CVE-1-3", "CVE-1-4"), feed="yesterday")[1]["state"], "waiting")
+        self.assertEqual(server.feed(page(0, "CVE-2-1", "CVE-2-2"), feed="today")[1]["state"], "waiting")
+        value = server.feed(page(2, "CVE-2-3", "CVE-2-4"), feed="today")[1]
+        self.assertEqual((value["state"], value["records"]), ("counts", 4))
+        # (all pages in one file are those of one fetch)
+        self.assertEqual(server.feed("".join(map(json.dumps, (page(2, "CVE-3-3", "CVE-3-4"), page(0, "CVE-3-1", "CVE-3-2")))))[1]["state"], "counts")
+        self.assertEqual([one["name"] for one in server.ask("GET", "/health")[1]["feedsWaiting"]], ["yesterday"])
+
+    def test_a_page_that_is_sent_again_is_answered_by_its_feed(self):
+        server = self.server()
+        server.feed(page(0, "CVE-1-1", "CVE-1-2"), feed="x")
+        value = server.feed(page(2, "CVE-1-3", "CVE-1-4"), feed="x")[1]
+        again = server.feed(page(2, "CVE-1-3", "CVE-1-4"), feed="x")[1]
+        self.assertEqual(again, value | {"new": 0})
+        self.assertEqual(server.ask("GET", "/health")[1]["feedsWaiting"], [])
+        status, value = server.feed(page(0, "CVE-1-5", "CVE-1-6"), feed="x")
+        self.assertEqual((status, value["detail"]), (422, "all pages of x were there, as feed 1: another fetch needs another name"))
+
+    def test_a_feed_that_waits_is_given_up(self):
+        server = self.server()
+        number = server.feed(page(0, "CVE-1-1", "CVE-1-2"), feed="x")[1]["feed"]
+        status, value = server.feed(page(2, "CVE-1-3", "CVE-1-4"), feed="x", whole="true")
+        self.assertEqual((status, value["detail"]), (422, "the other pages of x were sent without whole=true"))
+        with contextlib.closing(sqlite3.connect(server.folder / "service.db")) as database, database:
+            database.execute("UPDATE feeds SET at = at - 3601")
+        value = server.feed(page(2, "CVE-1-3", "CVE-1-4"), feed="x")[1]
+        self.assertEqual(value["remarks"], [f"feed {number}, of which pages are missing, is given up, since no page of it arrived for 60 minutes"])
+        self.assertEqual((value["state"], value["records"]), ("waiting", 2))
+        self.assertEqual(server.ask("DELETE", f"/feeds/{value['feed']}"), (200, {"feed": value["feed"], "state": "removed"}))
+        self.assertEqual(server.ask("DELETE", f"/feeds/{value['feed']}")[0], 404)
+        self.assertEqual(server.ask("GET", "/health")[1]["feedsWaiting"], [])
+
+    def test_what_replaces_all_of_its_kind_says_that_it_is_all(self):
+        server = self.server()
+        server.feed(feed("vulnerabilities", {"cve": {"id": "CVE-1"}}))
+        status, value = server.feed({"vulnerabilities": [{"cve": {"id": "CVE-2"}}]}, whole="true")
+        self.assertEqual((status, value["detail"][:39]), (422, "whole=true needs pages with totalResults"[:39]))
+        self.assertEqual(server.feed(feed("vulnerabilities"), whole="true")[0], 422)
+        value = server.feed({"vulnerabilities": [{"cve": {"id": "CVE-2"}}]})[1]
+        self.assertEqual((value["state"], value["remarks"]), ("counts", ["no totalResults, so it isn't known whether this is all of the feed"]))
 
 
 if __name__ == "__main__":
