@@ -1,11 +1,12 @@
 """Limits that no client passes, and what they see of it: files of tokens, connections, feeds whose pages are missing, and bodies that unpack to too much."""
 import contextlib
 import json
+import socket
 import sqlite3
 import sys
 import unittest
 
-from service_case import ROOT, ServiceCase, feed
+from service_case import PATIENCE, ROOT, ServiceCase, feed
 
 sys.path.insert(0, str(ROOT / "service"))
 from cpe_service import tokens  # noqa: E402
@@ -20,6 +21,29 @@ class TokensTest(ServiceCase):
         second = tokens.add(folder, "b", False)
         known = tokens.Tokens(folder)
         self.assertEqual([known.client(f"Bearer {one}").name for one in (first, second)], ["a", "b"])
+
+
+class ConnectionsTest(ServiceCase):
+    def test_a_request_that_never_ends_is_closed_behind_a_first_one_too(self):
+        server = self.server()
+        connections = []
+        for end in (b"", b"GET /machines HTTP/1.1\r\nX: "):
+            connection = socket.create_connection(("127.0.0.1", server.port), PATIENCE)
+            self.addCleanup(connection.close)
+            connection.sendall(b"GET /tables/letters HTTP/1.1\r\nHost: localhost\r\n\r\n")
+            self.assertTrue(connection.recv(4_096).startswith(b"HTTP/1.1 404 "))
+            connection.sendall(end)
+            connections.append(connection)
+        with socket.create_connection(("127.0.0.1", server.port), PATIENCE) as listener:
+            listener.sendall(b"GET /events HTTP/1.1\r\nHost: localhost\r\n\r\n")
+            self.assertIn(b"listening", listener.recv(4_096) + listener.recv(4_096))
+            for connection in connections:
+                # (it is looked at each 30 seconds)
+                connection.settimeout(2 * PATIENCE)
+                self.assertEqual(connection.recv(1), b"")
+            # (a request that runs is left alone)
+            listener.settimeout(PATIENCE)
+            self.assertIn(b"still here", listener.recv(4_096))
 
 
 def page(start, *ids, total=4):
