@@ -6,13 +6,15 @@ feed, or over pages of two. A feed of which no page arrives for an hour is given
 """
 from __future__ import annotations
 
+import contextlib
 import hashlib
+import itertools
 import json
 import sqlite3
 import tempfile
 import time
 from collections.abc import Iterable, Iterator, Mapping
-from dataclasses import asdict, dataclass
+from dataclasses import asdict, dataclass, field
 from pathlib import Path
 
 from cpe_recipes import advisories, dictionary, matches, whole
@@ -29,7 +31,7 @@ from .quiet import Quiet
 # What pages have, and how they are called in the API.
 CALLED = {"products": "dictionary", "vulnerabilities": "advisories", RECORDS: "advisories", "matchStrings": "matches"}
 KINDS = tuple(dict.fromkeys((*dictionary.KINDS, *advisories.KINDS, *matches.KINDS)))
-WAITING, COUNTS = "waiting", "counts"
+ARRIVING, WAITING, COUNTS = "arriving", "waiting", "counts"
 _CHUNK = 2_000
 # How long a feed waits for its next page, and of how many feeds the pages are known when they are sent again.
 _SECONDS_WAITING, _KNOWN = 3_600, 1_000
@@ -46,6 +48,19 @@ class Offer:
     client: str
 
 
+@dataclass
+class Arriving:
+    """A file of pages as it is read: its sum, the number of the feed that its records have meanwhile, its kind, and its parts of the feed.
+    `is_unsaid` if a page doesn't say of how many records it is."""
+
+    sum: str
+    feed: int = 0
+    kind: str = ""
+    called: str = ""
+    spans: list[Span] = field(default_factory=list)
+    is_unsaid: bool = False
+
+
 class Feeds:
     """Takes pages of feeds."""
 
@@ -55,71 +70,80 @@ class Feeds:
     def take(self, data: bytes, offer: Offer) -> dict[str, Json]:
         """Takes the pages of a file. Fatal if one can't be read; then nothing of it is kept."""
         self.said = Quiet()
-        found = list(_pages_in(data, self.said))
-        kinds = {CALLED[page.kind] for page in found}
-        if len(kinds) > 1:
-            raise Fatal(f"pages of {' and of '.join(sorted(kinds))} are in it, and a feed has one kind")
-        (called,) = kinds
-        spans = self._spans(found, offer)
-        missing = _missing_of(found[0].kind, spans, self.said)
-        if missing and not offer.name:
-            # (pages without a name could be those of two fetches)
-            raise Fatal(f"{missing[0]}: give the pages of a fetch a name (?feed=NAME), or put all of them into one file")
-        sum = hashlib.sha256(data).hexdigest()
-        with writing(self._database):
-            self._give_up_old()
-            if not missing:
-                answer = self._put(self._new(called, offer, ""), called, found, offer)
-            else:
-                answer = self._put_part(called, found, spans, sum, offer)
+        file = Arriving(hashlib.sha256(data).hexdigest())
+        try:
+            for page in _pages_in(data, self.said):
+                self._arrive(file, page, offer)
+            if offer.is_whole and not any(span.total for span in file.spans):
+                raise Fatal("whole=true with no record would remove all of its kind")
+            if file.is_unsaid:
+                self.said.remark("no totalResults, so it isn't known whether this is all of the feed")
+            missing = _missing_of(file.kind, file.spans, self.said)
+            if missing and not offer.name:
+                # (pages without a name could be those of two fetches)
+                raise Fatal(f"{missing[0]}: give the pages of a fetch a name (?feed=NAME), or put all of them into one file")
+            with writing(self._database):
+                self._give_up_old()
+                answer = self._put_part(file, offer) if missing else self._finished(file.feed, file.called, offer)
+        except BaseException:
+            # (what a full disk leaves of it is removed later)
+            with contextlib.suppress(sqlite3.Error), writing(self._database):
+                self._drop(file.feed)
+            raise
         return answer | {"remarks": self.said.lines}
 
-    def _spans(self, found: list[Page], offer: Offer) -> list[Span]:
-        """The pages as parts of their feed. Fatal if one is odd, or can't be all of its kind though it is said to be."""
-        spans = [whole.span_of(page) for page in found if "totalResults" in page.counts]
-        for one in whole.odd_of(found[0].kind, spans):
-            raise Fatal(f"{one.words()}; {one.where}")
-        if len(spans) < len(found):
-            if offer.is_whole:
-                raise Fatal("whole=true needs pages with totalResults, since it isn't known otherwise whether this is all of the feed")
-            self.said.remark("no totalResults, so it isn't known whether this is all of the feed")
-        if offer.is_whole and not any(span.total for span in spans):
-            raise Fatal("whole=true with no record would remove all of its kind")
-        return spans
+    def _arrive(self, file: Arriving, page: Page, offer: Offer) -> None:
+        """Keeps a page of a file, which doesn't count yet. Fatal if it is odd, or can't be all of its kind though it is said to be.
 
-    def _put_part(self, called: str, found: list[Page], spans: list[Span], sum: str, offer: Offer) -> dict[str, Json]:
+        It is packed before it is written, and written in pieces, so no other writer waits for long.
+        """
+        called = CALLED[page.kind]
+        if file.kind and called != file.called:
+            raise Fatal(f"pages of {' and of '.join(sorted((called, file.called)))} are in it, and a feed has one kind")
+        if not file.kind:
+            file.kind, file.called = page.kind, called
+            with writing(self._database):
+                file.feed = self._new(called, offer)
+        if "totalResults" in page.counts:
+            span = whole.span_of(page)
+            for one in whole.odd_of(page.kind, [span]):
+                raise Fatal(f"{one.words()}; {one.where}")
+            file.spans.append(span)
+        elif offer.is_whole:
+            raise Fatal("whole=true needs pages with totalResults, since it isn't known otherwise whether this is all of the feed")
+        else:
+            file.is_unsaid = True
+        rows = _rows(file.feed, page)
+        while some := list(itertools.islice(rows, _CHUNK)):
+            with writing(self._database):
+                self._database.executemany("INSERT INTO records (feed, kind, key, modified, number, body) VALUES (?, ?, ?, ?, ?, ?)", some)
+
+    def _put_part(self, file: Arriving, offer: Offer) -> dict[str, Json]:
         """Puts pages that aren't all of their feed, which has a name."""
+        database, called, sum = self._database, file.called, file.sum
         finished = self._named(called, offer, COUNTS)
         if finished is not None:
-            if self._database.execute("SELECT 1 FROM pages WHERE feed = ? AND sum = ?", (finished["id"], sum)).fetchone():
+            if database.execute("SELECT 1 FROM pages WHERE feed = ? AND sum = ?", (finished["id"], sum)).fetchone():
                 # (who asks again didn't get the answer)
+                self._drop(file.feed)
                 return self._about(finished["id"], called) | {"state": COUNTS, "new": 0, "edit": finished["edit"]}
             raise Fatal(f"all pages of {offer.name} were there, as feed {finished['id']}: another fetch needs another name")
         row = self._named(called, offer, WAITING)
-        if row is not None and self._is_fetched_again(row["id"], spans, sum):
+        if row is not None and self._is_fetched_again(row["id"], file.spans, sum):
             row = None
-        feed = self._new(called, offer, offer.name) if row is None else row["id"]
-        if self._database.execute("SELECT 1 FROM pages WHERE feed = ? AND sum = ?", (feed, sum)).fetchone() is None:
-            text = json.dumps([asdict(span) for span in spans])
-            self._database.execute("INSERT INTO pages VALUES (?, ?, ?, ?)", (feed, sum, offer.name, text))
-            self._insert(feed, found)
-        self._database.execute("UPDATE feeds SET at = ? WHERE id = ?", (time.time(), feed))
-        rows = self._database.execute("SELECT span FROM pages WHERE feed = ?", (feed,)).fetchall()
-        missing = _missing_of(found[0].kind, [Span(**one) for row in rows for one in json.loads(row["span"])], self.said)
+        feed = file.feed if row is None else row["id"]
+        database.execute("UPDATE feeds SET state = ?, name = ?, at = ? WHERE id = ?", (WAITING, offer.name, time.time(), feed))
+        if database.execute("SELECT 1 FROM pages WHERE feed = ? AND sum = ?", (feed, sum)).fetchone() is None:
+            text = json.dumps([asdict(span) for span in file.spans])
+            database.execute("INSERT INTO pages VALUES (?, ?, ?, ?)", (feed, sum, offer.name, text))
+            database.execute("UPDATE records SET feed = ? WHERE feed = ?", (feed, file.feed))
+        if feed != file.feed:
+            self._drop(file.feed)
+        rows = database.execute("SELECT span FROM pages WHERE feed = ?", (feed,)).fetchall()
+        missing = _missing_of(file.kind, [Span(**one) for row in rows for one in json.loads(row["span"])], self.said)
         if missing:
             return self._about(feed, called) | {"state": WAITING, "missing": missing}
         return self._finished(feed, called, offer)
-
-    def _put(self, feed: int, called: str, found: list[Page], offer: Offer) -> dict[str, Json]:
-        """Puts pages that are all of their feed."""
-        self._insert(feed, found)
-        return self._finished(feed, called, offer)
-
-    def _insert(self, feed: int, found: list[Page]) -> None:
-        for page in found:
-            self._database.executemany(
-                "INSERT INTO records (feed, kind, key, modified, number, body) VALUES (?, ?, ?, ?, ?, ?)", _rows(feed, page)
-            )
 
     def _finished(self, feed: int, called: str, offer: Offer) -> dict[str, Json]:
         """Has a feed count, of which all pages are there."""
@@ -141,10 +165,10 @@ class Feeds:
     def _records(self, feed: int) -> int:
         return self._database.execute("SELECT count(*) FROM records WHERE feed = ?", (feed,)).fetchone()[0]
 
-    def _new(self, called: str, offer: Offer, name: str) -> int:
-        """The number of a new feed."""
-        row = called, name, offer.is_whole, WAITING, time.time()
-        number = self._database.execute("INSERT INTO feeds (kind, name, is_whole, state, at) VALUES (?, ?, ?, ?, ?)", row).lastrowid
+    def _new(self, called: str, offer: Offer) -> int:
+        """The number of a new feed, whose pages arrive."""
+        row = called, offer.is_whole, ARRIVING, time.time()
+        number = self._database.execute("INSERT INTO feeds (kind, name, is_whole, state, at) VALUES (?, '', ?, ?, ?)", row).lastrowid
         assert number is not None
         return number
 
@@ -167,9 +191,13 @@ class Feeds:
 
     def _give_up_old(self) -> None:
         """Gives up the feeds of which no page arrived for long."""
-        old = self._database.execute("SELECT id FROM feeds WHERE state = ? AND at < ?", (WAITING, time.time() - _SECONDS_WAITING)).fetchall()
-        for row in old:
-            self._give_up(row["id"], f"since no page of it arrived for {_SECONDS_WAITING // 60} minutes")
+        question = "SELECT id, state FROM feeds WHERE state IN (?, ?) AND at < ?"
+        for row in self._database.execute(question, (WAITING, ARRIVING, time.time() - _SECONDS_WAITING)).fetchall():
+            if row["state"] == WAITING:
+                self._give_up(row["id"], f"since no page of it arrived for {_SECONDS_WAITING // 60} minutes")
+            else:
+                # (a process ended while it wrote it, and nobody had an answer)
+                self._drop(row["id"])
 
     def _give_up(self, feed: int, why: str) -> None:
         self.said.remark(f"feed {feed}, of which pages are missing, is given up, {why}")
@@ -194,6 +222,7 @@ class Feeds:
         if is_whole:
             marks = ", ".join("?" * len(kinds))
             database.execute(f"DELETE FROM records WHERE feed <> ? AND kind IN ({marks}) AND {_COUNTING}", (feed, *kinds))
+        database.execute(f"DELETE FROM records WHERE id IN ({_OLDER})", {"feed": feed})
         twice = database.execute(
             "SELECT DISTINCT kind, key FROM records new WHERE feed = ? AND key <> '' AND EXISTS (SELECT 1 FROM records old WHERE old.kind = new.kind "
             f"AND old.key = new.key AND old.id <> new.id AND (old.feed = new.feed OR {_COUNTING_OLD}))",
@@ -220,6 +249,19 @@ class Feeds:
 
 _COUNTING = f"feed IN (SELECT id FROM feeds WHERE state = '{COUNTS}')"
 _COUNTING_OLD = f"old.feed IN (SELECT id FROM feeds WHERE state = '{COUNTS}')"
+
+# The older of each two records of a key, if the database can say which it is; all else is for cpe_recipes.latest.
+_TIME = "strftime('%Y-%m-%dT%H:%M:%fZ', {0}.modified, '+0 days') = rtrim({0}.modified, 'Z') || 'Z' AND {0}.modified > '0001'"
+_OLDER = f"""
+WITH keys AS (SELECT DISTINCT kind, key FROM records WHERE feed = :feed AND key <> ''),
+two AS (
+    SELECT min(one.id) first, max(one.id) last FROM keys JOIN records one ON one.kind = keys.kind AND one.key = keys.key
+    WHERE one.feed = :feed OR one.{_COUNTING} GROUP BY keys.kind, keys.key HAVING count(*) = 2)
+SELECT CASE WHEN rtrim(old.modified, 'Z') < rtrim(new.modified, 'Z') THEN old.id ELSE new.id END
+FROM two JOIN records old ON old.id = first JOIN records new ON new.id = last
+WHERE old.modified = new.modified AND old.body = new.body
+OR rtrim(old.modified, 'Z') <> rtrim(new.modified, 'Z') AND {_TIME.format('old')} AND {_TIME.format('new')}
+"""
 
 
 def _pages_in(data: bytes, said: Quiet) -> Iterator[Page]:

@@ -4,12 +4,17 @@ import json
 import socket
 import sqlite3
 import sys
+import tempfile
 import unittest
+from pathlib import Path
+from unittest import mock
 
 from service_case import PATIENCE, ROOT, ServiceCase, feed
 
 sys.path.insert(0, str(ROOT / "service"))
-from cpe_service import tokens  # noqa: E402
+from cpe_service import database, feeds, keeper, tokens  # noqa: E402
+
+FEED = {"do": "feed", "name": "", "is_whole": False, "client": "x"}
 
 
 class TokensTest(ServiceCase):
@@ -98,6 +103,50 @@ class FeedsTest(ServiceCase):
         self.assertEqual(server.feed(feed("vulnerabilities"), whole="true")[0], 422)
         value = server.feed({"vulnerabilities": [{"cve": {"id": "CVE-2"}}]})[1]
         self.assertEqual((value["state"], value["remarks"]), ("counts", ["no totalResults, so it isn't known whether this is all of the feed"]))
+
+    def test_a_feed_is_packed_while_others_may_write(self):
+        keeps = self.keeper()
+        pack, seen = feeds.packed, []
+
+        def packs(data):
+            seen.append(keeps._database.in_transaction)
+            return pack(data)
+
+        with mock.patch.object(feeds, "packed", packs), mock.patch.object(feeds, "_CHUNK", 2):
+            self.assertEqual(self.keep(keeps, page(0, "CVE-1", "CVE-2", "CVE-3", total=3))["state"], "counts")
+        self.assertEqual(seen, [False] * 3)
+
+    def test_which_record_counts_is_the_same_if_the_database_says_it_first(self):
+        times = ["", "no time", "0000-01-01T00:00:00.000", "2024-02-31T00:00:00.000", "2024-01-01", "2024-01-01T24:00:00.000", "2023-12-31T23:59:59.999"]
+        times += [f"2024-01-0{day}T00:00:00{end}" for day in (1, 2) for end in ("", ".000", ".000Z", ".001", ".000+01:00", ".0000", "Z", ".000ZZ")]
+        both = [(first, second, text) for first in times for second in times for text in "xy"]
+        found = []
+        for older in (feeds._OLDER, "SELECT 0"):
+            keeps = self.keeper()
+            with mock.patch.object(feeds, "_OLDER", older):
+                for turn in (0, 1):
+                    records = [{"cve": {"id": f"CVE-{k}", "lastModified": one[turn], "descriptions": [one[2] if turn else "x"]}} for k, one in enumerate(both)]
+                    self.assertEqual(self.keep(keeps, feed("vulnerabilities", *records))["state"], "counts")
+            found.append([tuple(row) for row in keeps._database.execute("SELECT key, modified, body FROM records ORDER BY id")])
+        self.assertEqual(found[0], found[1])
+
+    def test_what_was_written_of_a_file_that_is_refused_is_removed(self):
+        keeps = self.keeper()
+        answer = keeps.answer(FEED, b"".join(json.dumps(one).encode() for one in (page(0, "CVE-1", total=1), {"vulnerabilities": 1})))
+        self.assertIn("refused", answer)
+        self.assertEqual([keeps._database.execute(f"SELECT count(*) FROM {table}").fetchone()[0] for table in ("feeds", "records")], [0, 0])
+        # (and what a process left that was killed is removed when it is old)
+        keeps._database.execute("INSERT INTO feeds (kind, name, is_whole, state, at) VALUES ('advisories', '', 0, 'arriving', 0)")
+        self.assertEqual(self.keep(keeps, page(0, "CVE-1", total=1))["remarks"], [])
+        self.assertEqual(keeps._database.execute("SELECT count(*) FROM feeds").fetchone()[0], 1)
+
+    def keeper(self):
+        folder = Path(tempfile.mkdtemp(dir=self.folder))
+        database.made(folder)
+        return keeper.Keeper(folder)
+
+    def keep(self, keeps, value):
+        return keeps.answer(FEED, json.dumps(value).encode())
 
 
 if __name__ == "__main__":
