@@ -35,7 +35,7 @@ except ImportError as fault:
 
 from cpe_recipes.said import Fatal
 
-from . import database, taking, tokens
+from . import database, keeper, taking, tokens
 from .app import Settings, made
 
 _MOST_CONNECTIONS = 4_096
@@ -179,6 +179,7 @@ def main() -> None:
             case ["backup", file]:
                 _backup(given.data, Path(file))
             case ["take", folder]:
+                keeper.limit_memory()
                 found = []
                 for is_taken, line in taking.take(given.data, Path(folder)):
                     print(line, flush=True)

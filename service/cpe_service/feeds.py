@@ -35,8 +35,8 @@ ARRIVING, WAITING, COUNTS = "arriving", "waiting", "counts"
 _CHUNK = 2_000
 # How long a feed waits for its next page, and of how many feeds the pages are known when they are sent again.
 _SECONDS_WAITING, _KNOWN = 3_600, 1_000
-# To how many bytes a page may unpack.
-_LIMITS = Limits(most=1 << 30)
+# To how many bytes a page may unpack, and all pages of an archive. (All of NVD's matches are some GB.)
+_LIMITS = Limits(most=1 << 30, most_of_all=8 << 30)
 
 
 @dataclass(frozen=True)

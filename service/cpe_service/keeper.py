@@ -6,6 +6,7 @@ take is a `fault`. An answer without either was written to the disk before.
 from __future__ import annotations
 
 import json
+import resource
 import signal
 import sqlite3
 import sys
@@ -32,6 +33,8 @@ from .quiet import Quiet
 
 # To how many bytes a list may unpack.
 _LIMITS = Limits(most=256 << 20)
+# How much memory a keeper may take. (A page takes about six times its bytes, so one of 600 MB fits.)
+_MOST_MEMORY = 4 << 30
 # In how many parts the machines may be shared out among workers, at most.
 SHARDS = 256
 
@@ -51,6 +54,8 @@ class Keeper:
             return {"refused": str(fault)}
         except RecursionError:
             return {"refused": "it is nested too deep"}
+        except MemoryError:
+            return {"refused": "reading it takes more memory than the service gives"}
         except (sqlite3.Error, OSError) as fault:
             return {"fault": f"it could not be kept: {fault}"}
         except Exception as fault:  # noqa: BLE001 (what a reader didn't foresee is refused too, and the log has it)
@@ -132,8 +137,15 @@ def _unpacked(body: bytes) -> bytes:
         return read_feed(str(path), _LIMITS)
 
 
+def limit_memory(most: int = _MOST_MEMORY) -> None:
+    """Limits the memory of this process, so what would take more is refused, and ends nothing else."""
+    hard = resource.getrlimit(resource.RLIMIT_AS)[1]
+    resource.setrlimit(resource.RLIMIT_AS, (most if hard == resource.RLIM_INFINITY else min(most, hard), hard))
+
+
 def main() -> None:
     """Answers messages until there is none."""
+    limit_memory()
     # (who interrupts the server ends it, and it ends its processes)
     signal.signal(signal.SIGINT, signal.SIG_IGN)
     keeper = Keeper(Path(sys.argv[1]))

@@ -1,11 +1,16 @@
 """Limits that no client passes, and what they see of it: files of tokens, connections, feeds whose pages are missing, and bodies that unpack to too much."""
 import contextlib
+import dataclasses
+import io
 import json
+import resource
 import socket
 import sqlite3
+import subprocess
 import sys
 import tempfile
 import unittest
+import zipfile
 from pathlib import Path
 from unittest import mock
 
@@ -55,6 +60,37 @@ def page(start, *ids, total=4):
     """A page of advisories."""
     records = [{"cve": {"id": id, "lastModified": "2024-01-01T00:00:00.000"}} for id in ids]
     return {"startIndex": start, "resultsPerPage": len(records), "totalResults": total, "vulnerabilities": records}
+
+
+class MemoryTest(ServiceCase):
+    def test_what_takes_more_memory_than_there_is_is_refused(self):
+        words = "from cpe_service import keeper, database; from pathlib import Path; keeper.limit_memory(300 << 20); folder = Path(sys.argv[1]); "
+        words += "database.made(folder); keeps = keeper.Keeper(folder); body = b'{\"bomFormat\":\"CycloneDX\",\"components\":[' + b'{},' * (8 << 20) + b'{}]}'; "
+        words += "put = {'do': 'put', 'name': 'm', 'client': 'x'}; print(keeps.answer(put, body), 'edit' in keeps.answer(put, b'cpe:/a:ntp:ntp:4.2.8'))"
+        run = subprocess.run(
+            [sys.executable, "-B", "-c", "import sys; " + words, str(self.folder)], cwd=ROOT / "service", capture_output=True, text=True, timeout=PATIENCE
+        )
+        self.assertEqual(run.stdout, "{'refused': 'reading it takes more memory than the service gives'} True\n", run.stderr)
+
+    def test_the_keepers_have_a_limit(self):
+        server = self.server()
+        server.put("m", "cpe:/a:ntp:ntp:4.2.8")
+        for pid in server.children("cpe_service.keeper"):
+            self.assertEqual(resource.prlimit(pid, resource.RLIMIT_AS)[0], 4 << 30)
+
+    def test_all_members_of_an_archive_have_a_limit_together(self):
+        data = io.BytesIO()
+        with zipfile.ZipFile(data, "w") as archive:
+            for number in range(4):
+                archive.writestr(f"{number}.json", json.dumps(page(0, f"CVE-{number}", total=1)))
+        size = len(json.dumps(page(0, "CVE-0", total=1)))
+        for most, word in ((4 * size, "state"), (4 * size - 1, "refused")):
+            folder = Path(tempfile.mkdtemp(dir=self.folder))
+            database.made(folder)
+            with mock.patch.object(feeds, "_LIMITS", dataclasses.replace(feeds._LIMITS, most_of_all=most)):
+                answer = keeper.Keeper(folder).answer(FEED, data.getvalue())
+            self.assertIn(word, answer)
+        self.assertEqual(answer, {"refused": f"all of it unpacks to more than {most:,} bytes"})
 
 
 class FeedsTest(ServiceCase):
