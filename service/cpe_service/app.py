@@ -29,6 +29,7 @@ from .asking import Problem, Rates, Room, body_of, read_path, read_query
 from .database import connected, writing
 from .processes import Gone, Keeper, Worker
 from .queries import time_text
+from .quiet import pathless
 from .routes import ROUTES, Route, openapi
 from .tokens import ANYONE, Client, NoTokens, Tokens
 
@@ -102,6 +103,7 @@ class Service:
         self._changed = asyncio.Event()
         self._room = Room(4 * settings.most_feed)
         self._listeners = 0
+        self._tokens_fault = ""
         self._is_ending = False
         self._readers: list[Any] = []
         self._pruning: asyncio.Task[None] | None = None
@@ -175,7 +177,11 @@ class Service:
         try:
             self.tokens.read()
         except NoTokens as fault:
-            raise Problem(503, str(fault)) from fault
+            # (why is for the log alone, once, since whoever asks has no token that counts)
+            if self._tokens_fault != str(fault):
+                self._tokens_fault = str(fault)
+                print(f"cpe_service: {fault}", flush=True)
+            raise Problem(503, "the tokens can not be read") from fault
         client = self.tokens.client(request.headers.get("authorization", "")) if self.tokens.are_any() else ANYONE
         self._rates.take(client.name if client and client is not ANYONE else f"at {peer}", time.monotonic())
         if client is None:
@@ -321,6 +327,7 @@ class Service:
 
     async def health(self, _request: Request, _client: Client) -> Response:
         value = await self.ask(queries.health)
+        value["trouble"] = list(map(pathless, value["trouble"]))
         value["workers"] = len(self._workers)
         value["restarts"] = sum(max(one.restarts, 0) for one in (*self._workers, self._lists, self._feeds))
         return JSONResponse({"version": VERSION, **value})
@@ -418,7 +425,7 @@ def _endpoint(service: Service, route: Route) -> Callable:
         except Gone:
             response = _problem(Problem(503, "a process of the service ended meanwhile; ask again", {"Retry-After": "5"}), request)
         except Fatal as fault:
-            response = _problem(Problem(503, str(fault)), request)
+            response = _problem(Problem(503, pathless(str(fault))), request)
         except OSError as fault:
             response = _problem(Problem(503, f"the system refuses it: {os.strerror(fault.errno or 0)}"), request)
         except Exception as fault:  # noqa: BLE001 (whatever it is, the client gets an answer, and the log has it)

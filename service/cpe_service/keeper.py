@@ -18,7 +18,7 @@ from pathlib import Path
 from cpe_recipes.feeds import FeedFault
 from cpe_recipes.machines import machine_of_list
 from cpe_recipes.names_table import read_tables
-from cpe_recipes.said import Fatal
+from cpe_recipes.said import Fatal, why
 from cpe_recipes.settled import read_settled
 from cpe_recipes.suppressed import read_suppressed
 from cpe_recipes.unpack import Limits, read_feed
@@ -29,7 +29,7 @@ from .database import connected, new_edit, packed, writing
 from .feeds import Feeds, Offer
 from .frames import Message
 from .ground import TABLES, table_files
-from .quiet import Quiet
+from .quiet import Quiet, pathless
 
 # To how many bytes a list may unpack.
 _LIMITS = Limits(most=256 << 20)
@@ -57,10 +57,10 @@ class Keeper:
         except MemoryError:
             return {"refused": "reading it takes more memory than the service gives"}
         except (sqlite3.Error, OSError) as fault:
-            return {"fault": f"it could not be kept: {fault}"}
+            return {"fault": f"it could not be kept: {why(fault) if isinstance(fault, OSError) else fault}"}
         except Exception as fault:  # noqa: BLE001 (what a reader didn't foresee is refused too, and the log has it)
             traceback.print_exc()
-            return {"refused": f"it can not be read, since the reader has a fault: {type(fault).__name__} {fault}"}
+            return {"refused": f"it can not be read, since the reader has a fault: {type(fault).__name__} {pathless(str(fault))}"}
 
     def _put(self, message: Message, body: bytes) -> Message:
         """Keeps the list of a machine, whose verdicts wait then."""

@@ -11,6 +11,8 @@ import secrets
 from dataclasses import dataclass
 from pathlib import Path
 
+from cpe_recipes.said import why
+
 NAME = "tokens"
 READ, WRITE = "read", "write"
 # In place of what is known of a file that was there, and is no more.
@@ -73,8 +75,10 @@ class Tokens:
 def _lines(path: Path) -> list[tuple[int, str]]:
     try:
         lines = path.read_text(encoding="utf-8").splitlines()
-    except (OSError, ValueError) as fault:
-        raise NoTokens(f"{path.name} can not be read: {fault}") from fault
+    except OSError as fault:
+        raise NoTokens(f"{path.name} can not be read: {why(fault)}") from fault
+    except ValueError as fault:
+        raise NoTokens(f"{path.name} can not be read: it is no UTF-8") from fault
     return [(number, line.strip()) for number, line in enumerate(lines, 1) if line.strip() and not line.startswith("#")]
 
 

@@ -14,10 +14,11 @@ import zipfile
 from pathlib import Path
 from unittest import mock
 
-from service_case import PATIENCE, ROOT, ServiceCase, feed
+from service_case import CPE, PATIENCE, ROOT, ServiceCase, feed
 
 sys.path.insert(0, str(ROOT / "service"))
 from cpe_service import database, feeds, keeper, tokens  # noqa: E402
+from cpe_service.quiet import pathless  # noqa: E402
 
 FEED = {"do": "feed", "name": "", "is_whole": False, "client": "x"}
 
@@ -31,6 +32,46 @@ class TokensTest(ServiceCase):
         second = tokens.add(folder, "b", False)
         known = tokens.Tokens(folder)
         self.assertEqual([known.client(f"Bearer {one}").name for one in (first, second)], ["a", "b"])
+
+
+class PathsTest(ServiceCase):
+    def test_tokens_that_can_not_be_read_show_nothing(self):
+        server = self.server()
+        for make in (lambda path: path.mkdir(), lambda path: (path.rmdir(), path.write_bytes(b"\xff"))):
+            make(server.folder / "tokens")
+            status, value = server.ask("GET", "/machines")
+            self.assertEqual((status, value["detail"]), (503, "the tokens can not be read"))
+        self.assertRaisesRegex(tokens.NoTokens, "^tokens can not be read: it is no UTF-8$", tokens.Tokens, server.folder)
+
+    def test_what_can_not_be_kept_shows_no_path(self):
+        folder = self.folder / "data"
+        folder.mkdir()
+        database.made(folder)
+        with mock.patch.object(Path, "write_bytes", side_effect=OSError(28, "No space left on device", "/tmp/cpe-service-x/list")):
+            answer = keeper.Keeper(folder).answer({"do": "put", "name": "m", "client": "x"}, b"cpe:/a:ntp:ntp:4.2.8")
+        self.assertEqual(answer, {"fault": "it could not be kept: No space left on device"})
+
+    def test_a_fault_of_cpe_shows_no_path(self):
+        cpe = self.folder / "bin" / "cpe"
+        cpe.parent.mkdir()
+        cpe.symlink_to(CPE)
+        with mock.patch("service_case.CPE", str(cpe)):
+            server = self.with_samples()
+        server.put("m", "cpe:/a:ntp:ntp:4.2.8")
+        cpe.unlink()
+        cpe.write_text("#!/bin/sh\nexit 3\n")
+        cpe.chmod(0o755)
+        status, value = server.ask("GET", "/name?cpe=cpe:/a:ntp:ntp:4.2.8")
+        self.assertEqual(status, 503, value)
+        self.assertTrue(value["detail"].startswith("cpe "), value)
+        self.assertNotIn(str(self.folder), value["detail"])
+
+    def test_pathless(self):
+        for text, wanted in (
+            ("/usr/lib/x/cpe resolve ended with status 3", "cpe resolve ended with status 3"), ("no such file: '/tmp/a/c'", "no such file: 'c'"),
+            ("there is no /opt/cpe/bin/cpe", "there is no cpe"), ("cpe:/a:x/y", "cpe:/a:x/y"), ("see https://a.example/b/c and /openapi.json", "see https://a.example/b/c and /openapi.json"),
+        ):
+            self.assertEqual(pathless(text), wanted)
 
 
 class ConnectionsTest(ServiceCase):
