@@ -3,12 +3,14 @@ import contextlib
 import dataclasses
 import io
 import json
+import re
 import resource
 import socket
 import sqlite3
 import subprocess
 import sys
 import tempfile
+import time
 import unittest
 import zipfile
 from pathlib import Path
@@ -101,6 +103,56 @@ def page(start, *ids, total=4):
     """A page of advisories."""
     records = [{"cve": {"id": id, "lastModified": "2024-01-01T00:00:00.000"}} for id in ids]
     return {"startIndex": start, "resultsPerPage": len(records), "totalResults": total, "vulnerabilities": records}
+
+
+class EventsTest(ServiceCase):
+    def listen(self, server, head="", method="GET"):
+        connection = socket.create_connection(("127.0.0.1", server.port), PATIENCE)
+        self.addCleanup(connection.close)
+        connection.sendall(f"{method} /events HTTP/1.1\r\nHost: localhost\r\n{head}\r\n".encode())
+        return connection
+
+    def listeners(self, server):
+        return int(re.search(r"^cpe_listeners (\d+)$", server.ask("GET", "/metrics")[1], re.M)[1])
+
+    def test_head_listens_to_nothing(self):
+        server = self.server()
+        with self.listen(server, method="HEAD").makefile("rb") as answer:
+            self.assertIn(b"200 OK", answer.readline())
+            while answer.readline() != b"\r\n":
+                pass
+        self.assertEqual(self.listeners(server), 0)
+
+    def test_no_client_takes_the_place_of_all_others(self):
+        (self.folder / "data").mkdir()
+        one, other = (tokens.add(self.folder / "data", name, False) for name in "ab")
+        server = self.server()
+        found = [self.listen(server, f"Authorization: Bearer {one}\r\n") for _ in range(101)]
+        statuses = [connection.recv(12) for connection in found]
+        self.assertEqual((statuses.count(b"HTTP/1.1 200"), statuses.count(b"HTTP/1.1 503")), (100, 1))
+        self.assertEqual(self.listen(server, f"Authorization: Bearer {other}\r\n").recv(12), b"HTTP/1.1 200")
+        for connection in found:
+            connection.close()
+        end = time.monotonic() + PATIENCE
+        while self.listen(server, f"Authorization: Bearer {one}\r\n").recv(12) != b"HTTP/1.1 200":
+            self.assertLess(time.monotonic(), end)
+            time.sleep(0.1)
+
+    def test_a_number_above_the_last_change_is_said(self):
+        server = self.with_samples()
+        server.put("m", "cpe:/a:ntp:ntp:4.2.8")
+        last = server.ask("GET", "/changes")[1]["changes"][-1]["id"]
+        for head in ("Last-Event-ID: 500\r\n", ""):
+            with self.listen(server, head).makefile("rb") as lines:
+                while not (line := lines.readline()).startswith(b": listening"):
+                    pass
+                self.assertEqual(line, f": listening behind {last}\n".encode())
+                server.ask("DELETE", "/machines/m") if head else server.put("m", "cpe:/a:ntp:ntp:4.2.8")
+                found = b""
+                while b"event: change" not in found:
+                    found += lines.readline()
+                self.assertEqual(found.count(b'event: restored\ndata: {"behind": 500, "last": %d}' % last), 1 if head else 0)
+                last += 1
 
 
 class MemoryTest(ServiceCase):
