@@ -97,7 +97,7 @@ class Service:
     def __init__(self, settings: Settings) -> None:
         self.settings, self.tokens, self.numbers = settings, Tokens(settings.folder), Numbers()
         self._program = Program()
-        self._lists, self._feeds = Keeper(settings.folder), Keeper(settings.folder)
+        self._lists, self._feeds = Keeper(settings.folder, "lists"), Keeper(settings.folder, "feeds")
         self._workers = [Worker(settings.folder, shard, settings.workers, self._notify) for shard in range(settings.workers)]
         self._rates = Rates(settings.rate, 2 * settings.rate)
         self._changed = asyncio.Event()

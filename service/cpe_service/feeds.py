@@ -13,7 +13,7 @@ import json
 import sqlite3
 import tempfile
 import time
-from collections.abc import Iterable, Iterator, Mapping
+from collections.abc import Callable, Iterable, Iterator, Mapping
 from dataclasses import asdict, dataclass, field
 from pathlib import Path
 
@@ -67,8 +67,8 @@ class Feeds:
     def __init__(self, database: sqlite3.Connection) -> None:
         self._database, self.said = database, Quiet()
 
-    def take(self, data: bytes, offer: Offer) -> dict[str, Json]:
-        """Takes the pages of a file. Fatal if one can't be read; then nothing of it is kept."""
+    def take(self, data: bytes, offer: Offer, keep: Callable[[dict[str, Json]], None] = lambda answer: None) -> dict[str, Json]:
+        """Takes the pages of a file. Fatal if one can't be read; then nothing of it is kept. `keep` keeps the answer with them."""
         self.said = Quiet()
         file = Arriving(hashlib.sha256(data).hexdigest())
         try:
@@ -85,12 +85,14 @@ class Feeds:
             with writing(self._database):
                 self._give_up_old()
                 answer = self._put_part(file, offer) if missing else self._finished(file.feed, file.called, offer)
+                answer |= {"remarks": self.said.lines}
+                keep(answer)
         except BaseException:
             # (what a full disk leaves of it is removed later)
             with contextlib.suppress(sqlite3.Error), writing(self._database):
                 self._drop(file.feed)
             raise
-        return answer | {"remarks": self.said.lines}
+        return answer
 
     def _arrive(self, file: Arriving, page: Page, offer: Offer) -> None:
         """Keeps a page of a file, which doesn't count yet. Fatal if it is odd, or can't be all of its kind though it is said to be.
@@ -207,12 +209,13 @@ class Feeds:
         for table, column in (("pages", "feed"), ("records", "feed"), ("feeds", "id")):
             self._database.execute(f"DELETE FROM {table} WHERE {column} = ?", (feed,))
 
-    def drop(self, feed: int) -> bool:
-        """Removes a feed that waits for pages. False if none of this number does."""
+    def drop(self, feed: int, keep: Callable[[], None] = lambda: None) -> bool:
+        """Removes a feed that waits for pages. False if none of this number does. `keep` keeps the answer with that."""
         with writing(self._database):
             is_there = self._database.execute("SELECT 1 FROM feeds WHERE id = ? AND state = ?", (feed, WAITING)).fetchone() is not None
             if is_there:
                 self._drop(feed)
+                keep()
         return is_there
 
     def _count(self, feed: int, called: str, is_whole: bool) -> None:

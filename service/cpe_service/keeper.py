@@ -25,7 +25,7 @@ from cpe_recipes.unpack import Limits, read_feed
 from cpe_recipes.versions import read_letters
 
 from . import frames
-from .database import connected, new_edit, packed, writing
+from .database import connected, new_edit, note, noted, packed, writing
 from .feeds import Feeds, Offer
 from .frames import Message
 from .ground import TABLES, table_files
@@ -47,9 +47,10 @@ class Keeper:
         self._does = {"put": self._put, "delete": self._delete, "feed": self._feed, "drop": self._drop, "table": self._table}
 
     def answer(self, message: Message, body: bytes) -> Message:
-        """The answer to a message."""
+        """The answer to a message. One that is asked again has its first answer, if it changed something."""
         try:
-            return self._does[message["do"]](message, body)
+            known = json.loads(noted(self._database, f"answered {message['keeper']}", "{}")) if "id" in message else {}
+            return known["answer"] if known.get("id", "") == message.get("id") else self._does[message["do"]](message, body)
         except (FeedFault, Fatal) as fault:
             return {"refused": str(fault)}
         except RecursionError:
@@ -74,7 +75,9 @@ class Keeper:
                 "SET list = excluded.list, said = excluded.said, put = excluded.put RETURNING id, put, judged_put",
                 (name, packed(data), json.dumps(said.as_json()), zlib.crc32(name.encode()) % SHARDS, edit),
             ).fetchone()
-        return {"edit": edit, "is_new": row["judged_put"] == 0, "components": len(machine.components), **said.as_json()}
+            answer = {"edit": edit, "is_new": row["judged_put"] == 0, "components": len(machine.components)}
+            self._note(message, answer)
+        return answer
 
     def _delete(self, message: Message, _body: bytes) -> Message:
         """Removes a machine. Its verdicts are none, which is a part of their history."""
@@ -91,14 +94,16 @@ class Keeper:
             )
             database.execute("DELETE FROM verdicts WHERE machine = ?", (row["id"],))
             database.execute("DELETE FROM machines WHERE id = ?", (row["id"],))
+            self._note(message, {"edit": edit})
         return {"edit": edit}
 
     def _feed(self, message: Message, body: bytes) -> Message:
-        return Feeds(self._database).take(body, Offer(message["name"], message["is_whole"], message["client"]))
+        offer = Offer(message["name"], message["is_whole"], message["client"])
+        return Feeds(self._database).take(body, offer, lambda answer: self._note(message, answer))
 
     def _drop(self, message: Message, _body: bytes) -> Message:
         """Removes a feed that waits for pages."""
-        return {} if Feeds(self._database).drop(message["feed"]) else {"missing": True}
+        return {} if Feeds(self._database).drop(message["feed"], lambda: self._note(message, {})) else {"missing": True}
 
     def _table(self, message: Message, body: bytes) -> Message:
         """Keeps a table of settings, if each line of it can be read."""
@@ -117,7 +122,13 @@ class Keeper:
                 return {"edit": None}
             edit = new_edit(database, TABLES[name], name, message["client"])
             database.execute("INSERT INTO tables VALUES (?, ?) ON CONFLICT (name) DO UPDATE SET text = excluded.text", (name, text))
+            self._note(message, {"edit": edit})
         return {"edit": edit}
+
+    def _note(self, message: Message, answer: Message) -> None:
+        """Keeps an answer with what it says, in one transaction. (A process that is killed then is started again, and asked again.)"""
+        if "id" in message:
+            note(self._database, f"answered {message['keeper']}", json.dumps({"id": message["id"], "answer": answer}))
 
 
 # How each table is read by the recipes, which says what can't be read.

@@ -186,6 +186,30 @@ class MemoryTest(ServiceCase):
         self.assertEqual(answer, {"refused": f"all of it unpacks to more than {most:,} bytes"})
 
 
+class AgainTest(ServiceCase):
+    def test_what_is_asked_again_has_its_first_answer(self):
+        """So it is if a keeper is killed between what it keeps and its answer."""
+        folder = self.folder / "data"
+        folder.mkdir()
+        database.made(folder)
+        page_ = json.dumps(page(0, "CVE-1", total=1)).encode()
+        part = json.dumps(page(0, "CVE-1", total=2)).encode()
+        for number, (message, body) in enumerate((
+            ({"do": "put", "name": "m"}, b"cpe:/a:ntp:ntp:4.2.8"), ({"do": "table", "name": "suppress"}, b"CVE-1 * reason"), ({"do": "delete", "name": "m"}, b""),
+            ({"do": "feed", "name": "", "is_whole": False}, page_), ({"do": "feed", "name": "x", "is_whole": False}, part), ({"do": "drop", "feed": 2}, b""),
+        )):
+            with self.subTest(do=message["do"]):
+                message |= {"client": "x", "id": str(number), "keeper": "lists"}
+                first = keeper.Keeper(folder).answer(message, body)
+                self.assertFalse({"refused", "fault"} & set(first) or first == {"missing": True}, first)
+                keeps = keeper.Keeper(folder)
+                edits = keeps._database.execute("SELECT count(*) FROM edits").fetchone()[0]
+                self.assertEqual(keeps.answer(message, body), first)
+                self.assertEqual(keeps._database.execute("SELECT count(*) FROM edits").fetchone()[0], edits)
+                if message["do"] in ("put", "delete", "drop"):
+                    self.assertNotEqual(keeps.answer(message | {"id": "other"}, body), first)
+
+
 class FeedsTest(ServiceCase):
     def test_pages_of_two_fetches_are_never_one_feed(self):
         server = self.server()
