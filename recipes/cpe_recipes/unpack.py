@@ -39,13 +39,15 @@ class FeedFault(Exception):
 
 @dataclass(frozen=True)
 class Limits:
-    """To how many bytes a page may unpack, to how many times its size, and below how many that isn't looked at."""
+    """To how many bytes a page may unpack, to how many times its size, and below how many that isn't looked at. `most_of_all` is to how
+    many bytes all members of an archive may."""
 
     most: int = 2 << 30
     times: int = 200
     free: int = 16 << 20
     # (what stands behind the reason where a recipe has the option)
     hint: str = ""
+    most_of_all: int = sys.maxsize
 
     def of(self, packed: int) -> int:
         """To how many bytes so many may unpack."""
@@ -166,6 +168,8 @@ class _Counted:
 
     def take(self, count: int) -> None:
         self.count += count
+        if self.count > self.limits.most_of_all:
+            raise FeedFault(f"all of it unpacks to more than {self.limits.most_of_all:,} bytes")
         if self.count > max(self.limits.free, self.limits.times * self.size):
             raise self.limits.ratio_fault(self.size)
 

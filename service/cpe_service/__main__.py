@@ -17,6 +17,7 @@ import contextlib
 import fcntl
 import ipaddress
 import resource
+import socket
 import sqlite3
 import sys
 from collections.abc import Iterator
@@ -34,7 +35,7 @@ except ImportError as fault:
 
 from cpe_recipes.said import Fatal
 
-from . import database, taking, tokens
+from . import database, keeper, taking, tokens
 from .app import Settings, made
 
 _MOST_CONNECTIONS = 4_096
@@ -43,14 +44,31 @@ _SECONDS_IDLE = 30
 
 
 class Patient(H11Protocol):
-    """A connection that is closed if no request arrives in time."""
+    """A connection that is closed if no request arrives in time, after the first one too."""
 
     def connection_made(self, transport) -> None:  # noqa: ANN001 (as the library has it)
         super().connection_made(transport)
+        self._ended = self._seen = 0
+        one = transport.get_extra_info("socket")
+        # (who is gone without a word is found by these)
+        one.setsockopt(socket.SOL_SOCKET, socket.SO_KEEPALIVE, 1)
+        if hasattr(socket, "TCP_USER_TIMEOUT"):
+            one.setsockopt(socket.IPPROTO_TCP, socket.TCP_USER_TIMEOUT, 4_000 * _SECONDS_IDLE)
         self.loop.call_later(_SECONDS_IDLE, self._look)
 
+    def on_response_complete(self) -> None:
+        self._ended += 1
+        super().on_response_complete()
+
     def _look(self) -> None:
-        if self.cycle is None and not self.transport.is_closing():
+        """Closes the connection if no request runs, and none ended since the last look."""
+        if self.transport.is_closing():
+            return
+        is_running = self.cycle is not None and not self.cycle.response_complete
+        if is_running or self._ended != self._seen:
+            self._seen = self._ended
+            self.loop.call_later(_SECONDS_IDLE, self._look)
+        else:
             self.transport.close()
 
 
@@ -163,6 +181,7 @@ def main() -> None:
             case ["backup", file]:
                 _backup(given.data, Path(file))
             case ["take", folder]:
+                keeper.limit_memory()
                 found = []
                 for is_taken, line in taking.take(given.data, Path(folder)):
                     print(line, flush=True)

@@ -29,6 +29,7 @@ from .asking import Problem, Rates, Room, body_of, read_path, read_query
 from .database import connected, writing
 from .processes import Gone, Keeper, Worker
 from .queries import time_text
+from .quiet import pathless
 from .routes import ROUTES, Route, openapi
 from .texts import whole
 from .tokens import ANYONE, Client, NoTokens, Tokens
@@ -36,8 +37,8 @@ from .tokens import ANYONE, Client, NoTokens, Tokens
 VERSION = "0.1.0"
 _DAY = 24 * 3600
 _EVENTS = 200
-# How many clients may listen to /events, and after how many seconds they hear that the server is still there.
-_MOST_LISTENERS, _PAUSE = 200, 15
+# How many may listen to /events, how many of them as one client, and after how many seconds they hear that the server is still there.
+_MOST_LISTENERS, _MOST_OF_CLIENT, _PAUSE = 200, 100, 15
 # How many certificates a worker is asked for at once.
 _MOST_ASKED = 4
 _BOUNDS = (0.01, 0.05, 0.1, 0.5, 1, 2, 5, 10)
@@ -107,12 +108,13 @@ class Service:
     def __init__(self, settings: Settings) -> None:
         self.settings, self.tokens, self.numbers = settings, Tokens(settings.folder), Numbers()
         self._program = Program()
-        self._lists, self._feeds = Keeper(settings.folder), Keeper(settings.folder)
+        self._lists, self._feeds = Keeper(settings.folder, "lists"), Keeper(settings.folder, "feeds")
         self._workers = [Worker(settings.folder, shard, settings.workers, self._notify) for shard in range(settings.workers)]
         self._rates = Rates(settings.rate, 2 * settings.rate)
         self._changed = asyncio.Event()
         self._room = Room(4 * settings.most_feed)
-        self._listeners = 0
+        self._listeners: Counter[str] = Counter()
+        self._tokens_fault = ""
         self._is_ending = False
         self._readers: list[Any] = []
         self._pruning: asyncio.Task[None] | None = None
@@ -185,13 +187,16 @@ class Service:
     def let_in(self, request: Request, is_writing: bool) -> Client:
         """Who asks. Problem if they may not."""
         self._check_origin(request)
-        peer = request.client.host if request.client else ""
         try:
             self.tokens.read()
         except NoTokens as fault:
-            raise Problem(503, str(fault)) from fault
+            # (why is for the log alone, once, since whoever asks has no token that counts)
+            if self._tokens_fault != str(fault):
+                self._tokens_fault = str(fault)
+                print(f"cpe_service: {fault}", flush=True)
+            raise Problem(503, "the tokens can not be read") from fault
         client = self.tokens.client(request.headers.get("authorization", "")) if self.tokens.are_any() else ANYONE
-        self._rates.take(client.name if client and client is not ANYONE else f"at {peer}", time.monotonic())
+        self._rates.take(_who(client, request), time.monotonic())
         if client is None:
             raise Problem(401, "a token is needed: Authorization: Bearer TOKEN", {"WWW-Authenticate": 'Basic realm="cpe", charset="UTF-8"'})
         if is_writing and not client.may_write:
@@ -259,6 +264,11 @@ class Service:
         message = {"do": "feed", "name": feed, "is_whole": whole == "true", "client": client.name}
         found = await self._keep(self._feeds, request, self.settings.most_feed, message)
         return Answer(found, 202)
+
+    async def delete_feed(self, _request: Request, _client: Client, number: str) -> Response:
+        if "missing" in await self._answer(self._feeds, {"do": "drop", "feed": int(number)}):
+            raise Problem(404, f"no feed {number} waits for pages")
+        return Answer({"feed": int(number), "state": "removed"})
 
     async def table(self, _request: Request, _client: Client, table: str) -> Response:
         text = await self.ask(_table, table)
@@ -339,16 +349,17 @@ class Service:
 
     async def health(self, _request: Request, _client: Client) -> Json:
         value = await self.ask(queries.health)
+        value["trouble"] = list(map(pathless, value["trouble"]))
         value["workers"] = len(self._workers)
         value["restarts"] = sum(max(one.restarts, 0) for one in (*self._workers, self._lists, self._feeds))
-        return Answer({"version": VERSION, **value})
+        return {"version": VERSION, **value}
 
     async def metrics(self, _request: Request, _client: Client) -> Response:
         lines, seen = [], set()
         queues = (("lists", self._lists), ("feeds", self._feeds))
         own = [("cpe_queue", "Requests that wait to be kept.", {"queue": name}, one.waiting) for name, one in queues]
         own += [("cpe_process_restarts", "Processes that were started again.", {}, sum(max(one.restarts, 0) for one in self._workers))]
-        own += [("cpe_listeners", "Clients that listen to events.", {}, self._listeners)]
+        own += [("cpe_listeners", "Clients that listen to events.", {}, self._listeners.total())]
         for name, what, labels, value in [*await self.ask(queries.metrics), *own]:
             if name not in seen:
                 seen.add(name)
@@ -360,31 +371,58 @@ class Service:
     async def openapi(self, _request: Request, _client: Client) -> Response:
         return Answer(openapi(VERSION))
 
-    async def events(self, request: Request, _client: Client, after: str) -> Response:
-        if self._listeners >= _MOST_LISTENERS:
-            raise Problem(503, f"{_MOST_LISTENERS} clients listen already", {"Retry-After": "60"})
+    async def events(self, request: Request, client: Client, after: str) -> Response:
+        if request.method == "HEAD":
+            return Response(media_type="text/event-stream")
         last = request.headers.get("last-event-id", "")
         begin = int(last) if last.isascii() and last.isdecimal() and len(last) < 19 else int(after)
-        begin = begin or await self.ask(queries.last_change)
-        return StreamingResponse(self._events(begin), media_type="text/event-stream")
+        last_change = await self.ask(queries.last_change)
+        who = _who(client, request)
+        if self._listeners.total() >= _MOST_LISTENERS:
+            raise Problem(503, f"{_MOST_LISTENERS} clients listen already", {"Retry-After": "60"})
+        if self._listeners[who] >= _MOST_OF_CLIENT:
+            raise Problem(503, f"this client listens {_MOST_OF_CLIENT} times already", {"Retry-After": "60"})
+        first = f"retry: 3000\n: listening behind {min(begin, last_change) or last_change}\n\n"
+        if begin > last_change:
+            # (the changes of this number were in a database that a backup replaced)
+            first += f"event: restored\ndata: {json.dumps({'behind': begin, 'last': last_change})}\n\n"
+        return Listening(self._events(min(begin, last_change) or last_change, first), self._listeners, who)
 
-    async def _events(self, last: int) -> AsyncIterator[str]:
-        self._listeners += 1
+    async def _events(self, last: int, first: str) -> AsyncIterator[str]:
+        yield first
+        while not self._is_ending:
+            changed = self._changed
+            found = await self.ask(queries.changes, 0, 0, last, "", "", _EVENTS)
+            for one in found:
+                last = one["id"]
+                yield f"id: {last}\nevent: change\ndata: {json.dumps(one)}\n\n"
+            if len(found) < _EVENTS:
+                try:
+                    await asyncio.wait_for(changed.wait(), _PAUSE)
+                except asyncio.TimeoutError:
+                    yield ": still here\n\n"
+
+
+class Listening(StreamingResponse):
+    """Events for a client, who counts as one of those that listen until it ends."""
+
+    def __init__(self, events: AsyncIterator[str], listeners: Counter[str], who: str) -> None:
+        super().__init__(events, media_type="text/event-stream")
+        self._listeners, self._who = listeners, who
+        listeners[who] += 1
+
+    async def __call__(self, scope: Any, receive: Any, send: Any) -> None:
         try:
-            yield f"retry: 3000\n: listening behind {last}\n\n"
-            while not self._is_ending:
-                changed = self._changed
-                found = await self.ask(queries.changes, 0, 0, last, "", "", _EVENTS)
-                for one in found:
-                    last = one["id"]
-                    yield f"id: {last}\nevent: change\ndata: {json.dumps(one)}\n\n"
-                if len(found) < _EVENTS:
-                    try:
-                        await asyncio.wait_for(changed.wait(), _PAUSE)
-                    except asyncio.TimeoutError:
-                        yield ": still here\n\n"
+            await super().__call__(scope, receive, send)
         finally:
-            self._listeners -= 1
+            self._listeners[self._who] -= 1
+            if not self._listeners[self._who]:
+                del self._listeners[self._who]
+
+
+def _who(client: Client | None, request: Request) -> str:
+    """The client, by name or by address, of whom there are limits."""
+    return client.name if client and client is not ANYONE else f"at {request.client.host if request.client else ''}"
 
 
 def _shard(database: Any, name: str) -> int | None:
@@ -436,7 +474,7 @@ def _endpoint(service: Service, route: Route) -> Callable:
         except Gone:
             response = _problem(Problem(503, "a process of the service ended meanwhile; ask again", {"Retry-After": "5"}), request)
         except Fatal as fault:
-            response = _problem(Problem(503, str(fault)), request)
+            response = _problem(Problem(503, pathless(str(fault))), request)
         except OSError as fault:
             response = _problem(Problem(503, f"the system refuses it: {os.strerror(fault.errno or 0)}"), request)
         except Exception as fault:  # noqa: BLE001 (whatever it is, the client gets an answer, and the log has it)

@@ -18,7 +18,7 @@ from pathlib import Path
 NAME = "service.db"
 VERSION = 2
 # How long a writer waits for another one.
-_SECONDS = 60
+_SECONDS = 300
 
 # The edits that change what each machine is judged by.
 GROUND = ("feed", "names", "letters", "suppression", "settled")

@@ -1,17 +1,20 @@
 """The feeds that were accepted, record by record: of each id that record which counts, by the recipes' own rule (cpe_recipes.latest).
 
-A page may be a part of its feed. Its records wait until all pages of the feed are there, as they say themselves (cpe_recipes.whole).
-Then all of them count, in one transaction. So no verdict is ever made over a part of a feed.
+A page may be a part of its feed. Then the client names the fetch of which it is, and its records wait until all pages of this name are
+there, as they say themselves (cpe_recipes.whole). Then all of them count, in one transaction. So no verdict is ever made over a part of a
+feed, or over pages of two. A feed of which no page arrives for an hour is given up, and said.
 """
 from __future__ import annotations
 
+import contextlib
 import hashlib
+import itertools
 import json
 import sqlite3
 import tempfile
 import time
-from collections.abc import Iterable, Iterator, Mapping
-from dataclasses import asdict, dataclass
+from collections.abc import Callable, Iterable, Iterator, Mapping
+from dataclasses import asdict, dataclass, field
 from pathlib import Path
 
 from cpe_recipes import advisories, dictionary, matches, whole
@@ -28,19 +31,34 @@ from .quiet import Quiet
 # What pages have, and how they are called in the API.
 CALLED = {"products": "dictionary", "vulnerabilities": "advisories", RECORDS: "advisories", "matchStrings": "matches"}
 KINDS = tuple(dict.fromkeys((*dictionary.KINDS, *advisories.KINDS, *matches.KINDS)))
-WAITING, COUNTS = "waiting", "counts"
+ARRIVING, WAITING, COUNTS = "arriving", "waiting", "counts"
 _CHUNK = 2_000
-# To how many bytes a page may unpack.
-_LIMITS = Limits(most=1 << 30)
+# How long a feed waits for its next page, and of how many feeds the pages are known when they are sent again.
+_SECONDS_WAITING, _KNOWN = 3_600, 1_000
+# To how many bytes a page may unpack, and all pages of an archive. (All of NVD's matches are some GB.)
+_LIMITS = Limits(most=1 << 30, most_of_all=8 << 30)
 
 
 @dataclass(frozen=True)
 class Offer:
-    """A feed that a client gives: the name by which its pages belong together, and whether it replaces all of its kind."""
+    """A feed that a client gives: the name of the fetch of which its pages are, and whether it replaces all of its kind."""
 
     name: str
     is_whole: bool
     client: str
+
+
+@dataclass
+class Arriving:
+    """A file of pages as it is read: its sum, the number of the feed that its records have meanwhile, its kind, and its parts of the feed.
+    `is_unsaid` if a page doesn't say of how many records it is."""
+
+    sum: str
+    feed: int = 0
+    kind: str = ""
+    called: str = ""
+    spans: list[Span] = field(default_factory=list)
+    is_unsaid: bool = False
 
 
 class Feeds:
@@ -49,63 +67,120 @@ class Feeds:
     def __init__(self, database: sqlite3.Connection) -> None:
         self._database, self.said = database, Quiet()
 
-    def take(self, data: bytes, offer: Offer) -> dict[str, Json]:
-        """Takes the pages of a file. Fatal if one can't be read; then nothing of it is kept."""
+    def take(self, data: bytes, offer: Offer, keep: Callable[[dict[str, Json]], None] = lambda answer: None) -> dict[str, Json]:
+        """Takes the pages of a file. Fatal if one can't be read; then nothing of it is kept. `keep` keeps the answer with them."""
         self.said = Quiet()
-        found = list(_pages_in(data, self.said))
-        kinds = {CALLED[page.kind] for page in found}
-        if len(kinds) > 1:
-            raise Fatal(f"pages of {' and of '.join(sorted(kinds))} are in it, and a feed has one kind")
-        (called,) = kinds
-        sum = hashlib.sha256(data).hexdigest()
-        with writing(self._database):
-            answer = self._put(called, found, sum, offer)
-        return answer | {"remarks": self.said.lines}
+        file = Arriving(hashlib.sha256(data).hexdigest())
+        try:
+            for page in _pages_in(data, self.said):
+                self._arrive(file, page, offer)
+            if offer.is_whole and not any(span.total for span in file.spans):
+                raise Fatal("whole=true with no record would remove all of its kind")
+            if file.is_unsaid:
+                self.said.remark("no totalResults, so it isn't known whether this is all of the feed")
+            missing = _missing_of(file.kind, file.spans, self.said)
+            if missing and not offer.name:
+                # (pages without a name could be those of two fetches)
+                raise Fatal(f"{missing[0]}: give the pages of a fetch a name (?feed=NAME), or put all of them into one file")
+            with writing(self._database):
+                self._give_up_old()
+                answer = self._put_part(file, offer) if missing else self._finished(file.feed, file.called, offer)
+                answer |= {"remarks": self.said.lines}
+                keep(answer)
+        except BaseException:
+            # (what a full disk leaves of it is removed later)
+            with contextlib.suppress(sqlite3.Error), writing(self._database):
+                self._drop(file.feed)
+            raise
+        return answer
 
-    def _put(self, called: str, found: list[Page], sum: str, offer: Offer) -> dict[str, Json]:
-        spans = [whole.span_of(page) for page in found if "totalResults" in page.counts]
-        for one in whole.odd_of(found[0].kind, spans):
-            raise Fatal(f"{one.words()}; {one.where}")
-        feed = self._feed(called, offer, spans, sum)
-        known = self._database.execute("SELECT 1 FROM pages WHERE feed = ? AND sum = ?", (feed, sum)).fetchone()
-        if known is None:
-            text = json.dumps([asdict(span) for span in spans])
-            self._database.execute("INSERT INTO pages VALUES (?, ?, ?, ?)", (feed, sum, offer.name, text))
-            for page in found:
-                self._database.executemany(
-                    "INSERT INTO records (feed, kind, key, modified, number, body) VALUES (?, ?, ?, ?, ?, ?)", _rows(feed, page)
-                )
-        missing = self._missing(feed, found[0].kind)
-        answer: dict[str, Json] = {"feed": feed, "kind": called, "records": self._records(feed)}
+    def _arrive(self, file: Arriving, page: Page, offer: Offer) -> None:
+        """Keeps a page of a file, which doesn't count yet. Fatal if it is odd, or can't be all of its kind though it is said to be.
+
+        It is packed before it is written, and written in pieces, so no other writer waits for long.
+        """
+        called = CALLED[page.kind]
+        if file.kind and called != file.called:
+            raise Fatal(f"pages of {' and of '.join(sorted((called, file.called)))} are in it, and a feed has one kind")
+        if not file.kind:
+            file.kind, file.called = page.kind, called
+            with writing(self._database):
+                file.feed = self._new(called, offer)
+        if "totalResults" in page.counts:
+            span = whole.span_of(page)
+            for one in whole.odd_of(page.kind, [span]):
+                raise Fatal(f"{one.words()}; {one.where}")
+            file.spans.append(span)
+        elif offer.is_whole:
+            raise Fatal("whole=true needs pages with totalResults, since it isn't known otherwise whether this is all of the feed")
+        else:
+            file.is_unsaid = True
+        rows = _rows(file.feed, page)
+        while some := list(itertools.islice(rows, _CHUNK)):
+            with writing(self._database):
+                self._database.executemany("INSERT INTO records (feed, kind, key, modified, number, body) VALUES (?, ?, ?, ?, ?, ?)", some)
+
+    def _put_part(self, file: Arriving, offer: Offer) -> dict[str, Json]:
+        """Puts pages that aren't all of their feed, which has a name."""
+        database, called, sum = self._database, file.called, file.sum
+        finished = self._named(called, offer, COUNTS)
+        if finished is not None:
+            if database.execute("SELECT 1 FROM pages WHERE feed = ? AND sum = ?", (finished["id"], sum)).fetchone():
+                # (who asks again didn't get the answer)
+                self._drop(file.feed)
+                return self._about(finished["id"], called) | {"state": COUNTS, "new": 0, "edit": finished["edit"]}
+            raise Fatal(f"all pages of {offer.name} were there, as feed {finished['id']}: another fetch needs another name")
+        row = self._named(called, offer, WAITING)
+        if row is not None and self._is_fetched_again(row["id"], file.spans, sum):
+            row = None
+        feed = file.feed if row is None else row["id"]
+        database.execute("UPDATE feeds SET state = ?, name = ?, at = ? WHERE id = ?", (WAITING, offer.name, time.time(), feed))
+        if database.execute("SELECT 1 FROM pages WHERE feed = ? AND sum = ?", (feed, sum)).fetchone() is None:
+            text = json.dumps([asdict(span) for span in file.spans])
+            database.execute("INSERT INTO pages VALUES (?, ?, ?, ?)", (feed, sum, offer.name, text))
+            database.execute("UPDATE records SET feed = ? WHERE feed = ?", (feed, file.feed))
+        if feed != file.feed:
+            self._drop(file.feed)
+        rows = database.execute("SELECT span FROM pages WHERE feed = ?", (feed,)).fetchall()
+        missing = _missing_of(file.kind, [Span(**one) for row in rows for one in json.loads(row["span"])], self.said)
         if missing:
-            return answer | {"state": WAITING, "missing": missing}
+            return self._about(feed, called) | {"state": WAITING, "missing": missing}
+        return self._finished(feed, called, offer)
+
+    def _finished(self, feed: int, called: str, offer: Offer) -> dict[str, Json]:
+        """Has a feed count, of which all pages are there."""
+        answer = self._about(feed, called)
         self._count(feed, called, offer.is_whole)
         new = self._records(feed)
         edit = new_edit(self._database, "feed", f"{called} {feed}", offer.client) if new or offer.is_whole else None
-        self._database.execute("UPDATE feeds SET state = ?, edit = ? WHERE id = ?", (COUNTS, edit, feed))
-        self._database.execute("DELETE FROM pages WHERE feed = ?", (feed,))
+        self._database.execute("UPDATE feeds SET state = ?, edit = ?, at = ? WHERE id = ?", (COUNTS, edit, time.time(), feed))
+        # (a page that is sent again is known by its sum)
+        self._database.execute("UPDATE pages SET span = '[]' WHERE feed = ?", (feed,))
+        self._database.execute(
+            "DELETE FROM pages WHERE feed IN (SELECT id FROM feeds WHERE state = ? ORDER BY id DESC LIMIT -1 OFFSET ?)", (COUNTS, _KNOWN)
+        )
         return answer | {"state": COUNTS, "new": new, "edit": edit}
+
+    def _about(self, feed: int, called: str) -> dict[str, Json]:
+        return {"feed": feed, "kind": called, "records": self._records(feed)}
 
     def _records(self, feed: int) -> int:
         return self._database.execute("SELECT count(*) FROM records WHERE feed = ?", (feed,)).fetchone()[0]
 
-    def _feed(self, called: str, offer: Offer, spans: list[Span], sum: str) -> int:
-        """The number of the feed to which pages belong: the one that waits under this name, or a new one."""
-        name = offer.name
-        if not name and spans and not all(map(Span.is_alone, spans)):
-            # (pages of one feed state the same total; who fetches two at once names them)
-            name = f"of {max(span.total for span in spans)}"
-        given = (called, name, offer.is_whole, WAITING)
-        row = self._database.execute(
-            "SELECT id FROM feeds WHERE kind = ? AND name = ? AND is_whole = ? AND state = ?", given
-        ).fetchone() if name else None
-        if row is not None and not self._is_fetched_again(row["id"], spans, sum):
-            return row["id"]
-        number = self._database.execute(
-            "INSERT INTO feeds (kind, name, is_whole, state, at) VALUES (?, ?, ?, ?, ?)", (*given, time.time())
-        ).lastrowid
+    def _new(self, called: str, offer: Offer) -> int:
+        """The number of a new feed, whose pages arrive."""
+        row = called, offer.is_whole, ARRIVING, time.time()
+        number = self._database.execute("INSERT INTO feeds (kind, name, is_whole, state, at) VALUES (?, '', ?, ?, ?)", row).lastrowid
         assert number is not None
         return number
+
+    def _named(self, called: str, offer: Offer, state: str) -> sqlite3.Row | None:
+        """The feed of this name. Fatal if its other pages were sent with another `whole`."""
+        question = "SELECT id, is_whole, edit FROM feeds WHERE kind = ? AND name = ? AND state = ?"
+        row = self._database.execute(question, (called, offer.name, state)).fetchone()
+        if row is not None and bool(row["is_whole"]) != offer.is_whole:
+            raise Fatal(f"the other pages of {offer.name} were sent {'with' if row['is_whole'] else 'without'} whole=true")
+        return row
 
     def _is_fetched_again(self, feed: int, spans: list[Span], sum: str) -> bool:
         """Whether a page of a feed that waits arrives with other records. Then what waited of it is given up, and said."""
@@ -113,16 +188,35 @@ class Feeds:
         starts = {one["start"] for row in rows for one in json.loads(row["span"])}
         if starts.isdisjoint(span.start for span in spans):
             return False
-        self.said.remark(f"feed {feed}, of which pages are missing, is given up, since a page of it arrives with other records")
-        for table, column in (("pages", "feed"), ("records", "feed"), ("feeds", "id")):
-            self._database.execute(f"DELETE FROM {table} WHERE {column} = ?", (feed,))
+        self._give_up(feed, "since a page of it arrives with other records")
         return True
 
-    def _missing(self, feed: int, kind: str) -> list[str]:
-        """In words, what is missing of a feed."""
-        rows = self._database.execute("SELECT span FROM pages WHERE feed = ?", (feed,)).fetchall()
-        spans = [Span(**one) for row in rows for one in json.loads(row["span"])]
-        return [f"{one.words()}; {one.where}" for one in whole.missing_of(kind, spans, Quiet())]
+    def _give_up_old(self) -> None:
+        """Gives up the feeds of which no page arrived for long."""
+        question = "SELECT id, state FROM feeds WHERE state IN (?, ?) AND at < ?"
+        for row in self._database.execute(question, (WAITING, ARRIVING, time.time() - _SECONDS_WAITING)).fetchall():
+            if row["state"] == WAITING:
+                self._give_up(row["id"], f"since no page of it arrived for {_SECONDS_WAITING // 60} minutes")
+            else:
+                # (a process ended while it wrote it, and nobody had an answer)
+                self._drop(row["id"])
+
+    def _give_up(self, feed: int, why: str) -> None:
+        self.said.remark(f"feed {feed}, of which pages are missing, is given up, {why}")
+        self._drop(feed)
+
+    def _drop(self, feed: int) -> None:
+        for table, column in (("pages", "feed"), ("records", "feed"), ("feeds", "id")):
+            self._database.execute(f"DELETE FROM {table} WHERE {column} = ?", (feed,))
+
+    def drop(self, feed: int, keep: Callable[[], None] = lambda: None) -> bool:
+        """Removes a feed that waits for pages. False if none of this number does. `keep` keeps the answer with that."""
+        with writing(self._database):
+            is_there = self._database.execute("SELECT 1 FROM feeds WHERE id = ? AND state = ?", (feed, WAITING)).fetchone() is not None
+            if is_there:
+                self._drop(feed)
+                keep()
+        return is_there
 
     def _count(self, feed: int, called: str, is_whole: bool) -> None:
         """Has the records of a feed count: of each key the later ones, and those of the same time that differ."""
@@ -131,6 +225,7 @@ class Feeds:
         if is_whole:
             marks = ", ".join("?" * len(kinds))
             database.execute(f"DELETE FROM records WHERE feed <> ? AND kind IN ({marks}) AND {_COUNTING}", (feed, *kinds))
+        database.execute(f"DELETE FROM records WHERE id IN ({_OLDER})", {"feed": feed})
         twice = database.execute(
             "SELECT DISTINCT kind, key FROM records new WHERE feed = ? AND key <> '' AND EXISTS (SELECT 1 FROM records old WHERE old.kind = new.kind "
             f"AND old.key = new.key AND old.id <> new.id AND (old.feed = new.feed OR {_COUNTING_OLD}))",
@@ -158,6 +253,19 @@ class Feeds:
 _COUNTING = f"feed IN (SELECT id FROM feeds WHERE state = '{COUNTS}')"
 _COUNTING_OLD = f"old.feed IN (SELECT id FROM feeds WHERE state = '{COUNTS}')"
 
+# The older of each two records of a key, if the database can say which it is; all else is for cpe_recipes.latest.
+_TIME = "strftime('%Y-%m-%dT%H:%M:%fZ', {0}.modified, '+0 days') = rtrim({0}.modified, 'Z') || 'Z' AND {0}.modified > '0001'"
+_OLDER = f"""
+WITH keys AS (SELECT DISTINCT kind, key FROM records WHERE feed = :feed AND key <> ''),
+two AS (
+    SELECT min(one.id) first, max(one.id) last FROM keys JOIN records one ON one.kind = keys.kind AND one.key = keys.key
+    WHERE one.feed = :feed OR one.{_COUNTING} GROUP BY keys.kind, keys.key HAVING count(*) = 2)
+SELECT CASE WHEN rtrim(old.modified, 'Z') < rtrim(new.modified, 'Z') THEN old.id ELSE new.id END
+FROM two JOIN records old ON old.id = first JOIN records new ON new.id = last
+WHERE old.modified = new.modified AND old.body = new.body
+OR rtrim(old.modified, 'Z') <> rtrim(new.modified, 'Z') AND {_TIME.format('old')} AND {_TIME.format('new')}
+"""
+
 
 def _pages_in(data: bytes, said: Quiet) -> Iterator[Page]:
     """The pages of a file of these bytes, which may be packed. (The recipes read files, and this one has a name of its own.)"""
@@ -168,6 +276,11 @@ def _pages_in(data: bytes, said: Quiet) -> Iterator[Page]:
             yield from read_pages([str(path)], said, KINDS, strict=True, limits=_LIMITS)
         except Fatal as fault:
             raise Fatal(str(fault).removeprefix(f"{path.name}: ")) from fault
+
+
+def _missing_of(kind: str, spans: list[Span], said: Quiet) -> list[str]:
+    """In words, what is missing of the feed of these pages."""
+    return [f"{one.words()}; {one.where}" for one in whole.missing_of(kind, spans, said)]
 
 
 def _rows(feed: int, page: Page) -> Iterator[tuple]:

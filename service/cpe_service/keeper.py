@@ -6,6 +6,7 @@ take is a `fault`. An answer without either was written to the disk before.
 from __future__ import annotations
 
 import json
+import resource
 import signal
 import sqlite3
 import sys
@@ -17,21 +18,23 @@ from pathlib import Path
 from cpe_recipes.feeds import FeedFault
 from cpe_recipes.machines import machine_of_list
 from cpe_recipes.names_table import read_tables
-from cpe_recipes.said import Fatal
+from cpe_recipes.said import Fatal, why
 from cpe_recipes.settled import read_settled
 from cpe_recipes.suppressed import read_suppressed
 from cpe_recipes.unpack import Limits, read_feed
 from cpe_recipes.versions import read_letters
 
 from . import frames
-from .database import connected, new_edit, packed, writing
+from .database import connected, new_edit, note, noted, packed, writing
 from .feeds import Feeds, Offer
 from .frames import Message
 from .ground import TABLES, table_files
-from .quiet import Quiet
+from .quiet import Quiet, pathless
 
 # To how many bytes a list may unpack.
 _LIMITS = Limits(most=256 << 20)
+# How much memory a keeper may take. (A page takes about six times its bytes, so one of 600 MB fits.)
+_MOST_MEMORY = 4 << 30
 # In how many parts the machines may be shared out among workers, at most.
 SHARDS = 256
 
@@ -41,21 +44,24 @@ class Keeper:
 
     def __init__(self, folder: Path) -> None:
         self._database = connected(folder)
-        self._does = {"put": self._put, "delete": self._delete, "feed": self._feed, "table": self._table}
+        self._does = {"put": self._put, "delete": self._delete, "feed": self._feed, "drop": self._drop, "table": self._table}
 
     def answer(self, message: Message, body: bytes) -> Message:
-        """The answer to a message."""
+        """The answer to a message. One that is asked again has its first answer, if it changed something."""
         try:
-            return self._does[message["do"]](message, body)
+            known = json.loads(noted(self._database, f"answered {message['keeper']}", "{}")) if "id" in message else {}
+            return known["answer"] if known.get("id", "") == message.get("id") else self._does[message["do"]](message, body)
         except (FeedFault, Fatal) as fault:
             return {"refused": str(fault)}
         except RecursionError:
             return {"refused": "it is nested too deep"}
+        except MemoryError:
+            return {"refused": "reading it takes more memory than the service gives"}
         except (sqlite3.Error, OSError) as fault:
-            return {"fault": f"it could not be kept: {fault}"}
+            return {"fault": f"it could not be kept: {why(fault) if isinstance(fault, OSError) else fault}"}
         except Exception as fault:  # noqa: BLE001 (what a reader didn't foresee is refused too, and the log has it)
             traceback.print_exc()
-            return {"refused": f"it can not be read, since the reader has a fault: {type(fault).__name__} {fault}"}
+            return {"refused": f"it can not be read, since the reader has a fault: {type(fault).__name__} {pathless(str(fault))}"}
 
     def _put(self, message: Message, body: bytes) -> Message:
         """Keeps the list of a machine, whose verdicts wait then."""
@@ -69,7 +75,9 @@ class Keeper:
                 "SET list = excluded.list, said = excluded.said, put = excluded.put RETURNING id, put, judged_put",
                 (name, packed(data), json.dumps(said.as_json()), zlib.crc32(name.encode()) % SHARDS, edit),
             ).fetchone()
-        return {"edit": edit, "is_new": row["judged_put"] == 0, "components": len(machine.components), **said.as_json()}
+            answer = {"edit": edit, "is_new": row["judged_put"] == 0, "components": len(machine.components)}
+            self._note(message, answer)
+        return answer
 
     def _delete(self, message: Message, _body: bytes) -> Message:
         """Removes a machine. Its verdicts are none, which is a part of their history."""
@@ -86,10 +94,16 @@ class Keeper:
             )
             database.execute("DELETE FROM verdicts WHERE machine = ?", (row["id"],))
             database.execute("DELETE FROM machines WHERE id = ?", (row["id"],))
+            self._note(message, {"edit": edit})
         return {"edit": edit}
 
     def _feed(self, message: Message, body: bytes) -> Message:
-        return Feeds(self._database).take(body, Offer(message["name"], message["is_whole"], message["client"]))
+        offer = Offer(message["name"], message["is_whole"], message["client"])
+        return Feeds(self._database).take(body, offer, lambda answer: self._note(message, answer))
+
+    def _drop(self, message: Message, _body: bytes) -> Message:
+        """Removes a feed that waits for pages."""
+        return {} if Feeds(self._database).drop(message["feed"], lambda: self._note(message, {})) else {"missing": True}
 
     def _table(self, message: Message, body: bytes) -> Message:
         """Keeps a table of settings, if each line of it can be read."""
@@ -108,7 +122,13 @@ class Keeper:
                 return {"edit": None}
             edit = new_edit(database, TABLES[name], name, message["client"])
             database.execute("INSERT INTO tables VALUES (?, ?) ON CONFLICT (name) DO UPDATE SET text = excluded.text", (name, text))
+            self._note(message, {"edit": edit})
         return {"edit": edit}
+
+    def _note(self, message: Message, answer: Message) -> None:
+        """Keeps an answer with what it says, in one transaction. (A process that is killed then is started again, and asked again.)"""
+        if "id" in message:
+            note(self._database, f"answered {message['keeper']}", json.dumps({"id": message["id"], "answer": answer}))
 
 
 # How each table is read by the recipes, which says what can't be read.
@@ -128,8 +148,15 @@ def _unpacked(body: bytes) -> bytes:
         return read_feed(str(path), _LIMITS)
 
 
+def limit_memory(most: int = _MOST_MEMORY) -> None:
+    """Limits the memory of this process, so what would take more is refused, and ends nothing else."""
+    hard = resource.getrlimit(resource.RLIMIT_AS)[1]
+    resource.setrlimit(resource.RLIMIT_AS, (most if hard == resource.RLIM_INFINITY else min(most, hard), hard))
+
+
 def main() -> None:
     """Answers messages until there is none."""
+    limit_memory()
     # (who interrupts the server ends it, and it ends its processes)
     signal.signal(signal.SIGINT, signal.SIG_IGN)
     keeper = Keeper(Path(sys.argv[1]))

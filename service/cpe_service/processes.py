@@ -4,6 +4,7 @@ from __future__ import annotations
 import asyncio
 import contextlib
 import itertools
+import secrets
 import sys
 from collections.abc import Callable, Sequence
 from pathlib import Path
@@ -32,14 +33,15 @@ async def _started(words: Sequence[str]) -> asyncio.subprocess.Process:
 class Keeper:
     """The process that keeps what is sent. It does one thing after the other."""
 
-    def __init__(self, folder: Path) -> None:
-        self._words = ("cpe_service.keeper", str(folder))
+    def __init__(self, folder: Path, name: str) -> None:
+        self._words, self._name = ("cpe_service.keeper", str(folder)), name
         self._process: asyncio.subprocess.Process | None = None
         self._turn = asyncio.Lock()
         self.waiting = self.restarts = 0
 
     async def ask(self, message: Message, body: bytes = b"") -> Message:
-        """Its answer. If it ended, it is asked once more: what it keeps twice is kept once. Gone if it ended again."""
+        """Its answer. If it ended, it is asked once more: by its id it knows what it kept already. Gone if it ended again."""
+        message = {**message, "id": secrets.token_hex(16), "keeper": self._name}
         self.waiting += 1
         try:
             async with self._turn:

@@ -208,8 +208,8 @@ def _change(row: sqlite3.Row) -> dict[str, Json]:
 
 
 def last_change(database: sqlite3.Connection) -> int:
-    """The number of the last change."""
-    return database.execute("SELECT coalesce(max(id), 0) FROM history").fetchone()[0]
+    """The number of the last change, which may be too old to be kept."""
+    return database.execute("SELECT coalesce(max(seq), 0) FROM sqlite_sequence WHERE name = 'history'").fetchone()[0]
 
 
 def health(database: sqlite3.Connection) -> dict[str, Json]:

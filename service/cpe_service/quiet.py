@@ -1,7 +1,17 @@
 """What recipes say of what they read, kept for the answer and the page instead of written."""
 from __future__ import annotations
 
+import re
+
 from cpe_recipes.said import Noting, cut_words, shown
+
+# (addresses of the web have two slashes)
+_PATH = re.compile(r"(?<![\w./:~-])/(?:[^\s/'\":,;()]+/)+([^\s/'\":,;()]+)")
+
+
+def pathless(text: str) -> str:
+    """A text for clients, in which a path is the last name of it alone."""
+    return _PATH.sub(r"\1", text)
 
 
 class Quiet(Noting):

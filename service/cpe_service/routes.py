@@ -27,7 +27,8 @@ OF_ADVISORY = Parameter("advisory", "the id of an advisory")
 WORDS = Parameter("q", "the words to search for")
 CPE = Parameter("cpe", "a CPE name", r"[^\x00-\x1f\x7f]+", 2_000, None)
 WITH = Parameter("with", "another CPE name, to compare", r"[^\x00-\x1f\x7f]*", 2_000)
-FEED = Parameter("feed", "a name for the feed, if pages of several feeds arrive at once", r"[A-Za-z0-9_.-]*", 100)
+FEED = Parameter("feed", "a name for the fetch, another one for each, if pages of it arrive one by one", r"[A-Za-z0-9_.-]*", 100)
+NUMBER = Parameter("number", "the number of a feed", "[0-9]{1,18}", 18, in_path=True)
 IS_WHOLE = Parameter("whole", "true if the feed replaces all of its kind", "true|false", 5, "false")
 
 
@@ -60,6 +61,7 @@ ROUTES = (
     Route("GET", "/name", "name", "has a name in all forms, where it leads, and its relation to another", (CPE, WITH)),
     Route("GET", "/certificates/{machine}/{advisory}", "certificate", "makes the certificate of a verdict, and checks it", (MACHINE, ADVISORY)),
     Route("POST", "/feeds", "feeds", "takes a page of a feed, or several in an archive", (FEED, IS_WHOLE), "pages of NVD's API 2.0, or CVE records"),
+    Route("DELETE", "/feeds/{number}", "delete_feed", "removes a feed that waits for pages", (NUMBER,)),
     Route("GET", "/tables/{table}", "table", "has a table of settings", (TABLE,)),
     Route("PUT", "/tables/{table}", "put_table", "keeps a table of settings", (TABLE,), "the lines of the table, as scan.py reads them"),
     Route("GET", "/health", "health", "has whether all that was accepted is judged", ()),

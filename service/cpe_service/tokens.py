@@ -11,6 +11,8 @@ import secrets
 from dataclasses import dataclass
 from pathlib import Path
 
+from cpe_recipes.said import why
+
 NAME = "tokens"
 READ, WRITE = "read", "write"
 # In place of what is known of a file that was there, and is no more.
@@ -73,8 +75,10 @@ class Tokens:
 def _lines(path: Path) -> list[tuple[int, str]]:
     try:
         lines = path.read_text(encoding="utf-8").splitlines()
-    except (OSError, ValueError) as fault:
-        raise NoTokens(f"{path.name} can not be read: {fault}") from fault
+    except OSError as fault:
+        raise NoTokens(f"{path.name} can not be read: {why(fault)}") from fault
+    except ValueError as fault:
+        raise NoTokens(f"{path.name} can not be read: it is no UTF-8") from fault
     return [(number, line.strip()) for number, line in enumerate(lines, 1) if line.strip() and not line.startswith("#")]
 
 
@@ -106,7 +110,11 @@ def add(folder: Path, name: str, may_write: bool) -> str:
     if _LINE.fullmatch(line) is None:
         raise NoTokens(f"{name!r} is no name of a client: it has letters, digits and _.@- alone, at most 100")
     path = folder / NAME
-    descriptor = os.open(path, os.O_WRONLY | os.O_APPEND | os.O_CREAT, 0o600)
-    with os.fdopen(descriptor, "a", encoding="utf-8") as file:
-        file.write(f"{line}\n")
+    descriptor = os.open(path, os.O_RDWR | os.O_APPEND | os.O_CREAT, 0o600)
+    with os.fdopen(descriptor, "ab+") as file:
+        # (an editor may have left the last line without its end)
+        size = file.seek(0, os.SEEK_END)
+        file.seek(max(size - 1, 0))
+        begin = b"" if file.read(1) in (b"", b"\n") else b"\n"
+        file.write(begin + f"{line}\n".encode())
     return token

@@ -119,14 +119,14 @@ class HistoryTest(ServiceCase):
     def test_a_feed_counts_when_all_its_pages_are_there(self):
         server = self.begin()
         page = lambda start, *records: {"startIndex": start, "resultsPerPage": len(records), "totalResults": 3, "vulnerabilities": list(records)}
-        status, value = server.feed(page(2, advisory("CVE-2024-7", "1")))
+        status, value = server.feed(page(2, advisory("CVE-2024-7", "1")), feed="one")
         self.assertEqual((status, value["state"]), (202, "waiting"))
         self.assertIn("startIndex 0 to 1 are missing", value["missing"][0])
         self.assertEqual([one["kind"] for one in server.ask("GET", "/health")[1]["feedsWaiting"]], ["advisories"])
         self.assertEqual(len(self.changes(server)), 1)
         # (what is sent twice is kept once)
-        self.assertEqual(server.feed(page(2, advisory("CVE-2024-7", "1")))[1]["records"], 1)
-        status, value = server.feed(page(0, advisory("CVE-2024-5", "1"), advisory("CVE-2024-6", "2")))
+        self.assertEqual(server.feed(page(2, advisory("CVE-2024-7", "1")), feed="one")[1]["records"], 1)
+        status, value = server.feed(page(0, advisory("CVE-2024-5", "1"), advisory("CVE-2024-6", "2")), feed="one")
         self.assertEqual((status, value["state"], value["records"]), (202, "counts", 3))
         self.assertEqual([one[1] for one in self.changes(server)], ["CVE-2024-1", "CVE-2024-5", "CVE-2024-7"])
         self.assertEqual(server.ask("GET", "/health")[1]["feedsWaiting"], [])
@@ -134,15 +134,15 @@ class HistoryTest(ServiceCase):
     def test_a_feed_that_is_fetched_again(self):
         server = self.begin()
         page = lambda start, *records: {"startIndex": start, "resultsPerPage": len(records), "totalResults": 3, "vulnerabilities": list(records)}
-        server.feed(page(0, advisory("CVE-2024-5", "1"), advisory("CVE-2024-6", "1")))
-        status, value = server.feed(page(0, advisory("CVE-2024-7", "1"), advisory("CVE-2024-8", "1")))
+        server.feed(page(0, advisory("CVE-2024-5", "1"), advisory("CVE-2024-6", "1")), feed="one")
+        status, value = server.feed(page(0, advisory("CVE-2024-7", "1"), advisory("CVE-2024-8", "1")), feed="one")
         self.assertEqual((status, value["state"], value["records"]), (202, "waiting", 2))
         self.assertIn("is given up", value["remarks"][0])
-        self.assertEqual(server.feed(page(2, advisory("CVE-2024-9", "1")))[1]["state"], "counts")
+        self.assertEqual(server.feed(page(2, advisory("CVE-2024-9", "1")), feed="one")[1]["state"], "counts")
         self.assertEqual([one[1] for one in self.changes(server)], ["CVE-2024-1", "CVE-2024-7", "CVE-2024-8", "CVE-2024-9"])
-        # (pages of feeds that have names don't meet)
-        server.feed(page(0, advisory("CVE-2025-1", "1"), advisory("CVE-2025-2", "1")), feed="one")
-        server.feed(page(2, advisory("CVE-2025-3", "1")), feed="two")
+        # (pages of fetches that have other names don't meet)
+        server.feed(page(0, advisory("CVE-2025-1", "1"), advisory("CVE-2025-2", "1")), feed="two")
+        server.feed(page(2, advisory("CVE-2025-3", "1")), feed="three")
         self.assertEqual(len(server.ask("GET", "/health")[1]["feedsWaiting"]), 2)
 
     def test_what_is_known_already_changes_nothing(self):

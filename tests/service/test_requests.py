@@ -60,6 +60,11 @@ REFUSED = (
     ("POST", "/feeds", '{"CVE_Items":[]}', 422, "format 1.1"),
     ("POST", "/feeds", b"PK\x03\x04 no archive", 422, "can not be unpacked"),
     ("POST", "/feeds", '{"products":[]}{"vulnerabilities":[]}', 422, "a feed has one kind"),
+    ("POST", "/feeds", '{"products":[{}],"totalResults":2,"startIndex":1}', 422, "startIndex 0 to 0 are missing: give the pages of a fetch a name"),
+    ("POST", "/feeds?whole=true", '{"products":[{}]}', 422, "whole=true needs pages with totalResults"),
+    ("POST", "/feeds?whole=true", '{"products":[],"totalResults":0,"startIndex":0}', 422, "would remove all of its kind"),
+    ("DELETE", "/feeds/1", None, 404, "no feed 1 waits for pages"),
+    ("DELETE", "/feeds/x", None, 400, "number is not"),
     ("POST", "/feeds?whole=yes", "{}", 400, "whole is not"),
     ("POST", "/feeds?whole=true&whole=false", "{}", 400, "whole is given twice"),
     ("POST", "/feeds?feed=../x", "{}", 400, "feed is not"),
@@ -250,7 +255,7 @@ class ClientsTest(ServiceCase):
     def test_openapi_has_each_address(self):
         status, value = self.server().ask("GET", "/openapi.json")
         self.assertEqual(status, 200)
-        self.assertEqual(len(value["paths"]), 14)
+        self.assertEqual(len(value["paths"]), 15)
         for path, operations in value["paths"].items():
             for operation in operations.values():
                 named = {one["name"] for one in operation["parameters"] if one["in"] == "path"}
