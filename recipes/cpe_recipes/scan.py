@@ -291,12 +291,11 @@ def _of_products(
     items = dict.fromkeys(name for machine in asked for name in machine.asked_names())
     leads = leads_of(program, entries, items, unlisted.deprecated_names(entries))
     wanted = products.products_of(leads, items, entries)
-    matched, naming = read.many("--matches"), set[str]()
+    matched, listing = read.many("--matches"), set[str]()
     if matched:
         # (what isn't right in it is said when it is read for the ranges)
-        beside, naming = matches.namings(whole.pages(matched, Mute(), matches.KINDS, strict=True, reading=reading.again()), wanted)
-        wanted |= beside
-    before, found = _count(feed), products.Cut.of(feed, wanted, naming)
+        listing = matches.listing(whole.pages(matched, Mute(), matches.KINDS, strict=True, reading=reading.again()), wanted)
+    before, found = _count(feed), products.Cut.of(feed, wanted, listing)
     said.remark(f"{found.count()} of {before} advisories may concern a product of these machines; the others are FALSE there")
     return found
 
