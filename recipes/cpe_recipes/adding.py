@@ -17,13 +17,13 @@ from dataclasses import dataclass
 from datetime import date, datetime, timezone
 
 from . import cve5, matches, whole
-from .concern import Concern, concern_of, plain_name
+from .concern import Concern, Named, concern_of, named_of, plain_name
 from .dictionary import NO_FORM, Change, Product, product_id
 from .feeds import ADVISORIES, RECORDS, FormFault, Json, Page, Placed, member, record_text, text_at
 from .kept import Kept, place_of
 from .latest import time_of
 from .made import make, maker
-from .matches import Naming, key_of_name
+from .matches import key_of_name
 from .near_products import Product as Key
 from .product_index import squeezed
 from .said import Said
@@ -177,20 +177,17 @@ class Adding:
 
     def _put_matches(self, page: Page, page_number: int) -> int:
         changed = 0
-        found: dict[tuple[int, int, str], None] = {}
+        found: dict[tuple[int, str], None] = {}
         for placed in page.each("match string", lambda it: text_at(member(it, "matchString"), "matchCriteriaId")):
             try:
                 match_string = member(placed.record, "matchString")
                 listed, modified = matches.names_of(match_string), record_text(matches.modified_of(match_string))
-                naming = Naming.of(match_string)
             except FormFault:
                 self._said.left_out(placed.id, NO_FORM, placed.source.place(placed.number))
                 continue
-            if naming is not None:
-                other = self._number_of_key(naming.product)
-                found.update(dict.fromkeys((self._number_of_key(one), other, placed.id) for one in naming.listed))
+            found.update(dict.fromkeys((self._number_of_key(one), placed.id) for one in matches.products_of(match_string)))
             changed += self._put_match(place_of(page_number, placed.number - 1), placed.id, modified, record_text(listed))
-        self._kept.put("INSERT OR IGNORE INTO naming VALUES (?, ?, ?)", found)
+        self._kept.put("INSERT OR IGNORE INTO listing VALUES (?, ?)", found)
         return changed
 
     def _put_match(self, place: int, key: str, modified: str, listed: str) -> bool:
@@ -279,11 +276,12 @@ class _LatestAdvisories:
 
     def _delete(self, known: Iterable[tuple[int, str, bytes]]) -> None:
         for place, _, data in known:
-            concern = concern_of(record_of(data))
+            record = record_of(data)
+            concern = concern_of(record)
             if concern is not None:
                 products = [(self._number_of(product), place) for product in concern.products]
                 self._kept.put("DELETE FROM concerns WHERE product = ? AND place = ?", products)
-                self._kept.put("DELETE FROM ranged WHERE key = ? AND place = ?", [(key, place) for key in concern.ranges])
+            self._kept.put("DELETE FROM ranged WHERE key = ? AND place = ?", {(key, place) for key, _ in named_of(record)})
             for table in ("advisories", "made"):
                 self._kept.put(f"DELETE FROM {table} WHERE place = ?", [(place,)])
 
@@ -317,12 +315,13 @@ def told_apart(record: Json) -> tuple[str | None, str]:
 @dataclass(frozen=True)
 class Derived:
     """What is kept beside the record of an advisory: whether it has configurations, why it has no verdict, which products it concerns and
-    what it becomes, if it is plain."""
+    what it becomes, if it is plain, and which of its matches have bounds, if it has a verdict."""
 
     has_names: bool
     state: str | None
     concern: Concern | None
     made: bytes | None
+    named: Named
 
     @staticmethod
     def of(record: Json) -> Derived:
@@ -332,7 +331,8 @@ class Derived:
         concern = concern_of(record) if state is None else None
         made = make(record) if concern is not None else None
         # (of what something would be reported, that is read by every scan)
-        return Derived(has_names, state, None if made is None else concern, made)
+        named = named_of(record) if state is None else frozenset()
+        return Derived(has_names, state, None if made is None else concern, made, named)
 
     def columns(self) -> tuple[bool, str | None, bool, bool]:
         """Whether it has configurations, its state, whether it isn't plain, and whether it asks for operating systems alone."""
@@ -340,10 +340,10 @@ class Derived:
         return self.has_names, self.state, is_odd, self.concern is not None and self.concern.is_of_systems()
 
     def put(self, kept: Kept, place: int, number_of: Callable[[Key], int]) -> None:
-        """Puts its products and ranges, and what it becomes."""
+        """Puts its products and its matches that have bounds, and what it becomes."""
+        kept.put("INSERT INTO ranged VALUES (?, ?, ?)", [(key, place, number_of(product)) for key, product in self.named])
         if self.concern is not None:
             kept.put("INSERT INTO concerns VALUES (?, ?)", [(number_of(product), place) for product in self.concern.products])
-            kept.put("INSERT INTO ranged VALUES (?, ?)", [(key, place) for key in self.concern.ranges])
             kept.put("INSERT INTO made VALUES (?, ?)", [(place, self.made)])
 
 

@@ -62,9 +62,11 @@ def _with_parts(test: Json) -> Json:
         return {**test, "of": [_with_parts(one) for one in test["of"]]}
     keys = PARTS if parts - PARTS.keys() else OF_DEVICES
     silent = [_if_silent(one, keys) for one in test["of"]]
-    if keys is PARTS and all(set(_parts(one)) & PARTS.keys() for one in test["of"] if not is_negated(one)):
+    here = [one for one in test["of"] if not is_negated(one)]
+    of_each = [set(_parts(one)) for one in here]
+    if here and (any(len(found) > 1 for found in of_each) if keys is OF_DEVICES else all(found & PARTS.keys() for found in of_each)):
         # (something of it has to be there, where that isn't asked for beside these parts)
-        silent.append({"op": "OR", "of": [one for one in test["of"] if not is_negated(one)]})
+        silent.append({"op": "OR", "of": here})
     return {**test, "of": silent}
 
 

@@ -44,9 +44,9 @@ def _advisories(kept: Kept, numbers: dict[int, tuple[str, str]]) -> Iterator[tup
     products: dict[int, set[tuple[str, str]]] = {}
     for product, place in kept.each("SELECT product, place FROM concerns"):
         products.setdefault(place, set()).add(numbers.get(product, ("", "")))
-    ranges: dict[int, set[str]] = {}
-    for key, place in kept.each("SELECT key, place FROM ranged"):
-        ranges.setdefault(place, set()).add(key)
+    ranges: dict[int, set[tuple[str, tuple[str, str]]]] = {}
+    for key, place, product in kept.each("SELECT key, place, product FROM ranged"):
+        ranges.setdefault(place, set()).add((key, numbers.get(product, ("", ""))))
     is_of_these = kept.rows("SELECT digest FROM maker") == [(maker(),)]
     columns_of = "place, id, modified, a.data, made.data, has_names, state, is_odd, is_of_systems"
     for place, id, modified, data, made, *columns in kept.each(f"SELECT {columns_of} FROM advisories a LEFT JOIN made USING (place)"):
@@ -58,7 +58,7 @@ def _advisories(kept: Kept, numbers: dict[int, tuple[str, str]]) -> Iterator[tup
         derived = Derived.of(record)
         concern = derived.concern or Concern(frozenset(), frozenset(), frozenset())
         is_right = (id, modified) == told_apart(record) and tuple(columns) == derived.columns()
-        is_right = is_right and products.get(place, set()) == concern.products and ranges.get(place, set()) == concern.ranges
+        is_right = is_right and products.get(place, set()) == concern.products and ranges.get(place, set()) == derived.named
         is_right = is_right and (made == derived.made or not is_of_these)
         yield place, "" if is_right else f"what is kept beside {id_of(record) or 'it'} is of another record"
 

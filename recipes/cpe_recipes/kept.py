@@ -14,7 +14,7 @@ from .said import Fatal, why
 
 FILE = "feeds.sqlite"
 # (change it with the tables, and with what is kept beside products and matches; what is kept beside advisories is made again)
-VERSION = 1
+VERSION = 2
 # By this number SQLite's own header says whose file it is.
 _APPLICATION = 0x43504553
 _SECONDS_TO_WAIT = 10
@@ -54,8 +54,10 @@ CREATE TABLE maker (digest TEXT NOT NULL);
 CREATE TABLE concerns (product INTEGER NOT NULL, place INTEGER NOT NULL, PRIMARY KEY (product, place)) WITHOUT ROWID;
 CREATE TABLE matches (place INTEGER PRIMARY KEY, key TEXT NOT NULL, modified TEXT NOT NULL, listed TEXT NOT NULL);
 CREATE INDEX matches_by_key ON matches (key);
-CREATE TABLE ranged (key TEXT NOT NULL, place INTEGER NOT NULL, PRIMARY KEY (key, place)) WITHOUT ROWID;
-CREATE TABLE naming (product INTEGER NOT NULL, other INTEGER NOT NULL, key TEXT NOT NULL, PRIMARY KEY (product, other, key)) WITHOUT ROWID;
+CREATE TABLE ranged (
+    key TEXT NOT NULL, place INTEGER NOT NULL, product INTEGER NOT NULL, PRIMARY KEY (key, place, product)
+) WITHOUT ROWID;
+CREATE TABLE listing (product INTEGER NOT NULL, key TEXT NOT NULL, PRIMARY KEY (product, key)) WITHOUT ROWID;
 CREATE TABLE unsettled (kind TEXT PRIMARY KEY) WITHOUT ROWID;
 CREATE TABLE told (kind TEXT NOT NULL, number INTEGER NOT NULL, text TEXT NOT NULL, PRIMARY KEY (kind, number)) WITHOUT ROWID;
 """

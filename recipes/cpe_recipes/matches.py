@@ -3,12 +3,12 @@ from __future__ import annotations
 
 import contextlib
 from collections.abc import Collection, Iterable
-from dataclasses import dataclass
 
 from . import names
+from .concern import plain_product
 from .feeds import FormFault, Json, Page, member, members, text_at
 from .latest import time_of
-from .near_products import Product, key_of
+from .near_products import Product, key_of, keys_of
 from .product_index import as_formatted
 from .said import Fatal, Said
 
@@ -37,44 +37,26 @@ def listed(feed: Iterable[Page], wanted: Collection[str], said: Said) -> dict[st
     return {id: listed for id, (_, listed) in found.items()}
 
 
-@dataclass(frozen=True, slots=True)
-class Naming:
-    """A match that gives other names to items that it lists: the product of its own name, None if that isn't known, and the products of
-    these items, as keys of near_products.py. One of which the product isn't known is None."""
+def products_of(match_string: Json) -> set[Product | None]:
+    """The products of the names that a match lists; None for one that isn't plain, and may be of any.
 
-    key: str
-    product: Product | None
-    listed: frozenset[Product | None]
-
-    @staticmethod
-    def of(match_string: Json) -> Naming | None:
-        """The naming of a match; None if each item that it lists has its name anyhow."""
-        key, criteria = text_at(match_string, "matchCriteriaId"), text_at(match_string, "criteria") or ""
-        listed = frozenset(key_of_name(name) for name in names_of(match_string) if not _has_name(name, criteria))
-        return Naming(key or "", key_of_name(criteria), listed) if listed else None
+    An item that is listed for a match has the name of that match too, by the advisory that asks for it. What the feed itself says of that
+    name is not looked at, since it may be missing, or an older one.
+    """
+    return set(map(plain_product, names_of(match_string)))
 
 
-def _has_name(name: str, criteria: str) -> bool:
-    """Whether a name says all that the name of a match says."""
-    here, there = as_formatted(name), as_formatted(criteria)
-    if not here or not there or not name.startswith(names.PREFIX) or not criteria.startswith(names.PREFIX):
-        return False
-    return all(want in (names.ANY, have) for want, have in zip(names.components(there), names.components(here)))
-
-
-def namings(feed: Iterable[Page], wanted: Collection[Product]) -> tuple[set[Product], set[str]]:
-    """The products of the matches that give other names to items of these products, and the ids of these matches. An item that is listed
-    for a match has the name of the match too."""
-    products: set[Product] = set()
-    keys: set[str] = set()
+def listing(feed: Iterable[Page], wanted: Collection[Product]) -> set[str]:
+    """The ids of the matches that list items of these products (keys of near_products.py), or some of which that isn't known."""
+    found: set[str] = set()
     for page in feed:
         for record in page.records:
             with contextlib.suppress(FormFault):
-                naming = Naming.of(member(record, "matchString"))
-                if naming is not None and any(one is None or one in wanted for one in naming.listed):
-                    products.update(() if naming.product is None else (naming.product,))
-                    keys.add(naming.key)
-    return products, keys
+                match_string = member(record, "matchString")
+                key = text_at(match_string, "matchCriteriaId")
+                if key and any(one is None or any(near in wanted for near in keys_of(one)) for one in products_of(match_string)):
+                    found.add(key)
+    return found
 
 
 def key_of_name(name: str) -> Product | None:

@@ -4,7 +4,7 @@
 
 `cpe` takes 100,000 statements; NVD has more advisories. This cuts its feeds (the JSON of /rest/json/cves/2.0) down to the
 advisories that could be other than FALSE on some machine, as one page of the same form, for `advisories.sh` or `scan.py`. An
-advisory goes on where a vulnerable match of it
+advisory goes on where a vulnerable match of it, or any match beside a vulnerable operating system, firmware or hardware (concern.py),
 
 - has a vendor and product that an item of a machine has, or leads to by the dictionary of --records, or may go on as there; or
 - has a vendor or product that isn't plain, or a name that is none; or, if an item has a pattern in its vendor, the product of that, and
@@ -22,9 +22,9 @@ from dataclasses import dataclass
 
 from . import hints, latest, names, whole
 from .advisories import KINDS
-from .concern import concern_of
+from .concern import Concern, Named, concern_of, named_of
 from .decide import Leads, leads_of, read_entries
-from .feeds import Page, record_text
+from .feeds import Json, Page, record_text
 from .machines import read_machines
 from .naming import name_machines, read_names
 from .near_products import Product, key_of
@@ -107,16 +107,20 @@ class Cut:
     elsewhere: dict[str, bool]
 
     @staticmethod
-    def of(pages: Sequence[Page], wanted: Collection[Product], naming: Collection[str] = ()) -> Cut:
-        """Cuts pages of which each advisory counts. `naming` are the ids of matches that give items names."""
+    def of(pages: Sequence[Page], wanted: Collection[Product], listing: Collection[str] = ()) -> Cut:
+        """Cuts pages of which each advisory counts. `listing` are the ids of matches that list items of the wanted products."""
         ids = Counter(id for page in pages for record in page.records if (id := id_of(record)) is not None)
+        concerns = [[concern_of(record) for record in page.records] for page in pages]
+        # (such items have the names of these matches too, whoever asks for them)
+        named = (one for page, of in zip(pages, concerns) for pair in zip(page.records, of) for one in _named(*pair)) if listing else ()
+        wanted = {*wanted, *(product for key, product in named if key in listing)}
         kept, elsewhere = [], {}
-        for page in pages:
+        for page, of_page in zip(pages, concerns):
             places = []
-            for place, record in enumerate(page.records):
-                concern, id = concern_of(record), id_of(record)
+            for place, (record, concern) in enumerate(zip(page.records, of_page)):
+                id = id_of(record)
                 # (of one that comes more than once it isn't known which counts, which will be reported)
-                if concern is None or id is None or ids[id] > 1 or concern.meets(wanted, naming):
+                if concern is None or id is None or ids[id] > 1 or concern.meets(wanted, listing):
                     places.append(place)
                 else:
                     elsewhere[id] = concern.is_of_systems()
@@ -125,3 +129,8 @@ class Cut:
 
     def count(self) -> int:
         return sum(len(page.records) for page in self.pages)
+
+
+def _named(record: Json, concern: Concern | None) -> Named:
+    """The matches of an advisory that have bounds, plain or not."""
+    return named_of(record) if concern is None else concern.named

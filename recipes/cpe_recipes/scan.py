@@ -305,9 +305,7 @@ def of_products(
     items = dict.fromkeys(name for machine in asked for name in machine.asked_names())
     leads = leads_of(program, entries, items, unlisted.deprecated_names(entries))
     wanted = products.products_of(leads, items, entries)
-    beside, naming = matches.namings(listed, wanted)
-    wanted |= beside
-    before, found = _count(feed), products.Cut.of(feed, wanted, naming)
+    before, found = _count(feed), products.Cut.of(feed, wanted, matches.listing(listed, wanted))
     said.remark(f"{found.count()} of {before} advisories may concern a product of these machines; the others are FALSE there")
     return found
 

@@ -44,8 +44,8 @@ class Stored:
 
     def __init__(self, folder: str, program: Program, said: Said, reading: Reading) -> None:
         self._kept, self._program, self._said, self._reading = Kept(folder), program, said, reading
-        # (the ids of the matches that give items other names)
-        self._naming: set[str] = set()
+        # (the places of the advisories with a match that lists items of the products that are looked for)
+        self._listing: set[int] = set()
 
     @contextlib.contextmanager
     def opened(self) -> Iterator[Stored]:
@@ -155,12 +155,13 @@ class Stored:
 
     def _near(self, products: Collection[Product]) -> set[int]:
         """The numbers of the products that names of these may have: to which deprecations lead, and from which they lead to one of
-        these, and those of which a match lists one of these. The ids of such matches are noted."""
+        these, and those of the matches that list items of these. The advisories that ask for such matches are noted."""
         there = self._led(self._numbers(products), "successor", "product")
         found = self._led(there, "product", "successor")
-        beside = self._kept.rows_of("SELECT other, key FROM naming WHERE product IN {}", [NO_PRODUCT, *found])
-        keys = self._kept.rows_of("SELECT vendor, product FROM names WHERE number IN {}", {number for number, _ in beside})
-        self._naming = {key for _, key in beside}
+        query = "SELECT DISTINCT ranged.place, ranged.product FROM listing CROSS JOIN ranged USING (key) WHERE listing.product IN {}"
+        beside = self._kept.rows_of(query, [NO_PRODUCT, *found])
+        self._listing = {place for place, _ in beside}
+        keys = self._kept.rows_of("SELECT vendor, product FROM names WHERE number IN {}", {number for _, number in beside} - found)
         return found | self._numbers(keys)
 
     def _around(self, numbers: Collection[int]) -> set[int]:
@@ -182,7 +183,7 @@ class Stored:
         found = {place for (place,) in self._kept.rows(f"SELECT place FROM advisories WHERE (is_odd OR is_doubled) AND {_COUNTS}")}
         found.update(place for (place,) in self._kept.rows_of(f"SELECT place FROM advisories WHERE id IN {{}} AND {_COUNTS}", ids))
         concerned = {place for (place,) in self._kept.rows_of("SELECT place FROM concerns WHERE product IN {}", wanted)}
-        concerned.update(place for (place,) in self._kept.rows_of("SELECT place FROM ranged WHERE key IN {}", self._naming))
+        concerned |= self._listing
         passed = {place for (place,) in self._kept.each("SELECT place FROM advisories WHERE is_passed = 1")}
         return sorted(found | concerned - passed)
 

@@ -36,8 +36,14 @@ class Feeds:
         vendor, product = self.draw.choice(VENDORS), self.draw.choice(PRODUCTS)
         return f"cpe:2.3:{part}:{vendor}:{product}:{version or self.draw.choice(VERSIONS)}:*:*:*:*:*:*:*"
 
+    def device(self, version=None):
+        """A name of an operating system, of firmware or of hardware."""
+        return self.name(version or self.draw.choice([*VERSIONS[:2], "-"]), self.draw.choice("oh"))
+
     def _put_product(self, number):
         name = self.name() if number % 4 else f"cpe:2.3:o:v:s:{self.draw.choice(VERSIONS)}:*:*:*:*:*:*:*"
+        if number % 8 == 1:
+            name = self.device()
         product = {"cpeName": name, "cpeNameId": f"N{number}", "lastModified": self.now(), "created": self.now()}
         product["titles"] = [{"title": f"Title {number}", "lang": "en"}]
         if self.is_one_of(4):
@@ -49,24 +55,29 @@ class Feeds:
             product["cpeName"] = self.draw.choice([7, "cpe:2.3:a:bad", name.upper(), None])
         self.products[number] = {"cpe": product}
 
-    def match(self, is_vulnerable=True):
+    def match(self, is_vulnerable=True, part="a"):
         key = f"K{self.draw.randrange(10_000)}"
         if self.is_one_of(3):
-            name = self.name() if not self.is_one_of(10) else self.draw.choice(ODD_NAMES)
+            name = self.name(part=part) if not self.is_one_of(10) else self.draw.choice(ODD_NAMES)
             return {"vulnerable": is_vulnerable, "criteria": name, "matchCriteriaId": key}
         first, last = sorted(self.draw.sample(VERSIONS[:4], 2))
         bounds = {"versionStartIncluding": first} if self.is_one_of(2) else {}
         bounds[self.draw.choice(["versionEndIncluding", "versionEndExcluding"])] = last
         if self.is_one_of(30):
             bounds |= {"versionEndIncluding": last, "versionEndExcluding": last}
-        name = self.name("*")
+        name = self.name("*", part)
         if self.is_one_of(3):
             names = [self.name() for _ in range(2)] + [name.replace(":*:", f":{first}:", 1)]
             string = {"matchCriteriaId": key, "criteria": name, "lastModified": self.now(), "matches": [{"cpeName": one} for one in names]}
+            if self.is_one_of(4):
+                # (lists are found by the id of their match, whatever is said of its name)
+                string["criteria"] = self.draw.choice([None, 5, names[0], self.name("*"), self.draw.choice(ODD_NAMES)])
             self.matches[key] = {"matchString": string}
         return {"vulnerable": is_vulnerable, "criteria": name, **bounds, "matchCriteriaId": key}
 
     def configuration(self):
+        if self.is_one_of(3):
+            return self.configuration_of_devices()
         node = {"operator": "OR", "negate": False, "cpeMatch": [self.match() for _ in range(self.draw.randint(1, 3))]}
         nodes = [node]
         if self.is_one_of(4):
@@ -77,6 +88,16 @@ class Feeds:
         if self.is_one_of(30):
             node["cpeMatch"][0]["vulnerable"] = False
         return {"nodes": nodes, "operator": self.draw.choice(["AND", "OR"]), "negate": self.is_one_of(20)}
+
+    def configuration_of_devices(self):
+        """One with a vulnerable operating system, firmware or hardware, mostly on something else."""
+        def node(is_vulnerable, parts):
+            matches = [self.match(is_vulnerable and not self.is_one_of(8), self.draw.choice(parts)) for _ in range(self.draw.randint(1, 2))]
+            return {"operator": self.draw.choice(["OR", "OR", "AND"]), "negate": self.is_one_of(20), "cpeMatch": matches}
+
+        nodes = [node(True, self.draw.choice(["o", "h", "oh", "oa"]))]
+        nodes += [node(False, self.draw.choice(["h", "o", "a", "oha"])) for _ in range(self.draw.choice([0, 1, 1, 1, 2]))]
+        return {"nodes": nodes, "operator": self.draw.choice(["AND", "AND", "AND", "OR"]), "negate": self.is_one_of(20)}
 
     def _put_advisory(self, number):
         status = self.draw.choice(["Analyzed"] * 6 + ["Modified", "Rejected", "Awaiting Analysis", "Undergoing Analysis"])
@@ -143,6 +164,8 @@ class Feeds:
             items = [self.name() for _ in range(self.draw.randint(1, 4))]
             if self.is_one_of(3):
                 items.append(f"cpe:2.3:o:v:s:{self.draw.choice(VERSIONS)}:*:*:*:*:*:*:*")
+            if self.is_one_of(3):
+                items.append(self.device())
             if is_odd and self.is_one_of(3):
                 items.append(self.draw.choice(["cpe:2.3:a:v*:q:1.0:*:*:*:*:*:*:*", "cpe:2.3:a:w:?s:1.*:*:*:*:*:*:*:*", "cpe:2.3:a:v:p:*:*:*:*:*:*:*:*", "cpe:2.3:a:bad"]))
             if self.is_one_of(3):

@@ -13,10 +13,13 @@ from drawn_feeds import Feeds
 from recipe_case import ROOT, RecipeCase, fs, needs_cpe
 from test_scan import Drawn, scanned, truths
 
-from cpe_recipes import portions, scan, store
-from cpe_recipes.concern import concern_of
+from cpe_recipes import advisories, portions, scan, store
+from cpe_recipes.asked import LONG
+from cpe_recipes.cases import Known
+from cpe_recipes.components import Machine
+from cpe_recipes.concern import concern_of, named_of
 from cpe_recipes.feeds import Page, record_text
-from cpe_recipes.near_products import NearProducts, key_of, version_key
+from cpe_recipes.near_products import NearProducts, item_of, key_of, version_key
 from cpe_recipes.outcome import Hanging
 from cpe_recipes.portions import Size, size_of
 from cpe_recipes.products import Cut
@@ -132,6 +135,87 @@ class Products(unittest.TestCase):
         cut = Cut.of([page], {("v", "p")})
         self.assertEqual((cut.count(), cut.elsewhere), (3, {"CVE-2024-0003": False}))
         self.assertEqual(cut.pages[0].numbers, [1, 2, 3])
+
+
+@needs_cpe
+class Concerns(unittest.TestCase):
+    def test_what_does_not_concern_a_machine_is_false_there(self):
+        """Of all plain advisories, over machines with few items, each verdict that isn't FALSE is of one that concerns the machine."""
+        cut = 0
+        for seed in range(6):
+            feeds = Feeds(seed, 0, 0)
+            records = [advisory(id=f"CVE-2024-{k:04}") for k in range(400)]
+            for record in records:
+                record["cve"]["configurations"] = [feeds.configuration() for _ in range(feeds.draw.choice([1, 1, 1, 2]))]
+            concerns = {record["cve"]["id"]: concern_of(record) for record in records}
+            known = known_of([record for record in records if concerns[record["cve"]["id"]] is not None])
+            self.assertGreater(len(known.records), 200)
+            machines = [Machine(f"m{k}", [draw() for _ in range(feeds.draw.choice([1, 1, 2]))]) for k in range(10) for draw in (feeds.name, feeds.device)]
+            made, found = scanned(known, machines, is_all_asked=True)
+            for machine, one in zip(machines, found):
+                wanted = {item_of(name)[0] for name in machine.items}
+                for id, truth in truths(known, made, one).items():
+                    does_meet = concerns[id].meets(wanted)
+                    cut += not does_meet
+                    with self.subTest(seed=seed, id=id, items=machine.items):
+                        self.assertTrue(truth == "FALSE" or does_meet, truth)
+        self.assertGreater(cut, 10_000)
+
+    def test_what_is_plain_is_never_longer_than_a_line(self):
+        """The longest advisories that are plain have their own logic as they are asked, whatever is beside each name there."""
+        longest = []
+        for seed in range(150):
+            feeds = Feeds(seed, 0, 0)
+            one, key = feeds.configuration(), "K" * feeds.draw.choice([0, 1, 36, 64])
+            for node in one["nodes"]:
+                node["cpeMatch"] = [match | {"matchCriteriaId": key and f"{key}{place}"} for place, match in enumerate(node["cpeMatch"])]
+            record = advisory()
+            for count in (600, 500, 420, 350, 290, 240, 200, 160, 130, 100):
+                nodes = [node | {"cpeMatch": node["cpeMatch"] * max(1, count // len(node["cpeMatch"]))} for node in one["nodes"]]
+                several = [one] * count if seed % 2 else [one | {"nodes": nodes}]
+                record["cve"]["configurations"] = several
+                if concern_of(record) is not None:
+                    known = known_of([record])
+                    longest.append(max(map(len, known.asked)))
+                    self.assertFalse([statement for statement in known.statements if LONG in statement.checks], seed)
+                    break
+        self.assertGreater(len([length for length in longest if length > 20_000]), 30)
+        self.assertLess(max(longest), 65_536)
+
+    def test_a_vulnerable_system_is_unknown_by_what_stands_beside_it(self):
+        app, system, device = fs("w", "app", "1.0"), fs("v", "fw", "1.0").replace(":a:", ":o:"), fs("v", "dev").replace(":a:", ":h:")
+        beside = match(app) | {"vulnerable": False}
+        wanted = {
+            (system, app, "AND"): {("v", "fw"), ("w", "app")}, (device, app, "AND"): {("v", "dev"), ("w", "app")},
+            (app, system, "AND"): {("w", "app")}, (system, device, "OR"): {("v", "fw"), ("v", "dev")},
+        }
+        for (vulnerable, other, operator), products in wanted.items():
+            nodes = [{"operator": "OR", "cpeMatch": [match(vulnerable)]}, {"operator": "OR", "cpeMatch": [beside | {"criteria": other}]}]
+            record = advisory()
+            record["cve"]["configurations"] = [{"operator": operator, "nodes": nodes}]
+            with self.subTest(vulnerable=vulnerable, operator=operator):
+                self.assertEqual(concern_of(record).products, products)
+                nodes[1]["negate"] = True
+                self.assertEqual(concern_of(record) is None, vulnerable != app)
+
+    def test_matches_that_have_bounds_are_found_in_any_advisory(self):
+        odd = ["cpe:2.3:a:*:q:*:*:*:*:*:*:*:*", "cpe:2.3:a:V:-:*:*:*:*:*:*:*:*", "cpe:2.3:a:v*:q", "cpe:/a:v:p", "cpe:2.3:a:v", "CPE:2.3:a:v:p", r"cpe:2.3:a:v\-x:q:1"]
+        keys = [("", "q"), ("v", ""), ("", "q"), ("", ""), ("", ""), ("", ""), ("", "q")]
+        for name, key in zip(odd, keys):
+            with self.subTest(name):
+                self.assertEqual(named_of(advisory(match(name) | {"versionEndIncluding": "1"})), {("K", key)})
+        record = advisory(match(fs("v", "p")), 7)
+        record["cve"]["configurations"][0]["nodes"].append({"children": [{"cpeMatch": [match(fs("V", "q")) | {"versionEndIncluding": 7}]}]})
+        self.assertEqual(named_of(record), {("K", ("v", "q"))})
+        for record in (7, {}, {"cve": 7}, {"cve": {"configurations": [{"nodes": 7}, 8]}}, advisory(match(fs("v", "p")) | {"versionEndIncluding": "1", "matchCriteriaId": "a b"})):
+            self.assertEqual(named_of(record), frozenset())
+
+
+def known_of(records):
+    """What these advisories become."""
+    program, said = Program(), mock.Mock()
+    found = advisories.convert([Page("page.json", "vulnerabilities", records)], program, said, is_decided=True)
+    return Known([], program.accepted_statements(found.candidates, said), found.ranges, found.details, found.stand_ins)
 
 
 def match(name):

@@ -15,7 +15,7 @@ from unittest import mock
 
 from drawn_feeds import MEMBERS, Feeds
 from recipe_case import RECIPES, SAMPLES, RecipeCase, fs, needs_cpe
-from test_portions import advisory, match
+from test_portions import SMALL, advisory, limited, match
 
 from test_feeds import Heard
 
@@ -225,6 +225,30 @@ class Stores(RecipeCase):
         self.add(page("vulnerabilities", cve(8, ranged | {"versionEndIncluding": "1", "versionEndExcluding": "1"})))
         self.assertEqual(self.verdicts(status=1)[0], {"1": "TRUE", "7": "TRUE", "8": "UNKNOWN"})
 
+    def test_a_list_reaches_items_by_the_id_of_its_match(self):
+        """Whatever the feed says of the name of a match: the advisory's own name for it is one of the items' names, by which others see them."""
+        ranged = match(fs("x", "q")) | {"versionEndExcluding": "3"}
+        others = [cve(n, match(fs("y", f"z{n}"))) for n in range(10, 15)]
+        odd = cve(2, match(fs("x", "q")), ranged | {"criteria": fs("*", "q"), "matchCriteriaId": "odd", "versionEndExcluding": "2"})
+        advisories = page("vulnerabilities", cve(1, ranged), odd, cve(3, match(fs("x", "q", "1.0"))), cve(4, match(fs("v", "q", "1.0"))), *others)
+        dictionary = page("products", product(HERE), product(ELSEWHERE))
+        for criteria in ("none", 5, fs("x", "q"), fs("old", "q"), fs("*", "q"), HERE, "cpe:/a:x:q"):
+            with self.subTest(criteria), limited(SMALL):
+                shutil.rmtree(self.store, ignore_errors=True)
+                listed = [{"matchCriteriaId": key, "criteria": criteria, "matches": [{"cpeName": HERE}]} for key in ("K", "odd")]
+                if criteria == "none":
+                    del listed[0]["criteria"], listed[1]["criteria"]
+                pages = [dictionary, advisories, page("matchStrings", *({"matchString": one} for one in listed))]
+                self.add(*pages)
+                words = [word for option, one in zip(OPTIONS.values(), pages) for word in (option, self.file(f"{option[2:]}.json", one))]
+                some, whole = (ran(scan.run, ["--json", "--machines", self.machines, *words, *more]) for more in ((), ["--all"]))
+                self.assertIn("remark 4 of 9 advisories may concern", "".join(some[2]))
+                wanted = {"1": "TRUE", "2": "TRUE", "3": "TRUE", "4": "TRUE"}
+                self.assertEqual(self.verdicts()[0], wanted)
+                self.assertEqual({one["id"][-1]: one["verdict"] for one in json.loads(some[1])["machines"][0]["verdicts"]}, wanted)
+                verdicts = json.loads(whole[1])["machines"][0]["verdicts"]
+                self.assertEqual({one["id"][-1]: one["verdict"] for one in verdicts if one["verdict"] != "FALSE"}, wanted)
+
     def test_a_page_twice_changes_nothing(self):
         self.filled()
         before = self.verdicts()
@@ -410,7 +434,7 @@ class Stores(RecipeCase):
     def test_what_stands_beside_another_record(self):
         edits = {
             "its product": "UPDATE concerns SET product = product % 2 + 1", "none of its products": "DELETE FROM concerns",
-            "its ranges": "INSERT INTO ranged SELECT 'K', min(place) FROM advisories",
+            "its ranges": "INSERT INTO ranged SELECT 'K', min(place), 1 FROM advisories",
             "its state": "UPDATE advisories SET state = 'Rejected'", "its record": "UPDATE advisories SET data = x'00' WHERE place % 2",
             "its name": "UPDATE products SET product = product % 2 + 1", "its page": "DELETE FROM pages WHERE kind = 'products'",
             "what it becomes": "UPDATE made SET data = x'00'", "its id": "UPDATE advisories SET id = 'CVE-2024-0009'", "an advisory that isn't there": "DELETE FROM advisories",
