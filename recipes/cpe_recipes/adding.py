@@ -9,6 +9,7 @@ from __future__ import annotations
 import functools
 import hashlib
 import json
+import os
 import re
 import zlib
 from array import array
@@ -47,6 +48,20 @@ class Adding:
         self._new: dict[Key, int] = {}
         self._part, self._in_part = "", 0
 
+    def begin(self, paths: Iterable[str]) -> None:
+        """Notes that a run begins to add these files. If it is stopped, each scan reports that, until they are added to their end."""
+        with self._kept.writing():
+            number = (self._kept.one("SELECT coalesce(max(number), 0) FROM runs") or (0,))[0] + 1
+            self._kept.put("INSERT INTO runs VALUES (?, ?, ?)", [(number, _now(), json.dumps(list(map(os.path.abspath, paths))))])
+
+    def finish(self, paths: Iterable[str]) -> None:
+        """Notes that these files were added to their end, and with them those of each run that had no others."""
+        ended = set(map(os.path.abspath, paths))
+        with self._kept.writing():
+            runs = self._kept.rows("SELECT number, paths FROM runs WHERE paths IS NOT NULL")
+            whole_ones = [(number,) for number, text in runs if ended.issuperset(json.loads(text))]
+            self._kept.put("UPDATE runs SET paths = NULL WHERE number = ?", whole_ones)
+
     def is_there(self, data: bytes) -> bool:
         """Whether a file or member of these bytes was added before, whole."""
         self._end_part()
@@ -72,12 +87,11 @@ class Adding:
             if self._kept.one("SELECT 1 FROM pages WHERE key = ?", (key,)) is not None:
                 return None
             self._read_numbers()
-            now = datetime.now(timezone.utc).isoformat(timespec="seconds")
             ids = None if span is None or span.is_alone() else _numbers_of(span.ids)
             counts = (span.start, span.said, span.total) if span else (None, None, None)
             number = (self._kept.one("SELECT max(number) FROM pages") or (None,))[0]
             number = 1 if number is None else number + 1
-            row = (number, key, page.name, kind, page.kind == RECORDS, now, len(page.records), *counts, ids)
+            row = (number, key, page.name, kind, page.kind == RECORDS, _now(), len(page.records), *counts, ids)
             self._kept.put("INSERT INTO pages VALUES (?, ?, ?, ?, ?, ?, ?, ?, ?, ?, ?)", [row])
             putting = {"products": self._put_products, ADVISORIES: self._put_advisories, "matchStrings": self._put_matches}
             changed = putting[kind](page, number)
@@ -371,6 +385,10 @@ def _is_day(text: Json) -> bool:
         return isinstance(text, str) and _DAY.fullmatch(text) is not None and date.fromisoformat(text).year > 1900
     except ValueError:
         return False
+
+
+def _now() -> str:
+    return datetime.now(timezone.utc).isoformat(timespec="seconds")
 
 
 def _time(modified: str) -> datetime:

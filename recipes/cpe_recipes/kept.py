@@ -14,7 +14,7 @@ from .said import Fatal, why
 
 FILE = "feeds.sqlite"
 # (change it with the tables, and with what is kept beside products and matches; what is kept beside advisories is made again)
-VERSION = 1
+VERSION = 2
 # By this number SQLite's own header says whose file it is.
 _APPLICATION = 0x43504553
 _SECONDS_TO_WAIT = 10
@@ -28,6 +28,7 @@ CREATE TABLE pages (
     number INTEGER PRIMARY KEY, key TEXT NOT NULL UNIQUE, name TEXT NOT NULL, kind TEXT NOT NULL, is_of_records INTEGER NOT NULL,
     added TEXT NOT NULL, records INTEGER NOT NULL, start INTEGER, said INTEGER, total INTEGER, ids BLOB
 );
+CREATE TABLE runs (number INTEGER PRIMARY KEY, began TEXT NOT NULL, paths TEXT);
 CREATE TABLE parts (digest TEXT PRIMARY KEY) WITHOUT ROWID;
 CREATE TABLE names (
     number INTEGER PRIMARY KEY, vendor TEXT NOT NULL, product TEXT NOT NULL, squeezed TEXT NOT NULL, UNIQUE (vendor, product)

@@ -3,6 +3,7 @@ dictionary `cpe` refuses. Only the deprecations, and what they name, are tried a
 from __future__ import annotations
 
 import json
+import os
 from collections.abc import Iterable, Iterator
 
 from . import whole
@@ -12,7 +13,7 @@ from .dictionary import Product, deprecations_of
 from .feeds import Json, Placed, Source
 from .kept import Kept, page_and_number
 from .program import Candidate, Program, candidate_at
-from .said import Noting
+from .said import Noting, Said
 
 _COLUMNS = "place, name, title, day, id, change, odd, fault"
 
@@ -48,6 +49,13 @@ def settle(kept: Kept, program: Program) -> None:
 def is_settled(kept: Kept) -> bool:
     """Whether nothing was added since then."""
     return kept.one("SELECT 1 FROM unsettled") is None
+
+
+def tell_unended(kept: Kept, said: Said) -> None:
+    """Says which runs of store.py add have not ended: what they hadn't come to isn't there."""
+    for began, paths in kept.rows("SELECT began, paths FROM runs WHERE paths IS NOT NULL ORDER BY number"):
+        some = whole.some_of(list(map(os.path.basename, json.loads(paths))))
+        said.left_out(some, f"store.py add of this began at {began} and has not ended: pages may be missing until it is run again, to its end")
 
 
 def told_of(kept: Kept, kind: str) -> Iterator[dict[str, Json]]:

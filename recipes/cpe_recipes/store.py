@@ -16,6 +16,7 @@ wrong; 1 if something was left out, is missing or wrong, which is reported; 2 if
 """
 from __future__ import annotations
 
+import os
 from collections.abc import Callable, Iterator, Mapping, Sequence
 
 from . import checking, feeds
@@ -24,7 +25,7 @@ from .kept import Kept
 from .program import Program
 from .progress import Progress
 from .said import Fatal, Output, Said
-from .settling import settle, told_of
+from .settling import settle, tell_unended, told_of
 from .table import counted
 from .unpack import LARGE, TOLD_LIMITS
 from .whole import CALLED, Missing
@@ -49,34 +50,49 @@ def run(words: Sequence[str]) -> int:
 
 
 def _add(folder: str, read: Words, said: Said, output: Output) -> None:
+    for path in read.files:
+        # (of a word that was mistyped nothing is noted)
+        if not os.path.exists(path):
+            raise Fatal(f"{path}: there is no such file; nothing was added")
     program = Program()
     with Progress() as progress:
         kept = Kept(folder, is_made=True)
         adding = Adding(kept, said)
         adding.make_again()
-        there = 0
-
-        def is_there(data: bytes) -> bool:
-            nonlocal there
-            found = adding.is_there(data)
-            there += found
-            return found
-
-        limits = LARGE if read.has("--large") else TOLD_LIMITS
-        count = changed = 0
-        progress.step("adding pages")
-        for page in feeds.pages(read.files, said, KINDS, limits=limits, is_passed=is_there) if read.files else ():
-            added = adding.put(page)
-            if added is None:
-                there += 1
-                continue
-            count, changed = count + 1, changed + added
-            progress.step(f"adding pages, {count} so far")
-        adding.end()
+        count = changed = there = 0
+        if read.files:
+            adding.begin(read.files)
+            count, changed, there = _put(adding, read, said, progress)
         progress.step("reading what the pages say together")
         settle(kept, program)
+        if read.files:
+            adding.finish(read.files)
         kept.close()
     output.line(f"added {counted(count, 'page')}: {counted(changed, 'record')} new or later" + (f"; {there} were there" if there else ""))
+
+
+def _put(adding: Adding, read: Words, said: Said, progress: Progress) -> tuple[int, int, int]:
+    """Adds the pages: how many they are, how many of their records are new or later, and how many pages were there."""
+    there = 0
+
+    def is_there(data: bytes) -> bool:
+        nonlocal there
+        found = adding.is_there(data)
+        there += found
+        return found
+
+    limits = LARGE if read.has("--large") else TOLD_LIMITS
+    count = changed = 0
+    progress.step("adding pages")
+    for page in feeds.pages(read.files, said, KINDS, limits=limits, is_passed=is_there):
+        added = adding.put(page)
+        if added is None:
+            there += 1
+            continue
+        count, changed = count + 1, changed + added
+        progress.step(f"adding pages, {count} so far")
+    adding.end()
+    return count, changed, there
 
 
 def _status(folder: str, read: Words, said: Said, output: Output) -> None:
@@ -95,8 +111,9 @@ def _lines(kept: Kept, said: Said) -> Iterator[str]:
         yield f"{CALLED[kind]}: {count:,}{when}"
     rejected, unanalysed = kept.rows("SELECT sum(state = 'Rejected'), sum(state != 'Rejected') FROM advisories WHERE is_passed = 0 AND state IS NOT NULL")[0]
     yield f"of these rejected: {rejected or 0:,}, not analysed: {unanalysed or 0:,}"
+    tell_unended(kept, said)
     for (kind,) in kept.rows("SELECT kind FROM unsettled"):
-        said.left_out(CALLED[kind], "pages were added by a run that was stopped; run store.py add again")
+        said.left_out(CALLED[kind], "what their pages say together was not worked out by the run that added them; run store.py add")
     for kind in KINDS:
         for one in told_of(kept, kind):
             if "missing" in one:

@@ -22,7 +22,7 @@ from .near_products import OPEN, Product, key_of
 from .product_index import squeezed
 from .program import Program
 from .said import Deferred, Fatal, Mute, Said
-from .settling import candidates_of, is_settled, rows_of_products, settle, told_of
+from .settling import candidates_of, is_settled, rows_of_products, settle, tell_unended, told_of
 from .unanalysed import States
 from .whole import Missing, Reading
 
@@ -57,6 +57,7 @@ class Stored:
                 with self._kept.reading():
                     # (another run may have added a page since then)
                     if is_settled(self._kept):
+                        tell_unended(self._kept, self._said)
                         yield self
                         return
             raise Fatal(f"{self._kept.folder}: another run adds pages to the store; scan when that is done")

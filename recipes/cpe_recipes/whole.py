@@ -135,7 +135,7 @@ def pages(
 def tell_uncounted(names: Sequence[str], said: Said) -> None:
     """Remarks the pages that don't tell how many records their feed has."""
     if names:
-        said.remark(f"{_some(names)}: no totalResults, so it isn't known whether this is all of the feed")
+        said.remark(f"{some_of(names)}: no totalResults, so it isn't known whether this is all of the feed")
 
 
 def missing_of(kind: str, spans: Sequence[Span], said: Said) -> list[Missing]:
@@ -199,7 +199,7 @@ def _is_growing(spans: Sequence[Span]) -> bool:
 def _judged(kind: str, spans: Sequence[Span], said: Said) -> Iterator[Missing]:
     """What is missing of one feed."""
     total, least = max(span.total for span in spans), min(span.total for span in spans)
-    files = _some([span.name for span in spans])
+    files = some_of([span.name for span in spans])
     gaps = _gaps(spans, total)
     if gaps:
         where = ", ".join(f"{start:,} to {end - 1:,}" for start, end in gaps[:_MOST_TOLD])
@@ -234,7 +234,7 @@ def _distinct(spans: Iterable[Span]) -> int:
     return len(set(ids) - {None}) + ids.count(None)
 
 
-def _some(names: Sequence[str]) -> str:
+def some_of(names: Sequence[str]) -> str:
     """The first of these names, each once, and how many more there are."""
     found = list(dict.fromkeys(names))
     more = f" and {len(found) - _MOST_TOLD:,} more" if len(found) > _MOST_TOLD else ""

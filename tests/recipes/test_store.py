@@ -283,9 +283,56 @@ class Stores(RecipeCase):
         with mock.patch("cpe_recipes.store.settle", side_effect=KeyboardInterrupt), self.assertRaises(KeyboardInterrupt):
             self.filled()
         status, _, said = ran(store.run, ["status", "--store", self.store])
-        self.assertEqual((status, len([line for line in said if "run store.py add again" in line])), (1, 2))
+        self.assertEqual((status, len([line for line in said if "was not worked out by the run that added them" in line])), (1, 2))
+        self.assertEqual(self.verdicts(status=1)[0], {"1": "TRUE"})
+        self.add(*map(str, self.folder.glob("page-*.json")))
         self.assertEqual(self.verdicts()[0], {"1": "TRUE"})
         self.assertEqual(ran(store.run, ["status", "--store", self.store])[0], 0)
+
+    def of_years(self):
+        """Pages that have all of their feed each, so that they don't show what is missing."""
+        return [self.file(f"year-{k}.json", page("vulnerabilities", cve(k, match(HERE)))) for k in range(4, 9)]
+
+    def test_an_add_that_was_killed_between_pages(self):
+        self.filled()
+        years = self.of_years()
+        put, count = adding.Adding.put, iter(range(9))
+        with mock.patch.object(adding.Adding, "put", lambda *given: put(*given) if next(count) < 2 else os.kill(os.getpid(), signal.SIGKILL)):
+            process = os.fork()
+            if process == 0:
+                ran(store.run, ["add", "--store", self.store, *years])
+                os._exit(0)
+        os.waitpid(process, 0)
+        # (neither a scan nor what adds other pages, or none, changes that)
+        for pages in ([], years[:1], [page("vulnerabilities", cve(9, match(ELSEWHERE)))]):
+            verdicts, value = self.verdicts(status=1)
+            self.assertEqual((verdicts, len(value["leftOut"])), ({"1": "TRUE", "4": "TRUE", "5": "TRUE"}, 1))
+            self.assertIn("and has not ended", value["leftOut"][0]["reason"])
+            status, _, said = ran(store.run, ["status", "--store", self.store])
+            self.assertEqual((status, any("year-4.json, year-5.json, year-6.json and 2 more: store.py add of this began" in line for line in said)), (1, True))
+            self.add(*pages)
+        self.add(*years)
+        self.assertEqual(self.verdicts()[0], dict.fromkeys("145678", "TRUE"))
+        self.assertEqual(ran(store.run, ["status", "--store", self.store])[0], 0)
+
+    def test_a_scan_between_two_pages_of_an_add(self):
+        self.filled()
+        put, found = adding.Adding.put, []
+
+        def scanned(*given):
+            found.append(self.verdicts(status=1))
+            return put(*given)
+
+        with mock.patch.object(adding.Adding, "put", scanned):
+            self.add(*self.of_years())
+        self.assertEqual([len(verdicts) for verdicts, _ in found], [1, 2, 3, 4, 5])
+        self.assertEqual({one["reason"].endswith("pages may be missing until it is run again, to its end") for _, value in found for one in value["leftOut"]}, {True})
+        self.assertEqual(len(self.verdicts()[0]), 6)
+
+    def test_a_file_that_is_not_there(self):
+        self.filled()
+        self.assertIn("there is no such file; nothing was added", self.fatal("add", "--store", self.store, *self.of_years(), str(self.folder / "none")))
+        self.assertEqual(self.verdicts()[0], {"1": "TRUE"})
 
     def test_status(self):
         self.filled()
@@ -403,9 +450,11 @@ class Stores(RecipeCase):
         run = subprocess.run(["sh", "-c", words], capture_output=True, text=True)
         self.assertEqual((run.returncode, run.stdout), (2, ""))
         self.assertRegex(run.stderr, "^store.py: .*(the disk is full|can not be read or written)")
-        self.assertEqual(self.verdicts(), before)
+        # (it is the same, and the scan says that the run has not ended)
+        self.assertEqual(self.verdicts(status=1)[0], before[0])
         self.assertEqual(ran(store.run, ["check", "--store", self.store])[:2], (0, "5 records read again, 0 wrong\n"))
         self.assertEqual(self.add(big)[0], "added 1 page: 2990 records new or later")
+        self.assertEqual(self.verdicts()[0], before[0])
 
     def test_what_stands_beside_another_record(self):
         edits = {
