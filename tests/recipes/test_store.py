@@ -245,6 +245,14 @@ class Stores(RecipeCase):
         self.assertEqual(self.verdicts(status=1)[0], {"2": "TRUE"})
         self.assertIn("neither tells to be later", str(self.verdicts(status=1)[1]["leftOut"]))
 
+    def test_pages_of_the_same_name(self):
+        self.filled()
+        for day in range(4, 7):
+            (self.folder / str(day)).mkdir()
+            modified = self.file(f"{day}/modified.json", page("vulnerabilities", cve(day, match(HERE))))
+            self.add(modified)
+        self.assertEqual(self.verdicts()[0], dict.fromkeys("1456", "TRUE"))
+
     def test_an_id_that_goes(self):
         self.filled()
         before = self.file("before.json", ran(scan.run, ["--json", "--store", self.store, "--machines", self.machines])[1])
