@@ -47,33 +47,44 @@ class Adding:
         self._numbers: dict[Key, int] = {}
         self._new: dict[Key, int] = {}
         self._part, self._in_part = "", 0
+        self._place: tuple[str, str] | None = None
+        self._is_faulty = False
+        self.there = 0
 
     def begin(self, paths: Iterable[str]) -> None:
         """Notes that a run begins to add these files. If it is stopped, each scan reports that, until they are added to their end."""
         with self._kept.writing():
             number = (self._kept.one("SELECT coalesce(max(number), 0) FROM runs") or (0,))[0] + 1
-            self._kept.put("INSERT INTO runs VALUES (?, ?, ?)", [(number, _now(), json.dumps(list(map(os.path.abspath, paths))))])
+            self._kept.put("INSERT INTO runs VALUES (?, ?, ?)", [(number, _now(), json.dumps(list(map(_path, paths))))])
 
     def finish(self, paths: Iterable[str]) -> None:
         """Notes that these files were added to their end, and with them those of each run that had no others."""
-        ended = set(map(os.path.abspath, paths))
+        ended = set(map(_path, paths))
         with self._kept.writing():
             runs = self._kept.rows("SELECT number, paths FROM runs WHERE paths IS NOT NULL")
             whole_ones = [(number,) for number, text in runs if ended.issuperset(json.loads(text))]
             self._kept.put("UPDATE runs SET paths = NULL WHERE number = ?", whole_ones)
 
-    def is_there(self, data: bytes) -> bool:
+    def is_passed(self, path: str | None, place: str, data: bytes) -> bool:
         """Whether a file or member of these bytes was added before, whole."""
         self._end_part()
         self._part, self._in_part = hashlib.sha256(data).hexdigest(), 0
-        return self._kept.one("SELECT 1 FROM parts WHERE digest = ?", (self._part,)) is not None
+        self._place, self._is_faulty = (_path(path), place), False
+        found = self._kept.one("SELECT 1 FROM parts WHERE digest = ?", (self._part,)) is not None
+        self.there += found
+        return found
+
+    def fault(self, path: str | None, place: str, reason: str) -> None:
+        """Notes that a file or member can't be read, or not to its end."""
+        if self._place == (_path(path), place):
+            self._is_faulty = True
 
     def _end_part(self) -> None:
-        if self._part and self._in_part:
+        if self._part and not self._is_faulty:
             self._kept.put("INSERT OR IGNORE INTO parts VALUES (?)", [(self._part,)])
 
     def end(self) -> None:
-        """Notes that the last file is whole."""
+        """Notes that the last file was read to its end."""
         self._end_part()
         self._part = ""
 
@@ -85,20 +96,24 @@ class Adding:
         span = whole.span_of(page) if "totalResults" in page.counts else None
         with self._kept.writing():
             if self._kept.one("SELECT 1 FROM pages WHERE key = ?", (key,)) is not None:
+                self.there += 1
                 return None
             self._read_numbers()
-            ids = None if span is None or span.is_alone() else _numbers_of(span.ids)
-            counts = (span.start, span.said, span.total) if span else (None, None, None)
-            number = (self._kept.one("SELECT max(number) FROM pages") or (None,))[0]
-            number = 1 if number is None else number + 1
-            row = (number, key, page.name, kind, page.kind == RECORDS, _now(), len(page.records), *counts, ids)
-            self._kept.put("INSERT INTO pages VALUES (?, ?, ?, ?, ?, ?, ?, ?, ?, ?, ?)", [row])
-            putting = {"products": self._put_products, ADVISORIES: self._put_advisories, "matchStrings": self._put_matches}
-            changed = putting[kind](page, number)
+            changed = self._put_page(page, key, kind, span)
             self._put_numbers()
             self._kept.put("INSERT OR IGNORE INTO unsettled VALUES (?)", [(kind,)])
         self._numbers.update(self._new)
         return changed
+
+    def _put_page(self, page: Page, key: str, kind: str, span: whole.Span | None) -> int:
+        ids = None if span is None or span.is_alone() else _numbers_of(span.ids)
+        counts = (span.start, span.said, span.total) if span else (None, None, None)
+        number = (self._kept.one("SELECT max(number) FROM pages") or (None,))[0]
+        number = 1 if number is None else number + 1
+        row = (number, key, page.name, kind, page.kind == RECORDS, _now(), len(page.records), *counts, ids)
+        self._kept.put("INSERT INTO pages VALUES (?, ?, ?, ?, ?, ?, ?, ?, ?, ?, ?)", [row])
+        putting = {"products": self._put_products, ADVISORIES: self._put_advisories, "matchStrings": self._put_matches}
+        return putting[kind](page, number)
 
     def make_again(self) -> None:
         """Derives all that is kept beside the records of advisories, if other recipes derived it."""
@@ -385,6 +400,10 @@ def _is_day(text: Json) -> bool:
         return isinstance(text, str) and _DAY.fullmatch(text) is not None and date.fromisoformat(text).year > 1900
     except ValueError:
         return False
+
+
+def _path(path: str | None) -> str:
+    return "" if path is None else os.path.abspath(path)
 
 
 def _now() -> str:

@@ -6,7 +6,7 @@ import re
 from collections.abc import Callable, Iterator, Mapping, Sequence
 from dataclasses import dataclass, field, replace
 from pathlib import Path
-from typing import Any, NamedTuple
+from typing import Any, NamedTuple, Protocol
 
 from .said import Fatal, Said, quoted
 from .unpack import LIMITS, FeedFault, Limits, Unpacked, read_feed
@@ -84,6 +84,16 @@ class Page:
         return replace(self, records=records, numbers=numbers)
 
 
+class Follower(Protocol):
+    """Follows what is read: the files, and the members of archives among them, by their paths and by what they are called."""
+
+    def is_passed(self, path: str | None, place: str, data: bytes) -> bool:
+        """Whether the bytes of a file or member needn't be read."""
+
+    def fault(self, path: str | None, place: str, reason: str) -> None:
+        """Hears why a file or member, or a part of it, can't be read."""
+
+
 def name_of(path: str | None) -> str:
     """What a feed is called."""
     return "standard input" if path is None else Path(path).name
@@ -149,19 +159,18 @@ def pages(
     kinds: Sequence[str],
     strict: bool = False,
     limits: Limits = LIMITS,
-    is_passed: Callable[[bytes], bool] | None = None,
+    follower: Follower | None = None,
 ) -> Iterator[Page]:
     """The pages at these paths, of standard input where there is none.
 
     A page is an object in which one of `kinds` is a list, in a file or a member of an archive. Where a page is none, or can't be read,
-    the others still come out, and that is said; where there is no page at all, or `strict` is asked for, it is Fatal. `is_passed` says
-    of the bytes of a file or member that they needn't be read.
+    the others still come out, and that is said; where there is no page at all, or `strict` is asked for, it is Fatal.
     """
     good, faults = 0, []
     feeds: Sequence[str | None] = list(paths) or [None]
     for path in feeds:
         name = name_of(path)
-        for one in _pages_of(path, said, kinds, limits, is_passed):
+        for one in _pages_of(path, said, kinds, limits, follower):
             if isinstance(one, Page):
                 good += 1
                 yield one
@@ -175,7 +184,7 @@ def pages(
 
 
 def _pages_of(
-    path: str | None, said: Said, kinds: Sequence[str], limits: Limits, is_passed: Callable[[bytes], bool] | None
+    path: str | None, said: Said, kinds: Sequence[str], limits: Limits, follower: Follower | None
 ) -> Iterator[Page | tuple[str, str]]:
     """The pages of a file; of what is none its name and the reason."""
     name, unpacked = name_of(path), Unpacked(limits)
@@ -187,11 +196,13 @@ def _pages_of(
             if part is None:
                 break
             place = f"{name}/{part[0]}" if part[0] else name
-            if is_passed is not None and is_passed(part[1]):
+            if follower is not None and follower.is_passed(path, place, part[1]):
                 continue
             for value in values_of(part[1]):
                 yield _page(place, value, kinds)
         except FeedFault as fault:
+            if follower is not None:
+                follower.fault(path, place, str(fault))
             yield place, str(fault)
     if unpacked.passed:
         some = f"{len(unpacked.passed):,} {'member is' if len(unpacked.passed) == 1 else 'members are'} no page by the name"

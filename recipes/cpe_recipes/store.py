@@ -59,40 +59,30 @@ def _add(folder: str, read: Words, said: Said, output: Output) -> None:
         kept = Kept(folder, is_made=True)
         adding = Adding(kept, said)
         adding.make_again()
-        count = changed = there = 0
+        count = changed = 0
         if read.files:
             adding.begin(read.files)
-            count, changed, there = _put(adding, read, said, progress)
+            count, changed = _put(adding, read, said, progress)
         progress.step("reading what the pages say together")
         settle(kept, program)
         if read.files:
             adding.finish(read.files)
         kept.close()
-    output.line(f"added {counted(count, 'page')}: {counted(changed, 'record')} new or later" + (f"; {there} were there" if there else ""))
+    output.line(f"added {counted(count, 'page')}: {counted(changed, 'record')} new or later" + (f"; {adding.there} were there" if adding.there else ""))
 
 
-def _put(adding: Adding, read: Words, said: Said, progress: Progress) -> tuple[int, int, int]:
-    """Adds the pages: how many they are, how many of their records are new or later, and how many pages were there."""
-    there = 0
-
-    def is_there(data: bytes) -> bool:
-        nonlocal there
-        found = adding.is_there(data)
-        there += found
-        return found
-
+def _put(adding: Adding, read: Words, said: Said, progress: Progress) -> tuple[int, int]:
+    """Adds the pages: how many they are, and how many of their records are new or later."""
     limits = LARGE if read.has("--large") else TOLD_LIMITS
     count = changed = 0
     progress.step("adding pages")
-    for page in feeds.pages(read.files, said, KINDS, limits=limits, is_passed=is_there):
+    for page in feeds.pages(read.files, said, KINDS, limits=limits, follower=adding):
         added = adding.put(page)
-        if added is None:
-            there += 1
-            continue
-        count, changed = count + 1, changed + added
-        progress.step(f"adding pages, {count} so far")
+        if added is not None:
+            count, changed = count + 1, changed + added
+            progress.step(f"adding pages, {count} so far")
     adding.end()
-    return count, changed, there
+    return count, changed
 
 
 def _status(folder: str, read: Words, said: Said, output: Output) -> None:

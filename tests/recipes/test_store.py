@@ -360,6 +360,17 @@ class Stores(RecipeCase):
         self.assertEqual((written, said[0][:22]), ("added 1 page: 1 record new or later", "left out bad.json: no "))
         self.assertIn("no advisory that can have a verdict is in the store", self.scan_is_fatal())
 
+    def test_a_file_that_is_torn_behind_its_first_page(self):
+        self.filled()
+        text = json.dumps(page("vulnerabilities", cve(4, match(HERE))))
+        torn = self.file("torn.json", text + "\n" + text.replace("0004", "0005")[:-20])
+        for _ in range(2):
+            # (it is never taken for one that was added whole)
+            self.assertIn("left out torn.json: no JSON", str(self.add(torn, page("products", product(HERE)), status=1)[1]))
+        Path(torn).write_text(text + "\n" + text.replace("0004", "0005"))
+        self.add(torn)
+        self.assertEqual(self.verdicts()[0], dict.fromkeys("145", "TRUE"))
+
     def test_words(self):
         self.filled()
         for words in ([], ["more"], ["add"], ["status"], ["status", "--store", self.store, self.machines], ["check", "--store", self.store, "--large"]):
