@@ -6,6 +6,7 @@ it by these, and what it becomes (made.py). What isn't plain (concern.py) is rea
 """
 from __future__ import annotations
 
+import contextlib
 import functools
 import hashlib
 import json
@@ -31,6 +32,8 @@ from .said import Said
 from .unanalysed import state_of
 
 KINDS = ("products", "vulnerabilities", "matchStrings")
+# The kind of a fault of a file; that of a record is the kind of its page.
+FILES = "files"
 # What a page of another kind than NVD's counts as.
 _KIND = {RECORDS: ADVISORIES}
 # The number of the product of what has none that is known.
@@ -49,6 +52,7 @@ class Adding:
         self._part, self._in_part = "", 0
         self._place: tuple[str, str] | None = None
         self._is_faulty = False
+        self._faulty: set[str] = set()
         self.there = 0
 
     def begin(self, paths: Iterable[str]) -> None:
@@ -64,6 +68,9 @@ class Adding:
             runs = self._kept.rows("SELECT number, paths FROM runs WHERE paths IS NOT NULL")
             whole_ones = [(number,) for number, text in runs if ended.issuperset(json.loads(text))]
             self._kept.put("UPDATE runs SET paths = NULL WHERE number = ?", whole_ones)
+            # (a file that is whole now hasn't the members that could not be read)
+            good = ((FILES, path) for path in ended - self._faulty)
+            self._kept.put("DELETE FROM faults WHERE kind = ? AND key = ?", good)
 
     def is_passed(self, path: str | None, place: str, data: bytes) -> bool:
         """Whether a file or member of these bytes was added before, whole."""
@@ -78,10 +85,13 @@ class Adding:
         """Notes that a file or member can't be read, or not to its end."""
         if self._place == (_path(path), place):
             self._is_faulty = True
+        self._faulty.add(_path(path))
+        self._kept.put("INSERT OR REPLACE INTO faults VALUES (?, ?, ?, ?, ?)", [(FILES, _path(path), place, reason, "null")])
 
     def _end_part(self) -> None:
         if self._part and not self._is_faulty:
             self._kept.put("INSERT OR IGNORE INTO parts VALUES (?)", [(self._part,)])
+            self._kept.put("DELETE FROM faults WHERE kind = ? AND key = ? AND place = ?", [(FILES, *self._place)] if self._place else [])
 
     def end(self) -> None:
         """Notes that the last file was read to its end."""
@@ -207,20 +217,41 @@ class Adding:
     def _put_matches(self, page: Page, page_number: int) -> int:
         changed = 0
         found: dict[tuple[int, int, str], None] = {}
+        faulty = {key for (key,) in self._kept.rows("SELECT DISTINCT key FROM faults WHERE kind = ?", (page.kind,))}
         for placed in page.each("match string", lambda it: text_at(member(it, "matchString"), "matchCriteriaId")):
             try:
                 match_string = member(placed.record, "matchString")
                 listed, modified = matches.names_of(match_string), record_text(matches.modified_of(match_string))
                 naming = Naming.of(match_string)
             except FormFault:
-                self._said.left_out(placed.id, NO_FORM, placed.source.place(placed.number))
+                self._put_faulty_match(placed)
+                faulty.add(placed.id)
                 continue
+            if placed.id in faulty:
+                self._drop_faults(placed.id, modified)
             if naming is not None:
                 other = self._number_of_key(naming.product)
                 found.update(dict.fromkeys((self._number_of_key(one), other, placed.id) for one in naming.listed))
             changed += self._put_match(place_of(page_number, placed.number - 1), placed.id, modified, record_text(listed))
         self._kept.put("INSERT OR IGNORE INTO naming VALUES (?, ?, ?)", found)
         return changed
+
+    def _put_faulty_match(self, placed: Placed) -> None:
+        """Says a match that can't be read, and keeps that, unless a later one is there."""
+        self._said.left_out(placed.id, NO_FORM, placed.source.place(placed.number))
+        modified = "null"
+        with contextlib.suppress(FormFault):
+            modified = record_text(matches.modified_of(member(placed.record, "matchString")))
+        known = self._kept.rows("SELECT modified FROM matches WHERE key = ?", (placed.id,))
+        if modified == "null" or not any(_time(modified) < _time(one) for (one,) in known):
+            row = ("matchStrings", placed.id, placed.source.place(placed.number), NO_FORM, modified)
+            self._kept.put("INSERT OR REPLACE INTO faults VALUES (?, ?, ?, ?, ?)", [row])
+
+    def _drop_faults(self, key: str, modified: str) -> None:
+        """Drops what is kept of a match that could not be read, if that isn't later."""
+        rows = self._kept.rows("SELECT place, modified FROM faults WHERE kind = 'matchStrings' AND key = ?", (key,))
+        older = [(key, place) for place, before in rows if _time(before) <= _time(modified)]
+        self._kept.put("DELETE FROM faults WHERE kind = 'matchStrings' AND key = ? AND place = ?", older)
 
     def _put_match(self, place: int, key: str, modified: str, listed: str) -> bool:
         """Puts the list of a match, unless a later one or the same is there."""

@@ -171,7 +171,9 @@ def pages(
     for path in feeds:
         name = name_of(path)
         for one in _pages_of(path, said, kinds, limits, follower):
-            if isinstance(one, Page):
+            if one is None:
+                good += 1
+            elif isinstance(one, Page):
                 good += 1
                 yield one
             elif strict or len(paths) <= 1 and not good:
@@ -185,8 +187,8 @@ def pages(
 
 def _pages_of(
     path: str | None, said: Said, kinds: Sequence[str], limits: Limits, follower: Follower | None
-) -> Iterator[Page | tuple[str, str]]:
-    """The pages of a file; of what is none its name and the reason."""
+) -> Iterator[Page | tuple[str, str] | None]:
+    """The pages of a file; of what is none its name and the reason; None in place of what is passed over."""
     name, unpacked = name_of(path), Unpacked(limits)
     parts = unpacked.parts(path)
     while True:
@@ -197,6 +199,7 @@ def _pages_of(
                 break
             place = f"{name}/{part[0]}" if part[0] else name
             if follower is not None and follower.is_passed(path, place, part[1]):
+                yield None
                 continue
             for value in values_of(part[1]):
                 yield _page(place, value, kinds)

@@ -30,6 +30,9 @@ CREATE TABLE pages (
 );
 CREATE TABLE runs (number INTEGER PRIMARY KEY, began TEXT NOT NULL, paths TEXT);
 CREATE TABLE parts (digest TEXT PRIMARY KEY) WITHOUT ROWID;
+CREATE TABLE faults (
+    kind TEXT NOT NULL, key TEXT NOT NULL, place TEXT NOT NULL, reason TEXT NOT NULL, modified TEXT NOT NULL, PRIMARY KEY (kind, key, place)
+) WITHOUT ROWID;
 CREATE TABLE names (
     number INTEGER PRIMARY KEY, vendor TEXT NOT NULL, product TEXT NOT NULL, squeezed TEXT NOT NULL, UNIQUE (vendor, product)
 );

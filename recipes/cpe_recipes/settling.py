@@ -4,10 +4,10 @@ from __future__ import annotations
 
 import json
 import os
-from collections.abc import Iterable, Iterator
+from collections.abc import Collection, Iterable, Iterator
 
 from . import whole
-from .adding import KINDS, change_of, ids_of
+from .adding import FILES, KINDS, change_of, ids_of
 from .concern import plain_name
 from .dictionary import Product, deprecations_of
 from .feeds import Json, Placed, Source
@@ -56,6 +56,19 @@ def tell_unended(kept: Kept, said: Said) -> None:
     for began, paths in kept.rows("SELECT began, paths FROM runs WHERE paths IS NOT NULL ORDER BY number"):
         some = whole.some_of(list(map(os.path.basename, json.loads(paths))))
         said.left_out(some, f"store.py add of this began at {began} and has not ended: pages may be missing until it is run again, to its end")
+
+
+def tell_unread(kept: Kept, said: Said) -> None:
+    """Says which files, or members of archives among them, could not be read when they were added."""
+    for path, place, reason in kept.rows("SELECT key, place, reason FROM faults WHERE kind = ? ORDER BY key, place", (FILES,)):
+        said.left_out(place, f"{reason}; it isn't in the store, until a good one is added from {path}")
+
+
+def tell_faults(kept: Kept, kind: str, keys: Collection[str] | None, said: Said) -> None:
+    """Says which records of these ids, or of all, could not be read when their pages were added."""
+    for key, place, reason in kept.rows("SELECT key, place, reason FROM faults WHERE kind = ? ORDER BY key, place", (kind,)):
+        if keys is None or key in keys:
+            said.left_out(key, reason, place)
 
 
 def told_of(kept: Kept, kind: str) -> Iterator[dict[str, Json]]:

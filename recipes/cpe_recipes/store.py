@@ -25,7 +25,7 @@ from .kept import Kept
 from .program import Program
 from .progress import Progress
 from .said import Fatal, Output, Said
-from .settling import settle, tell_unended, told_of
+from .settling import settle, tell_faults, tell_unended, tell_unread, told_of
 from .table import counted
 from .unpack import LARGE, TOLD_LIMITS
 from .whole import CALLED, Missing
@@ -102,6 +102,8 @@ def _lines(kept: Kept, said: Said) -> Iterator[str]:
     rejected, unanalysed = kept.rows("SELECT sum(state = 'Rejected'), sum(state != 'Rejected') FROM advisories WHERE is_passed = 0 AND state IS NOT NULL")[0]
     yield f"of these rejected: {rejected or 0:,}, not analysed: {unanalysed or 0:,}"
     tell_unended(kept, said)
+    tell_unread(kept, said)
+    tell_faults(kept, "matchStrings", None, said)
     for (kind,) in kept.rows("SELECT kind FROM unsettled"):
         said.left_out(CALLED[kind], "what their pages say together was not worked out by the run that added them; run store.py add")
     for kind in KINDS:

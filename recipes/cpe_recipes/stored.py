@@ -22,7 +22,7 @@ from .near_products import OPEN, Product, key_of
 from .product_index import squeezed
 from .program import Program
 from .said import Deferred, Fatal, Mute, Said
-from .settling import candidates_of, is_settled, rows_of_products, settle, tell_unended, told_of
+from .settling import candidates_of, is_settled, rows_of_products, settle, tell_faults, tell_unended, tell_unread, told_of
 from .unanalysed import States
 from .whole import Missing, Reading
 
@@ -58,6 +58,7 @@ class Stored:
                     # (another run may have added a page since then)
                     if is_settled(self._kept):
                         tell_unended(self._kept, self._said)
+                        tell_unread(self._kept, self._said)
                         yield self
                         return
             raise Fatal(f"{self._kept.folder}: another run adds pages to the store; scan when that is done")
@@ -230,6 +231,7 @@ class Stored:
     def listed(self, keys: Collection[str]) -> dict[str, list[str]]:
         """The names that the match feed lists for these matches."""
         self._tell("matchStrings")
+        tell_faults(self._kept, "matchStrings", set(keys), self._said)
         found: dict[str, list[str]] = {}
         for _, key, listed in sorted(self._kept.rows_of("SELECT place, key, listed FROM matches WHERE key IN {}", keys)):
             found.setdefault(key, []).extend(json.loads(listed))

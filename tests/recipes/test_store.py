@@ -9,6 +9,7 @@ import subprocess
 import sys
 import tempfile
 import unittest
+import zipfile
 from contextlib import contextmanager
 from pathlib import Path
 from unittest import mock
@@ -370,6 +371,47 @@ class Stores(RecipeCase):
         Path(torn).write_text(text + "\n" + text.replace("0004", "0005"))
         self.add(torn)
         self.assertEqual(self.verdicts()[0], dict.fromkeys("145", "TRUE"))
+
+    def left(self, count):
+        """What a scan leaves out; status tells as much."""
+        left = self.verdicts(status=1 if count else 0)[1]["leftOut"]
+        status, _, said = ran(store.run, ["status", "--store", self.store])
+        self.assertEqual((len(left), len(said), status), (count, count, 1 if count else 0), said)
+        return left
+
+    def test_what_could_not_be_read_is_said_by_each_scan(self):
+        self.filled()
+        bad, archive = str(self.folder / "bad.json"), str(self.folder / "pages.zip")
+        good = json.dumps(page("vulnerabilities", cve(4, match(HERE)))).encode()
+        for data in (b'{"vulnerabilities":["\xff"]}', good[:-9], good + good[:-9]):
+            Path(bad).write_bytes(data)
+            self.add(bad, page("products", product(HERE)), status=1)
+            self.assertEqual([one["id"] for one in self.left(1)], ["bad.json"])
+        with zipfile.ZipFile(archive, "w") as members:
+            members.writestr("a.json", good)
+            members.writestr("b.json", good[:-9])
+        self.add(archive, status=1)
+        self.assertEqual([one["id"] for one in self.left(2)], ["bad.json", "pages.zip/b.json"])
+        Path(bad).write_bytes(good)
+        self.add(bad)
+        self.left(1)
+        with zipfile.ZipFile(archive, "w") as members:
+            members.writestr("a.json", good)
+        self.add(archive)
+        self.left(0)
+
+    def test_a_match_that_could_not_be_read(self):
+        self.filled()
+        self.add(page("vulnerabilities", cve(4, match(fs("v", "p")) | {"matchCriteriaId": "L", "versionEndIncluding": "2.0"})))
+        one = {"matchCriteriaId": "L", "criteria": fs("v", "p"), "matches": [{"cpeName": HERE}], "lastModified": "2024-05-01T00:00:00.000"}
+        of = [{"matchString": one | more} for more in ({"matches": "no"}, {"lastModified": "2024-04-01T00:00:00.000"}, {}, {"matches": "no", "lastModified": "2024-04-01T00:00:00.000"})]
+        for record, count, is_read in zip(of, (1, 1, 0, 0), (False, True, True, False)):
+            self.add(page("matchStrings", record, {"matchString": {"matchCriteriaId": "M", "matches": []}}), status=0 if is_read else 1)
+            self.assertEqual([one["id"] for one in self.left(count)], ["L"] * count)
+        # (of one that isn't wanted nothing is said)
+        self.add(page("matchStrings", {"matchString": {"matchCriteriaId": "M", "matches": 7}}), status=1)
+        self.assertEqual(self.verdicts()[1]["leftOut"], [])
+        self.assertEqual(ran(store.run, ["status", "--store", self.store])[0], 1)
 
     def test_words(self):
         self.filled()
