@@ -99,10 +99,16 @@ class Adding:
         self._part = ""
 
     def put(self, page: Page) -> int | None:
-        """Adds a page, whole or nothing of it, and returns how many of its records are new or later; None if it is there."""
+        """Adds a page, whole or nothing of it, and returns how many of its records are new or later; None if it is there, or left
+        out."""
         key = f"{self._part}#{self._in_part}"
         self._in_part += 1
         kind = _KIND.get(page.kind, page.kind)
+        fault = whole.fault_of(page)
+        if fault:
+            self.fault(self._place[0] if self._place else None, page.name, fault)
+            self._said.left_out(page.name, fault)
+            return None
         span = whole.span_of(page) if "totalResults" in page.counts else None
         with self._kept.writing():
             if self._kept.one("SELECT 1 FROM pages WHERE key = ?", (key,)) is not None:

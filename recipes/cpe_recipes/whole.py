@@ -143,10 +143,19 @@ def missing_of(kind: str, spans: Sequence[Span], said: Said) -> list[Missing]:
     return [*_odd(kind, spans), *_missing(kind, spans, said)]
 
 
+def fault_of(page: Page) -> str:
+    """Why it isn't known which part of its feed a page is; nothing if it is known, or if it doesn't tell how many its feed has."""
+    count, total = len(page.records), page.counts.get("totalResults")
+    if total is None or "startIndex" in page.counts or count == total:
+        return ""
+    return f"it has {count:,} of {total:,} {CALLED[page.kind]}, and no startIndex that says which"
+
+
 def span_of(page: Page) -> Span:
+    fault = fault_of(page)
+    if fault:
+        raise Fatal(f"{page.name}: {fault}")
     count, total = len(page.records), page.counts["totalResults"]
-    if "startIndex" not in page.counts and count != total:
-        raise Fatal(f"{page.name}: it has {count:,} of {total:,} {CALLED[page.kind]}, and no startIndex that says which")
     start, said = page.counts.get("startIndex", 0), page.counts.get("resultsPerPage", count)
     # (the last page may tell how many it has room for)
     said = min(said, max(total - start, 0))

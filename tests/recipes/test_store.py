@@ -400,6 +400,17 @@ class Stores(RecipeCase):
         self.add(archive)
         self.left(0)
 
+    def test_a_page_that_does_not_say_where_it_begins(self):
+        self.filled()
+        bad = page("vulnerabilities", cve(4, match(HERE)), total=2)
+        del bad["startIndex"]
+        bad = self.file("bad.json", bad)
+        good = page("vulnerabilities", cve(5, match(HERE)))
+        written, said = self.add(bad, good, status=1)
+        self.assertEqual((written, said), ("added 1 page: 1 record new or later", ["left out bad.json: it has 1 of 2 advisories, and no startIndex that says which"]))
+        self.assertEqual(self.verdicts(status=1)[0], dict.fromkeys("15", "TRUE"))
+        self.assertIn("no startIndex that says which", self.left(1)[0]["reason"])
+
     def test_a_match_that_could_not_be_read(self):
         self.filled()
         self.add(page("vulnerabilities", cve(4, match(fs("v", "p")) | {"matchCriteriaId": "L", "versionEndIncluding": "2.0"})))
