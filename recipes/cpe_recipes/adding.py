@@ -50,6 +50,7 @@ class Adding:
         self._numbers: dict[Key, int] = {}
         self._new: dict[Key, int] = {}
         self._part, self._in_part = "", 0
+        self._run = 0
         self._place: tuple[str, str] | None = None
         self._is_faulty = False
         self._faulty: set[str] = set()
@@ -58,8 +59,8 @@ class Adding:
     def begin(self, paths: Iterable[str]) -> None:
         """Notes that a run begins to add these files. If it is stopped, each scan reports that, until they are added to their end."""
         with self._kept.writing():
-            number = (self._kept.one("SELECT coalesce(max(number), 0) FROM runs") or (0,))[0] + 1
-            self._kept.put("INSERT INTO runs VALUES (?, ?, ?)", [(number, _now(), json.dumps(list(map(_path, paths))))])
+            self._run = (self._kept.one("SELECT coalesce(max(number), 0) FROM runs") or (0,))[0] + 1
+            self._kept.put("INSERT INTO runs VALUES (?, ?, ?)", [(self._run, _now(), json.dumps(list(map(_path, paths))))])
 
     def finish(self, paths: Iterable[str]) -> None:
         """Notes that these files were added to their end, and with them those of each run that had no others."""
@@ -78,8 +79,18 @@ class Adding:
         self._part, self._in_part = hashlib.sha256(data).hexdigest(), 0
         self._place, self._is_faulty = (_path(path), place), False
         found = self._kept.one("SELECT 1 FROM parts WHERE digest = ?", (self._part,)) is not None
-        self.there += found
+        if found:
+            self.there += 1
+            with self._kept.writing():
+                self._give(self._kept.rows("SELECT number, kind FROM pages WHERE key BETWEEN ? AND ?", (f"{self._part}#", f"{self._part}$")))
         return found
+
+    def _give(self, pages: Iterable[tuple[int, str]]) -> None:
+        """Notes that this run gives these pages too."""
+        for number, kind in pages:
+            if self._kept.one("SELECT 1 FROM given WHERE run = ? AND page = ?", (self._run, number)) is None:
+                self._kept.put("INSERT INTO given VALUES (?, ?)", [(self._run, number)])
+                self._kept.put("INSERT OR IGNORE INTO unsettled VALUES (?)", [(kind,)])
 
     def fault(self, path: str | None, place: str, reason: str) -> None:
         """Notes that a file or member can't be read, or not to its end."""
@@ -111,13 +122,14 @@ class Adding:
             return None
         span = whole.span_of(page) if "totalResults" in page.counts else None
         with self._kept.writing():
-            if self._kept.one("SELECT 1 FROM pages WHERE key = ?", (key,)) is not None:
+            known = self._kept.rows("SELECT number, kind FROM pages WHERE key = ?", (key,))
+            if known:
                 self.there += 1
+                self._give(known)
                 return None
             self._read_numbers()
             changed = self._put_page(page, key, kind, span)
             self._put_numbers()
-            self._kept.put("INSERT OR IGNORE INTO unsettled VALUES (?)", [(kind,)])
         self._numbers.update(self._new)
         return changed
 
@@ -128,6 +140,7 @@ class Adding:
         number = 1 if number is None else number + 1
         row = (number, key, page.name, kind, page.kind == RECORDS, _now(), len(page.records), *counts, ids)
         self._kept.put("INSERT INTO pages VALUES (?, ?, ?, ?, ?, ?, ?, ?, ?, ?, ?)", [row])
+        self._give([(number, kind)])
         putting = {"products": self._put_products, ADVISORIES: self._put_advisories, "matchStrings": self._put_matches}
         return putting[kind](page, number)
 

@@ -78,16 +78,20 @@ def told_of(kept: Kept, kind: str) -> Iterator[dict[str, Json]]:
 
 def _told_of_pages(kept: Kept, kind: str) -> Iterator[dict[str, Json]]:
     noted = _Noted()
-    spans, uncounted = [], []
-    for name, is_of_records, count, start, said, total, ids in kept.rows(
-        "SELECT name, is_of_records, records, start, said, total, ids FROM pages WHERE kind = ? ORDER BY number", (kind,)
+    spans, uncounted = {}, []
+    for number, name, is_of_records, count, start, said, total, ids in kept.rows(
+        "SELECT number, name, is_of_records, records, start, said, total, ids FROM pages WHERE kind = ? ORDER BY number", (kind,)
     ):
         if total is not None:
-            spans.append(whole.Span(name, start, count, said, total, [] if ids is None else list(ids_of(ids))))
+            spans[number] = whole.Span(name, start, count, said, total, [] if ids is None else list(ids_of(ids)))
         elif not is_of_records:
             uncounted.append(name)
+    runs: dict[int, list[whole.Span]] = {}
+    for run, page in kept.rows("SELECT run, page FROM given ORDER BY run, page"):
+        if page in spans:
+            runs.setdefault(run, []).append(spans[page])
     whole.tell_uncounted(uncounted, noted)
-    for one in whole.missing_of(kind, spans, noted):
+    for one in whole.missing_of_runs(kind, runs.values(), noted):
         yield {"missing": [one.kind, one.files, one.total, one.given, one.where]}
     yield from ({"remark": text} for text in noted.remarks_noted)
 

@@ -7,12 +7,13 @@ pages tell a higher total, and no record may be there twice in place of another.
 """
 from __future__ import annotations
 
+from collections import Counter
 from collections.abc import Iterable, Iterator, Sequence
 from dataclasses import dataclass, field, replace
 
 from . import feeds
 from .feeds import Json, Page
-from .said import Fatal, Said
+from .said import Fatal, Mute, Said
 from .unpack import LARGE, LIMITS, TOLD_LIMITS, Limits
 from .words import FLAG, Words
 
@@ -179,23 +180,80 @@ def _odd(kind: str, spans: Iterable[Span]) -> Iterator[Missing]:
             yield Missing(kind, span.name, span.total, span.count, f"it says that it has {span.said:,} of them")
 
 
+def missing_of_runs(kind: str, runs: Iterable[Sequence[Span]], said: Said) -> list[Missing]:
+    """What is missing of feeds of which runs gave pages, one after the other. What a run gave is judged by itself, and if it isn't whole,
+    with what is left of the runs before. It is no longer missing if a later feed is whole, as large, and has all that was given of it."""
+    odd: list[Span] = []
+    left: list[Span] = []
+    last: dict[int, int] = {}
+    closed: set[int] = set()
+    for number, spans in enumerate(runs):
+        last.update((id(span), number) for span in spans)
+        whole_ones, others = _parted(kind, spans)
+        joined, left = _parted(kind, list({id(span): span for span in [*left, *others]}.values()))
+        odd += [span for span in spans if any(_odd(kind, [span]))]
+        for feed in [*whole_ones, *joined]:
+            list(_judged(kind, feed, said))
+            closed.update(map(id, feed))
+            since = min(last[id(span)] for span in feed)
+            odd = [span for span in odd if last[id(span)] >= since or not _ends(feed, [span])]
+            left = [
+                span for group in _feeds(left) for span in group if max(last[id(one)] for one in group) >= since or not _ends(feed, group)
+            ]
+        # (pages of a feed that was whole before, and given again, open none)
+        left = [span for group in _feeds(left) for span in group if not closed.issuperset(map(id, group))]
+    found = {id(span): span for span in odd}.values()
+    return [*_odd(kind, found), *_missing(kind, left, said)]
+
+
+def _parted(kind: str, spans: Sequence[Span]) -> tuple[list[list[Span]], list[Span]]:
+    """The feeds that are whole, and the pages of the others."""
+    whole_ones: list[list[Span]] = []
+    others: list[Span] = []
+    for feed in _feeds(spans):
+        if any(_judged(kind, feed, Mute())):
+            others.extend(feed)
+        else:
+            whole_ones.append(feed)
+    return whole_ones, others
+
+
+def _ends(feed: Sequence[Span], other: Sequence[Span]) -> bool:
+    """Whether a feed that is whole is as large as another one, and has all that was given of it."""
+    given = {id for span in other for id in span.ids}
+    is_as_large = max(span.total for span in feed) >= max(span.total for span in other)
+    return bool(given) and None not in given and is_as_large and given.issubset(id for span in feed for id in span.ids)
+
+
 def _missing(kind: str, spans: Sequence[Span], said: Said) -> Iterator[Missing]:
     """The feeds that aren't whole. What is there twice is remarked."""
+    for feed in _feeds(spans):
+        yield from _judged(kind, feed, said)
+
+
+def _feeds(spans: Sequence[Span]) -> Iterator[list[Span]]:
+    """The pages of each feed, or of all that tell the same total."""
     groups: dict[int, list[Span]] = {}
     for span in spans:
         if not span.is_alone() and span.end() <= span.total:
             groups.setdefault(span.total, []).append(span)
     grown: list[Span] = []
     for total, group in sorted(groups.items()):
-        if not _gaps(group, total):
-            yield from _judged(kind, group, said)
+        if not _gaps(group, total, _times(group, total)):
+            yield group
         elif _is_growing([*grown, *group]):
-            grown.extend(group)
+            grown = [*grown, *group]
         else:
-            yield from _judged(kind, grown, said)
+            if grown:
+                yield grown
             grown = group
     if grown:
-        yield from _judged(kind, grown, said)
+        yield grown
+
+
+def _times(spans: Sequence[Span], total: int) -> int:
+    """Of how many feeds of so many records each these are pages, at least."""
+    return max(1, -(-_distinct(spans) // max(total, 1)))
 
 
 def _is_growing(spans: Sequence[Span]) -> bool:
@@ -209,32 +267,47 @@ def _judged(kind: str, spans: Sequence[Span], said: Said) -> Iterator[Missing]:
     """What is missing of one feed."""
     total, least = max(span.total for span in spans), min(span.total for span in spans)
     files = some_of([span.name for span in spans])
-    gaps = _gaps(spans, total)
+    times = _times(spans, total)
+    gaps = _gaps(spans, total, times)
+    if gaps and times > 1:
+        where = f"they are pages of {times} feeds of {total:,} each, and in one those of startIndex {_ranges(gaps)} are missing"
+        yield Missing(kind, files, total * times, _distinct(spans), where)
+        return
     if gaps:
-        where = ", ".join(f"{start:,} to {end - 1:,}" for start, end in gaps[:_MOST_TOLD])
-        more = f" and {len(gaps) - _MOST_TOLD:,} more parts" if len(gaps) > _MOST_TOLD else ""
         given = total - sum(end - start for start, end in gaps)
-        yield Missing(kind, files, total, given, f"those of startIndex {where}{more} are missing")
+        yield Missing(kind, files, total, given, f"those of startIndex {_ranges(gaps)} are missing")
         return
     distinct = _distinct(spans)
-    if distinct < total:
+    if distinct < total and times == 1:
         yield Missing(kind, files, total, distinct, "others come twice in their place")
         return
     if least < total:
         said.remark(f"{files}: the feed grew from {least:,} to {total:,} {CALLED[kind]} while it was fetched")
-    twice = sum(span.count for span in spans) - total
+    twice = sum(span.count for span in spans) - total * times
     if twice > 0:
         said.remark(f"{files}: pages overlap, {twice:,} {CALLED[kind]} come twice")
 
 
-def _gaps(spans: Iterable[Span], total: int) -> list[tuple[int, int]]:
-    """The indexes that no page has, as begins and ends."""
-    found, reached = [], 0
-    for span in sorted(spans, key=lambda span: span.start):
-        if span.start > reached:
-            found.append((reached, span.start))
-        reached = max(reached, span.end())
-    return [*found, (reached, total)] if reached < total else found
+def _ranges(gaps: Sequence[tuple[int, int]]) -> str:
+    """The first of these gaps in words, and how many more there are."""
+    more = f" and {len(gaps) - _MOST_TOLD:,} more parts" if len(gaps) > _MOST_TOLD else ""
+    return ", ".join(f"{start:,} to {end - 1:,}" for start, end in gaps[:_MOST_TOLD]) + more
+
+
+def _gaps(spans: Iterable[Span], total: int, times: int = 1) -> list[tuple[int, int]]:
+    """The indexes that fewer pages have than this, as begins and ends."""
+    edges: Counter[int] = Counter()
+    for span in spans:
+        edges[span.start] += 1
+        edges[span.end()] -= 1
+    found: list[tuple[int, int]] = []
+    begin = depth = 0
+    for end in sorted({*edges, total}):
+        if depth < times and end > begin:
+            is_next = found and found[-1][1] == begin
+            found.append((found.pop()[0] if is_next else begin, end))
+        depth, begin = depth + edges[end], end
+    return found
 
 
 def _distinct(spans: Iterable[Span]) -> int:

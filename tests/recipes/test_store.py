@@ -288,6 +288,39 @@ class Stores(RecipeCase):
         self.add(page("vulnerabilities", cve(7, match(HERE)), start=2, total=3))
         self.assertEqual(self.verdicts()[0], {"1": "TRUE", "5": "TRUE", "6": "TRUE", "7": "TRUE"})
 
+    def test_a_window_that_has_as_many_as_another(self):
+        self.filled()
+        first = [page("vulnerabilities", *(cve(n, match(HERE)) for n in some), start=some[0] - 10, total=4) for some in ((10, 11), (12, 13))]
+        second = page("vulnerabilities", *(cve(n, match(HERE), modified="2024-07-01T00:00:00.000") for n in (10, 11)), total=4)
+        self.add(*first)
+        self.add(second)
+        # (the second page of the later window isn't there)
+        self.assertIn("the feed has 4 advisories, 2 were given; those of startIndex 2 to 3 are missing", self.scan_is_fatal())
+        self.add(page("vulnerabilities", cve(12, match(HERE), modified="2024-07-01T00:00:00.000"), cve(14, match(HERE)), start=2, total=4))
+        self.verdicts()
+        # (a page that is there opens no feed)
+        self.add(first[0], page("vulnerabilities", cve(15, match(HERE))))
+        self.verdicts()
+
+    def test_two_windows_of_one_run(self):
+        self.filled()
+        pages = [page("vulnerabilities", *(cve(n, match(HERE)) for n in some), start=some[0] % 2, total=2) for some in ((10,), (11,), (12,))]
+        self.add(*pages)
+        gap = "the feed has 4 advisories, 3 were given; they are pages of 2 feeds of 2 each, and in one those of startIndex 1 to 1 are missing"
+        self.assertIn(gap, self.scan_is_fatal())
+        self.add(*pages, page("vulnerabilities", cve(13, match(HERE)), start=1, total=2))
+        self.verdicts()
+
+    def test_a_gap_that_a_later_feed_ends(self):
+        self.filled()
+        self.add(page("vulnerabilities", cve(10, match(HERE)), cve(11, match(HERE)), total=40))
+        # (a window has it not, nor has one that has others)
+        for some in ((10, 12), range(12, 60)):
+            self.add(*(page("vulnerabilities", cve(n, match(HERE)), start=k, total=len(some)) for k, n in enumerate(some)))
+            self.assertIn("the feed has 40 advisories, 2 were given", self.scan_is_fatal())
+        self.add(*(page("vulnerabilities", cve(n, match(HERE)), start=k, total=51) for k, n in enumerate(range(10, 61))))
+        self.verdicts()
+
     def test_what_a_stopped_run_had_not_worked_out(self):
         with mock.patch("cpe_recipes.store.settle", side_effect=KeyboardInterrupt), self.assertRaises(KeyboardInterrupt):
             self.filled()
