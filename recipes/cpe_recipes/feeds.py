@@ -25,6 +25,8 @@ ADVISORIES = "vulnerabilities"
 # What pages of CVE records are called, which are no part of a feed that tells how many it has.
 RECORDS = "CVE records"
 _RECORD_VERSION = re.compile(r"5(\.\d+)*")
+# (as a store can keep it)
+_LARGEST = (1 << 63) - 1
 COUNTS = ("totalResults", "startIndex", "resultsPerPage")
 
 
@@ -252,7 +254,7 @@ def _counts(value: Json) -> dict[str, int]:
     """What a page tells of its place in its feed."""
     found = {key: value[key] for key in COUNTS if value.get(key) is not None}
     for key, count in found.items():
-        if isinstance(count, bool) or not isinstance(count, int) or count < 0:
+        if isinstance(count, bool) or not isinstance(count, int) or not 0 <= count <= _LARGEST:
             raise FeedFault(f"its {key} is {quoted(count)}, which is no count")
     return found
 

@@ -457,6 +457,51 @@ class Stores(RecipeCase):
         self.assertEqual(self.verdicts()[1]["leftOut"], [])
         self.assertEqual(ran(store.run, ["status", "--store", self.store])[0], 1)
 
+    def test_odd_texts(self):
+        half = "\ud800"
+        odd = {
+            "a title": page("products", product(fs("v", "p", "2.0"), titles=[{"title": f"a{half}", "lang": "en"}])),
+            "a name": page("products", product(fs("v", f"p{half}", "2.0"))),
+            "an id": page("vulnerabilities", cve(8, match(HERE)) | {"cve": cve(8, match(HERE))["cve"] | {"id": f"CVE{half}"}}),
+            "a state": page("vulnerabilities", cve(8, status=f"A{half}")),
+            "an id of a match": page("matchStrings", {"matchString": {"matchCriteriaId": f"K{half}", "matches": [{"cpeName": HERE}]}}),
+            "the sign that the store has for these": page("vulnerabilities", cve(8, status="A\x1a001a")),
+        }
+        for what, one in odd.items():
+            with self.subTest(what):
+                shutil.rmtree(self.store, ignore_errors=True)
+                self.filled()
+                path = self.file("odd.json", one)
+                self.add(path, page("vulnerabilities", cve(9, match(HERE))))
+                pages = [path, *(str(self.folder / name) for name in sorted(os.listdir(self.folder)) if name.startswith("page-"))]
+                words = ["--machines", self.machines, "--json", "--all"]
+                for kind, option in OPTIONS.items():
+                    of_kind = [name for name in pages if kind in json.loads(Path(name).read_text())]
+                    words += [option, *of_kind] if of_kind else []
+                whole = ran(scan.run, words)
+                found = ran(scan.run, ["--store", self.store, *words[:4]])
+                self.assertEqual(found[0], whole[0])
+                self.assertEqual(of_verdicts(found[1].splitlines()), of_verdicts(whole[1].splitlines()))
+                self.assertEqual(ran(store.run, ["check", "--store", self.store])[0], 0)
+                [path.unlink() for path in self.folder.glob("page-*")]
+
+    def test_a_file_whose_name_is_no_text(self):
+        self.filled()
+        path = str(self.folder / "odd\udcff.json")
+        try:
+            Path(path).write_text(json.dumps(page("vulnerabilities", cve(9, match(HERE)))))
+        except OSError:
+            self.skipTest("no such name can be here")
+        self.add(path)
+        self.assertEqual(self.verdicts()[0], dict.fromkeys("19", "TRUE"))
+
+    def test_a_count_that_is_too_large(self):
+        self.filled()
+        bad = self.file("bad.json", page("vulnerabilities", cve(8, match(HERE)), total=1 << 70))
+        _, said = self.add(bad, page("vulnerabilities", cve(9, match(HERE))), status=1)
+        self.assertIn("which is no count", said[0])
+        self.assertEqual(self.verdicts(status=1)[0], dict.fromkeys("19", "TRUE"))
+
     def test_words(self):
         self.filled()
         for words in ([], ["more"], ["add"], ["status"], ["status", "--store", self.store, self.machines], ["check", "--store", self.store, "--large"]):
