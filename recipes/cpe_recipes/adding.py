@@ -157,7 +157,7 @@ class Adding:
                 self._kept.put(f"DELETE FROM {table} WHERE ?", [(True,)])
             for (place,) in self._kept.rows("SELECT place FROM advisories"):
                 (data,) = self._kept.rows("SELECT data FROM advisories WHERE place = ?", (place,))[0]
-                derived = Derived.of(record_of(data))
+                derived = Derived.of(self._kept.read(record_of, data))
                 edit = "UPDATE advisories SET has_names = ?, state = ?, is_odd = ?, is_of_systems = ? WHERE place = ?"
                 self._kept.put(edit, [(*derived.columns(), place)])
                 derived.put(self._kept, place, self._number)
@@ -341,7 +341,7 @@ class _LatestAdvisories:
         known = self._kept.rows("SELECT place, modified, data FROM advisories WHERE id = ? AND is_of_records = ?", (id, self._is_of_records))
         if known:
             now, before = _time(modified), _time(known[0][1])
-            if now < before or now == before and any(record_of(data) == record for _, _, data in known):
+            if now < before or now == before and any(self._kept.read(record_of, data) == record for _, _, data in known):
                 return
             if now > before:
                 self._delete(known)
@@ -358,7 +358,7 @@ class _LatestAdvisories:
 
     def _delete(self, known: Iterable[tuple[int, str, bytes]]) -> None:
         for place, _, data in known:
-            concern = concern_of(record_of(data))
+            concern = concern_of(self._kept.read(record_of, data))
             if concern is not None:
                 products = [(self._number_of(product), place) for product in concern.products]
                 self._kept.put("DELETE FROM concerns WHERE product = ? AND place = ?", products)

@@ -8,10 +8,14 @@ from __future__ import annotations
 import contextlib
 import re
 import sqlite3
-from collections.abc import Iterable, Iterator, Sequence
+import zlib
+from collections.abc import Callable, Iterable, Iterator, Sequence
 from pathlib import Path
+from typing import TypeVar
 
 from .said import Fatal, why
+
+Read = TypeVar("Read")
 
 FILE = "feeds.sqlite"
 # (change it with the tables, and with what is kept beside products and matches; what is kept beside advisories is made again)
@@ -185,6 +189,13 @@ class Kept:
         """Runs an edit for each of these rows."""
         with self._telling():
             self._connection.executemany(query, map(_kept, rows))
+
+    def read(self, reader: Callable[[bytes], Read], data: bytes) -> Read:
+        """What is read of bytes that were kept. Fatal if that can't be."""
+        try:
+            return reader(data)
+        except (ValueError, TypeError, KeyError, zlib.error) as fault:
+            raise Fatal(f"{self._path}: {_WORDS[sqlite3.SQLITE_CORRUPT]} ({fault})") from fault
 
     @contextlib.contextmanager
     def _telling(self) -> Iterator[None]:

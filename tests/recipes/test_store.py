@@ -534,6 +534,19 @@ class Stores(RecipeCase):
                 with self.assertRaises(Fatal):
                     self.filled()
 
+    def test_a_record_that_is_torn(self):
+        later = page("vulnerabilities", *(cve(n, match(HERE), modified="2024-07-01T00:00:00.000") for n in (1, 2, 3)))
+        for edit in ("UPDATE made SET data = x'789c00'", "DELETE FROM made; UPDATE advisories SET data = x'789c00'"):
+            shutil.rmtree(self.store, ignore_errors=True)
+            self.filled()
+            with sqlite3.connect(Path(self.store) / FILE) as connection:
+                connection.executescript(edit)
+            connection.close()
+            with self.subTest(edit):
+                self.assertIn("the store is torn: remove it, and add the pages again", self.scan_is_fatal())
+                if "advisories" in edit:
+                    self.assertIn("the store is torn", self.fatal("add", "--store", self.store, self.file("later.json", later)))
+
     def test_a_store_of_another_version(self):
         self.filled()
         with sqlite3.connect(Path(self.store) / FILE) as connection:
