@@ -138,8 +138,8 @@ class Adding:
         counts = (span.start, span.said, span.total) if span else (None, None, None)
         number = (self._kept.one("SELECT max(number) FROM pages") or (None,))[0]
         number = 1 if number is None else number + 1
-        row = (number, key, page.name, kind, page.kind == RECORDS, _now(), len(page.records), *counts, ids)
-        self._kept.put("INSERT INTO pages VALUES (?, ?, ?, ?, ?, ?, ?, ?, ?, ?, ?)", [row])
+        row = (number, key, page.name, kind, page.kind == RECORDS, _now(), len(page.records), *counts, ids, None if ids is None else _copy_of(page))
+        self._kept.put("INSERT INTO pages VALUES (?, ?, ?, ?, ?, ?, ?, ?, ?, ?, ?, ?)", [row])
         self._give([(number, kind)])
         putting = {"products": self._put_products, ADVISORIES: self._put_advisories, "matchStrings": self._put_matches}
         return putting[kind](page, number)
@@ -467,6 +467,11 @@ def _time(modified: str) -> datetime:
 def _numbers_of(ids: Sequence[Json]) -> bytes:
     """Numbers in place of ids, as bytes; 0 for a record without one."""
     return array("Q", (_id_number(id) for id in ids)).tobytes()
+
+
+def _copy_of(page: Page) -> str:
+    """What two pages have alike that have the same records, each modified at the same time."""
+    return hashlib.blake2b(json.dumps(whole.stamps_of(page)).encode(), digest_size=16).hexdigest()
 
 
 def _id_number(id: Json) -> int:

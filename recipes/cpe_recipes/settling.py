@@ -12,6 +12,7 @@ from .concern import plain_name
 from .dictionary import Product, deprecations_of
 from .feeds import Json, Placed, Source
 from .kept import Kept, page_and_number
+from .matches import key_of_name
 from .program import Candidate, Program, candidate_at
 from .said import Noting, Said
 
@@ -79,11 +80,14 @@ def told_of(kept: Kept, kind: str) -> Iterator[dict[str, Json]]:
 def _told_of_pages(kept: Kept, kind: str) -> Iterator[dict[str, Json]]:
     noted = _Noted()
     spans, uncounted = {}, []
-    for number, name, is_of_records, count, start, said, total, ids in kept.rows(
-        "SELECT number, name, is_of_records, records, start, said, total, ids FROM pages WHERE kind = ? ORDER BY number", (kind,)
+    copies: dict[tuple[object, ...], whole.Span] = {}
+    for number, name, is_of_records, count, start, said, total, ids, copy in kept.rows(
+        "SELECT number, name, is_of_records, records, start, said, total, ids, copy FROM pages WHERE kind = ? ORDER BY number", (kind,)
     ):
         if total is not None:
-            spans[number] = whole.Span(name, start, count, said, total, [] if ids is None else list(ids_of(ids)))
+            span = whole.Span(name, start, count, said, total, [] if ids is None else list(ids_of(ids)))
+            # (a page in other bytes is the same page)
+            spans[number] = copies.setdefault((start, count, said, total, copy), span) if copy else span
         elif not is_of_records:
             uncounted.append(name)
     runs: dict[int, list[whole.Span]] = {}
@@ -108,10 +112,13 @@ def _rows_of_deprecations(kept: Kept) -> list[tuple]:
     rows = {row[0]: row for row in kept.rows(f"SELECT {_COLUMNS} FROM products WHERE change IS NOT NULL")}
     rows |= {row[0]: row for row in odd_rows(kept)}
     for name in _named(row[5] for row in rows.values() if row[5] is not None):
-        plain = plain_name(name)
-        query = f"SELECT {_COLUMNS} FROM products WHERE product = (SELECT number FROM names WHERE vendor = ? AND product = ?) AND name = ?"
-        if plain is not None:
-            rows |= {row[0]: row for row in kept.rows(query, (*plain[1], name.lower()))}
+        query = f"SELECT {_COLUMNS} FROM products WHERE product = (SELECT number FROM names WHERE vendor = ? AND product = ?)"
+        key = key_of_name(name)
+        if plain_name(name) is not None and key is not None:
+            rows |= {row[0]: row for row in kept.rows(f"{query} AND name = ?", (*key, name.lower()))}
+        elif key is not None:
+            # (what is spelled otherwise may be any entry of its product)
+            rows |= {row[0]: row for row in kept.rows(query, key)}
     return [rows[place] for place in sorted(rows)]
 
 

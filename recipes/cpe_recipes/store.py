@@ -16,12 +16,14 @@ wrong; 1 if something was left out, is missing or wrong, which is reported; 2 if
 """
 from __future__ import annotations
 
+import json
 import os
 from collections.abc import Callable, Iterator, Mapping, Sequence
 
 from . import checking, feeds
 from .adding import KINDS, Adding
 from .kept import Kept
+from .latest import time_of
 from .program import Program
 from .progress import Progress
 from .said import Fatal, Output, Said
@@ -96,9 +98,8 @@ def _lines(kept: Kept, said: Said) -> Iterator[str]:
     (pages, last) = kept.rows("SELECT count(*), max(added) FROM pages")[0]
     yield f"{counted(pages, 'page')}, the last one added {last}" if pages else "no page"
     for kind, table, more in (("products", "products", ""), ("vulnerabilities", "advisories", " AND is_passed = 0"), ("matchStrings", "matches", "")):
-        count, modified = kept.rows(f"SELECT count(*), max(modified) FROM {table} WHERE 1{more}")[0]
-        when = f", the last modified {modified.strip(chr(34))}" if count else ""
-        yield f"{CALLED[kind]}: {count:,}{when}"
+        count = kept.rows(f"SELECT count(*) FROM {table} WHERE 1{more}")[0][0]
+        yield f"{CALLED[kind]}: {count:,}{_last(kept, f'SELECT DISTINCT modified FROM {table} WHERE 1{more}')}"
     rejected, unanalysed = kept.rows("SELECT sum(state = 'Rejected'), sum(state != 'Rejected') FROM advisories WHERE is_passed = 0 AND state IS NOT NULL")[0]
     yield f"of these rejected: {rejected or 0:,}, not analysed: {unanalysed or 0:,}"
     tell_unended(kept, said)
@@ -113,6 +114,13 @@ def _lines(kept: Kept, said: Said) -> Iterator[str]:
                 said.left_out(missing.files, f"{missing.words()}; {missing.where}")
             elif "remark" in one:
                 said.remark(one["remark"])
+
+
+def _last(kept: Kept, query: str) -> str:
+    """The last of these times, in words; nothing if none is one."""
+    times = (json.loads(modified) for (modified,) in kept.each(query))
+    last = max(((time_of(one), one) for one in times if isinstance(one, str) and time_of(one) > time_of("")), default=None)
+    return f", the last modified {last[1]}" if last else ""
 
 
 def _check(folder: str, read: Words, said: Said, output: Output) -> None:

@@ -171,6 +171,17 @@ def _id(record: Json, kind: str) -> Json:
     return id if isinstance(id, str) else None
 
 
+def stamps_of(page: Page) -> list[tuple[Json, Json, Json]]:
+    """The ids of the records of a page, each with the times at which it was modified."""
+    outer, _ = _IDS[page.kind]
+    found = []
+    for record in page.records:
+        inner = record.get(outer) if isinstance(record, dict) else None
+        times = (inner.get("lastModified"), inner.get("cpeLastModified")) if isinstance(inner, dict) else (None, None)
+        found.append((_id(record, page.kind), *times))
+    return found
+
+
 def _odd(kind: str, spans: Iterable[Span]) -> Iterator[Missing]:
     """Pages that have another number of records than they tell, or that end behind their feed."""
     for span in spans:
@@ -183,27 +194,58 @@ def _odd(kind: str, spans: Iterable[Span]) -> Iterator[Missing]:
 def missing_of_runs(kind: str, runs: Iterable[Sequence[Span]], said: Said) -> list[Missing]:
     """What is missing of feeds of which runs gave pages, one after the other. What a run gave is judged by itself, and if it isn't whole,
     with what is left of the runs before. It is no longer missing if a later feed is whole, as large, and has all that was given of it."""
-    odd: list[Span] = []
-    left: list[Span] = []
-    last: dict[int, int] = {}
-    closed: set[int] = set()
-    for number, spans in enumerate(runs):
-        last.update((id(span), number) for span in spans)
-        whole_ones, others = _parted(kind, spans)
-        joined, left = _parted(kind, list({id(span): span for span in [*left, *others]}.values()))
-        odd += [span for span in spans if any(_odd(kind, [span]))]
-        for feed in [*whole_ones, *joined]:
-            list(_judged(kind, feed, said))
-            closed.update(map(id, feed))
-            since = min(last[id(span)] for span in feed)
-            odd = [span for span in odd if last[id(span)] >= since or not _ends(feed, [span])]
-            left = [
-                span for group in _feeds(left) for span in group if max(last[id(one)] for one in group) >= since or not _ends(feed, group)
-            ]
-        # (pages of a feed that was whole before, and given again, open none)
-        left = [span for group in _feeds(left) for span in group if not closed.issuperset(map(id, group))]
-    found = {id(span): span for span in odd}.values()
-    return [*_odd(kind, found), *_missing(kind, left, said)]
+    feeds_of_runs = _Runs(kind, said)
+    for spans in runs:
+        feeds_of_runs.put(spans)
+    found = {id(span): span for span in feeds_of_runs.odd}.values()
+    return [*_odd(kind, found), *_missing(kind, feeds_of_runs.left, said)]
+
+
+class _Runs:
+    """What is left of the feeds of runs: pages that are odd, and those of feeds that aren't whole."""
+
+    def __init__(self, kind: str, said: Said) -> None:
+        self._kind, self._said = kind, said
+        self.odd: list[Span] = []
+        self.left: list[Span] = []
+        # (by a page, the number of the last run that gave it)
+        self._last: dict[int, int] = {}
+        self._runs = 0
+        # (pages of feeds that were whole, and those of them that were given again: they may belong to a later feed too, and open none)
+        self._closed: set[int] = set()
+        self._spare: dict[tuple[int, int], Span] = {}
+
+    def put(self, spans: Sequence[Span]) -> None:
+        """Puts the pages of a run."""
+        self._runs += 1
+        self._last.update((id(span), self._runs) for span in spans)
+        found, others = _parted(self._kind, spans)
+        self._spare |= {(span.total, span.start): span for span in others if id(span) in self._closed}
+        joined, self.left = _parted(self._kind, _each_once([*self.left, *(span for span in others if id(span) not in self._closed)]))
+        if self.left and self._spare:
+            filled, rest = _parted(self._kind, [*self.left, *self._spare.values()])
+            joined += [feed for feed in filled if any(id(span) not in self._closed for span in feed)]
+            self.left = [span for span in rest if id(span) not in self._closed]
+        self.odd += [span for span in spans if any(_odd(self._kind, [span]))]
+        for feed in [*found, *joined]:
+            self._end(feed)
+
+    def _end(self, feed: Sequence[Span]) -> None:
+        """Takes a feed that is whole, and with it what it ends."""
+        list(_judged(self._kind, feed, self._said))
+        self._closed.update(map(id, feed))
+        self._spare = {key: span for key, span in self._spare.items() if all(span is not one for one in feed)}
+        since = min(self._last[id(span)] for span in feed)
+        self.odd = [span for span in self.odd if not self._is_ended([span], feed, since)]
+        left = [span for span in self.left if id(span) not in self._closed]
+        self.left = [span for group in _feeds(left) if not self._is_ended(group, feed, since) for span in group]
+
+    def _is_ended(self, group: Sequence[Span], feed: Sequence[Span], since: int) -> bool:
+        return max(self._last[id(span)] for span in group) < since and _ends(feed, group)
+
+
+def _each_once(spans: Iterable[Span]) -> list[Span]:
+    return list({id(span): span for span in spans}.values())
 
 
 def _parted(kind: str, spans: Sequence[Span]) -> tuple[list[list[Span]], list[Span]]:
@@ -253,7 +295,8 @@ def _feeds(spans: Sequence[Span]) -> Iterator[list[Span]]:
 
 def _times(spans: Sequence[Span], total: int) -> int:
     """Of how many feeds of so many records each these are pages, at least."""
-    return max(1, -(-_distinct(spans) // max(total, 1)))
+    # (of one without an id isn't known whether it comes twice)
+    return max(1, -(-len({id for span in spans for id in span.ids} - {None}) // max(total, 1)))
 
 
 def _is_growing(spans: Sequence[Span]) -> bool:

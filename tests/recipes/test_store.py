@@ -276,6 +276,14 @@ class Stores(RecipeCase):
         self.add(page("products", product(fs("x", "new", "1.0"), later)))
         self.assertEqual(self.verdicts()[0], {"1": "TRUE", "4": "TRUE"})
 
+    def test_a_deprecation_that_is_spelled_as_a_uri(self):
+        self.filled()
+        new = fs("new\\!", "prod", "1.0")
+        self.machines = self.file("machines", f"m {fs('old', 'prod', '1.0')}\n")
+        old = product("cpe:/a:old:prod:1.0", deprecated=True, deprecatedBy=[{"cpeName": "cpe:/a:new%21:prod:1.0"}])
+        self.add(page("products", old, product(new)), page("vulnerabilities", cve(4, match(new))))
+        self.assertEqual(self.verdicts()[0], {"4": "TRUE"})
+
     def test_pages_that_are_missing(self):
         self.filled()
         self.add(page("vulnerabilities", cve(5, match(HERE)), cve(6, match(HERE)), start=0, total=3))
@@ -385,6 +393,12 @@ class Stores(RecipeCase):
             "products: 2, the last modified 2024-01-01T00:00:00.000", "advisories: 3, the last modified 2024-01-01T00:00:00.000",
             "match strings: 0", "of these rejected: 0, not analysed: 1",
         ])
+
+    def test_the_last_time_is_told_by_the_time(self):
+        times = ("2024-06-01T00:30:00+02:00", "2024-05-31T23:00:00Z", "zzz", 99, None)
+        self.add(page("products", product(HERE, None)), page("vulnerabilities", *(cve(n, match(HERE), modified=time) for n, time in enumerate(times, 1))))
+        lines = ran(store.run, ["status", "--store", self.store])[1].splitlines()
+        self.assertEqual(lines[1:3], ["products: 1", "advisories: 5, the last modified 2024-05-31T23:00:00Z"])
 
     def test_pages_that_can_not_be_read(self):
         bad = self.file("bad.json", '{"products":')
