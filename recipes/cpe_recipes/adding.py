@@ -6,9 +6,11 @@ it by these, and what it becomes (made.py). What isn't plain (concern.py) is rea
 """
 from __future__ import annotations
 
+import contextlib
 import functools
 import hashlib
 import json
+import os
 import re
 import zlib
 from array import array
@@ -30,6 +32,8 @@ from .said import Said
 from .unanalysed import state_of
 
 KINDS = ("products", "vulnerabilities", "matchStrings")
+# The kind of a fault of a file; that of a record is the kind of its page.
+FILES = "files"
 # What a page of another kind than NVD's counts as.
 _KIND = {RECORDS: ADVISORIES}
 # The number of the product of what has none that is known.
@@ -46,45 +50,99 @@ class Adding:
         self._numbers: dict[Key, int] = {}
         self._new: dict[Key, int] = {}
         self._part, self._in_part = "", 0
+        self._run = 0
+        self._place: tuple[str, str] | None = None
+        self._is_faulty = False
+        self._faulty: set[str] = set()
+        self.there = 0
 
-    def is_there(self, data: bytes) -> bool:
+    def begin(self, paths: Iterable[str]) -> None:
+        """Notes that a run begins to add these files. If it is stopped, each scan reports that, until they are added to their end."""
+        with self._kept.writing():
+            self._run = (self._kept.one("SELECT coalesce(max(number), 0) FROM runs") or (0,))[0] + 1
+            self._kept.put("INSERT INTO runs VALUES (?, ?, ?)", [(self._run, _now(), json.dumps(list(map(_path, paths))))])
+
+    def finish(self, paths: Iterable[str]) -> None:
+        """Notes that these files were added to their end, and with them those of each run that had no others."""
+        ended = set(map(_path, paths))
+        with self._kept.writing():
+            runs = self._kept.rows("SELECT number, paths FROM runs WHERE paths IS NOT NULL")
+            whole_ones = [(number,) for number, text in runs if ended.issuperset(json.loads(text))]
+            self._kept.put("UPDATE runs SET paths = NULL WHERE number = ?", whole_ones)
+            # (a file that is whole now hasn't the members that could not be read)
+            good = ((FILES, path) for path in ended - self._faulty)
+            self._kept.put("DELETE FROM faults WHERE kind = ? AND key = ?", good)
+
+    def is_passed(self, path: str | None, place: str, data: bytes) -> bool:
         """Whether a file or member of these bytes was added before, whole."""
         self._end_part()
         self._part, self._in_part = hashlib.sha256(data).hexdigest(), 0
-        return self._kept.one("SELECT 1 FROM parts WHERE digest = ?", (self._part,)) is not None
+        self._place, self._is_faulty = (_path(path), place), False
+        found = self._kept.one("SELECT 1 FROM parts WHERE digest = ?", (self._part,)) is not None
+        if found:
+            self.there += 1
+            with self._kept.writing():
+                self._give(self._kept.rows("SELECT number, kind FROM pages WHERE key BETWEEN ? AND ?", (f"{self._part}#", f"{self._part}$")))
+        return found
+
+    def _give(self, pages: Iterable[tuple[int, str]]) -> None:
+        """Notes that this run gives these pages too."""
+        for number, kind in pages:
+            if self._kept.one("SELECT 1 FROM given WHERE run = ? AND page = ?", (self._run, number)) is None:
+                self._kept.put("INSERT INTO given VALUES (?, ?)", [(self._run, number)])
+                self._kept.put("INSERT OR IGNORE INTO unsettled VALUES (?)", [(kind,)])
+
+    def fault(self, path: str | None, place: str, reason: str) -> None:
+        """Notes that a file or member can't be read, or not to its end."""
+        if self._place == (_path(path), place):
+            self._is_faulty = True
+        self._faulty.add(_path(path))
+        self._kept.put("INSERT OR REPLACE INTO faults VALUES (?, ?, ?, ?, ?)", [(FILES, _path(path), place, reason, "null")])
 
     def _end_part(self) -> None:
-        if self._part and self._in_part:
+        if self._part and not self._is_faulty:
             self._kept.put("INSERT OR IGNORE INTO parts VALUES (?)", [(self._part,)])
+            self._kept.put("DELETE FROM faults WHERE kind = ? AND key = ? AND place = ?", [(FILES, *self._place)] if self._place else [])
 
     def end(self) -> None:
-        """Notes that the last file is whole."""
+        """Notes that the last file was read to its end."""
         self._end_part()
         self._part = ""
 
     def put(self, page: Page) -> int | None:
-        """Adds a page, whole or nothing of it, and returns how many of its records are new or later; None if it is there."""
+        """Adds a page, whole or nothing of it, and returns how many of its records are new or later; None if it is there, or left
+        out."""
         key = f"{self._part}#{self._in_part}"
         self._in_part += 1
         kind = _KIND.get(page.kind, page.kind)
+        fault = whole.fault_of(page)
+        if fault:
+            self.fault(self._place[0] if self._place else None, page.name, fault)
+            self._said.left_out(page.name, fault)
+            return None
         span = whole.span_of(page) if "totalResults" in page.counts else None
         with self._kept.writing():
-            if self._kept.one("SELECT 1 FROM pages WHERE key = ?", (key,)) is not None:
+            known = self._kept.rows("SELECT number, kind FROM pages WHERE key = ?", (key,))
+            if known:
+                self.there += 1
+                self._give(known)
                 return None
             self._read_numbers()
-            now = datetime.now(timezone.utc).isoformat(timespec="seconds")
-            ids = None if span is None or span.is_alone() else _numbers_of(span.ids)
-            counts = (span.start, span.said, span.total) if span else (None, None, None)
-            number = (self._kept.one("SELECT max(number) FROM pages") or (None,))[0]
-            number = 1 if number is None else number + 1
-            row = (number, key, page.name, kind, page.kind == RECORDS, now, len(page.records), *counts, ids)
-            self._kept.put("INSERT INTO pages VALUES (?, ?, ?, ?, ?, ?, ?, ?, ?, ?, ?)", [row])
-            putting = {"products": self._put_products, ADVISORIES: self._put_advisories, "matchStrings": self._put_matches}
-            changed = putting[kind](page, number)
+            changed = self._put_page(page, key, kind, span)
             self._put_numbers()
-            self._kept.put("INSERT OR IGNORE INTO unsettled VALUES (?)", [(kind,)])
         self._numbers.update(self._new)
         return changed
+
+    def _put_page(self, page: Page, key: str, kind: str, span: whole.Span | None) -> int:
+        ids = None if span is None or span.is_alone() else _numbers_of(span.ids)
+        counts = (span.start, span.said, span.total) if span else (None, None, None)
+        number = (self._kept.one("SELECT max(number) FROM pages") or (None,))[0]
+        number = 1 if number is None else number + 1
+        row = (number, key, page.name, kind, page.kind == RECORDS, _now(), len(page.records), *counts, ids, None if ids is None else _copy_of(page))
+        self._kept.put("INSERT INTO pages VALUES (?, ?, ?, ?, ?, ?, ?, ?, ?, ?, ?, ?)", [row])
+        self._give([(number, kind)])
+        putting = {"products": self._put_products, ADVISORIES: self._put_advisories, "matchStrings": self._put_matches}
+        return putting[kind](page, number)
 
     def make_again(self) -> None:
         """Derives all that is kept beside the records of advisories, if other recipes derived it."""
@@ -99,7 +157,7 @@ class Adding:
                 self._kept.put(f"DELETE FROM {table} WHERE ?", [(True,)])
             for (place,) in self._kept.rows("SELECT place FROM advisories"):
                 (data,) = self._kept.rows("SELECT data FROM advisories WHERE place = ?", (place,))[0]
-                derived = Derived.of(record_of(data))
+                derived = Derived.of(self._kept.read(record_of, data))
                 edit = "UPDATE advisories SET has_names = ?, state = ?, is_odd = ?, is_of_systems = ? WHERE place = ?"
                 self._kept.put(edit, [(*derived.columns(), place)])
                 derived.put(self._kept, place, self._number)
@@ -178,17 +236,38 @@ class Adding:
     def _put_matches(self, page: Page, page_number: int) -> int:
         changed = 0
         found: dict[tuple[int, str], None] = {}
+        faulty = {key for (key,) in self._kept.rows("SELECT DISTINCT key FROM faults WHERE kind = ?", (page.kind,))}
         for placed in page.each("match string", lambda it: text_at(member(it, "matchString"), "matchCriteriaId")):
             try:
                 match_string = member(placed.record, "matchString")
                 listed, modified = matches.names_of(match_string), record_text(matches.modified_of(match_string))
             except FormFault:
-                self._said.left_out(placed.id, NO_FORM, placed.source.place(placed.number))
+                self._put_faulty_match(placed)
+                faulty.add(placed.id)
                 continue
+            if placed.id in faulty:
+                self._drop_faults(placed.id, modified)
             found.update(dict.fromkeys((self._number_of_key(one), placed.id) for one in matches.products_of(match_string)))
             changed += self._put_match(place_of(page_number, placed.number - 1), placed.id, modified, record_text(listed))
         self._kept.put("INSERT OR IGNORE INTO listing VALUES (?, ?)", found)
         return changed
+
+    def _put_faulty_match(self, placed: Placed) -> None:
+        """Says a match that can't be read, and keeps that, unless a later one is there."""
+        self._said.left_out(placed.id, NO_FORM, placed.source.place(placed.number))
+        modified = "null"
+        with contextlib.suppress(FormFault):
+            modified = record_text(matches.modified_of(member(placed.record, "matchString")))
+        known = self._kept.rows("SELECT modified FROM matches WHERE key = ?", (placed.id,))
+        if modified == "null" or not any(_time(modified) < _time(one) for (one,) in known):
+            row = ("matchStrings", placed.id, placed.source.place(placed.number), NO_FORM, modified)
+            self._kept.put("INSERT OR REPLACE INTO faults VALUES (?, ?, ?, ?, ?)", [row])
+
+    def _drop_faults(self, key: str, modified: str) -> None:
+        """Drops what is kept of a match that could not be read, if that isn't later."""
+        rows = self._kept.rows("SELECT place, modified FROM faults WHERE kind = 'matchStrings' AND key = ?", (key,))
+        older = [(key, place) for place, before in rows if _time(before) <= _time(modified)]
+        self._kept.put("DELETE FROM faults WHERE kind = 'matchStrings' AND key = ? AND place = ?", older)
 
     def _put_match(self, place: int, key: str, modified: str, listed: str) -> bool:
         """Puts the list of a match, unless a later one or the same is there."""
@@ -259,7 +338,7 @@ class _LatestAdvisories:
         known = self._kept.rows("SELECT place, modified, data FROM advisories WHERE id = ? AND is_of_records = ?", (id, self._is_of_records))
         if known:
             now, before = _time(modified), _time(known[0][1])
-            if now < before or now == before and any(record_of(data) == record for _, _, data in known):
+            if now < before or now == before and any(self._kept.read(record_of, data) == record for _, _, data in known):
                 return
             if now > before:
                 self._delete(known)
@@ -276,7 +355,7 @@ class _LatestAdvisories:
 
     def _delete(self, known: Iterable[tuple[int, str, bytes]]) -> None:
         for place, _, data in known:
-            record = record_of(data)
+            record = self._kept.read(record_of, data)
             concern = concern_of(record)
             if concern is not None:
                 products = [(self._number_of(product), place) for product in concern.products]
@@ -373,6 +452,14 @@ def _is_day(text: Json) -> bool:
         return False
 
 
+def _path(path: str | None) -> str:
+    return "" if path is None else os.path.abspath(path)
+
+
+def _now() -> str:
+    return datetime.now(timezone.utc).isoformat(timespec="seconds")
+
+
 def _time(modified: str) -> datetime:
     return time_of(json.loads(modified))
 
@@ -380,6 +467,11 @@ def _time(modified: str) -> datetime:
 def _numbers_of(ids: Sequence[Json]) -> bytes:
     """Numbers in place of ids, as bytes; 0 for a record without one."""
     return array("Q", (_id_number(id) for id in ids)).tobytes()
+
+
+def _copy_of(page: Page) -> str:
+    """What two pages have alike that have the same records, each modified at the same time."""
+    return hashlib.blake2b(json.dumps(whole.stamps_of(page)).encode(), digest_size=16).hexdigest()
 
 
 def _id_number(id: Json) -> int:

@@ -266,7 +266,7 @@ def convert(
     states = states or States()
     of_ids: dict[str, list[Placed]] = {}
     for page in states.sort(latest.advisories(found, said)):
-        for placed in page.each(CALLED, lambda it: text_at(member(it, "cve"), "id")):
+        for placed in page.each(CALLED, _id_of):
             of_ids.setdefault(placed.id, []).append(placed)
     states.drop(of_ids)
     states.tell(said)
@@ -275,6 +275,11 @@ def convert(
     for of_id in of_ids.values():
         converter.take(of_id)
     return converter.found
+
+
+def _id_of(record: Json) -> str | None:
+    # (pages of the same name may have two at the same place)
+    return record.id if isinstance(record, Made) else text_at(member(record, "cve"), "id")
 
 
 def ids_in_order(pages: Iterable[Page]) -> list[str]:

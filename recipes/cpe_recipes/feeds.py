@@ -6,7 +6,7 @@ import re
 from collections.abc import Callable, Iterator, Mapping, Sequence
 from dataclasses import dataclass, field, replace
 from pathlib import Path
-from typing import Any, NamedTuple
+from typing import Any, NamedTuple, Protocol
 
 from .said import Fatal, Said, quoted
 from .unpack import LIMITS, FeedFault, Limits, Unpacked, read_feed
@@ -25,6 +25,8 @@ ADVISORIES = "vulnerabilities"
 # What pages of CVE records are called, which are no part of a feed that tells how many it has.
 RECORDS = "CVE records"
 _RECORD_VERSION = re.compile(r"5(\.\d+)*")
+# (as a store can keep it)
+_LARGEST = (1 << 63) - 1
 COUNTS = ("totalResults", "startIndex", "resultsPerPage")
 
 
@@ -82,6 +84,16 @@ class Page:
         numbers = self.numbers or range(1, len(self.records) + 1)
         records, numbers = [self.records[k] for k in kept], [numbers[k] for k in kept]
         return replace(self, records=records, numbers=numbers)
+
+
+class Follower(Protocol):
+    """Follows what is read: the files, and the members of archives among them, by their paths and by what they are called."""
+
+    def is_passed(self, path: str | None, place: str, data: bytes) -> bool:
+        """Whether the bytes of a file or member needn't be read."""
+
+    def fault(self, path: str | None, place: str, reason: str) -> None:
+        """Hears why a file or member, or a part of it, can't be read."""
 
 
 def name_of(path: str | None) -> str:
@@ -149,20 +161,21 @@ def pages(
     kinds: Sequence[str],
     strict: bool = False,
     limits: Limits = LIMITS,
-    is_passed: Callable[[bytes], bool] | None = None,
+    follower: Follower | None = None,
 ) -> Iterator[Page]:
     """The pages at these paths, of standard input where there is none.
 
     A page is an object in which one of `kinds` is a list, in a file or a member of an archive. Where a page is none, or can't be read,
-    the others still come out, and that is said; where there is no page at all, or `strict` is asked for, it is Fatal. `is_passed` says
-    of the bytes of a file or member that they needn't be read.
+    the others still come out, and that is said; where there is no page at all, or `strict` is asked for, it is Fatal.
     """
     good, faults = 0, []
     feeds: Sequence[str | None] = list(paths) or [None]
     for path in feeds:
         name = name_of(path)
-        for one in _pages_of(path, said, kinds, limits, is_passed):
-            if isinstance(one, Page):
+        for one in _pages_of(path, said, kinds, limits, follower):
+            if one is None:
+                good += 1
+            elif isinstance(one, Page):
                 good += 1
                 yield one
             elif strict or len(paths) <= 1 and not good:
@@ -175,9 +188,9 @@ def pages(
 
 
 def _pages_of(
-    path: str | None, said: Said, kinds: Sequence[str], limits: Limits, is_passed: Callable[[bytes], bool] | None
-) -> Iterator[Page | tuple[str, str]]:
-    """The pages of a file; of what is none its name and the reason."""
+    path: str | None, said: Said, kinds: Sequence[str], limits: Limits, follower: Follower | None
+) -> Iterator[Page | tuple[str, str] | None]:
+    """The pages of a file; of what is none its name and the reason; None in place of what is passed over."""
     name, unpacked = name_of(path), Unpacked(limits)
     parts = unpacked.parts(path)
     while True:
@@ -187,11 +200,14 @@ def _pages_of(
             if part is None:
                 break
             place = f"{name}/{part[0]}" if part[0] else name
-            if is_passed is not None and is_passed(part[1]):
+            if follower is not None and follower.is_passed(path, place, part[1]):
+                yield None
                 continue
             for value in values_of(part[1]):
                 yield _page(place, value, kinds)
         except FeedFault as fault:
+            if follower is not None:
+                follower.fault(path, place, str(fault))
             yield place, str(fault)
     if unpacked.passed:
         some = f"{len(unpacked.passed):,} {'member is' if len(unpacked.passed) == 1 else 'members are'} no page by the name"
@@ -238,7 +254,7 @@ def _counts(value: Json) -> dict[str, int]:
     """What a page tells of its place in its feed."""
     found = {key: value[key] for key in COUNTS if value.get(key) is not None}
     for key, count in found.items():
-        if isinstance(count, bool) or not isinstance(count, int) or count < 0:
+        if isinstance(count, bool) or not isinstance(count, int) or not 0 <= count <= _LARGEST:
             raise FeedFault(f"its {key} is {quoted(count)}, which is no count")
     return found
 

@@ -6,11 +6,16 @@ ended isn't there.
 from __future__ import annotations
 
 import contextlib
+import re
 import sqlite3
-from collections.abc import Iterable, Iterator, Sequence
+import zlib
+from collections.abc import Callable, Iterable, Iterator, Sequence
 from pathlib import Path
+from typing import TypeVar
 
 from .said import Fatal, why
+
+Read = TypeVar("Read")
 
 FILE = "feeds.sqlite"
 # (change it with the tables, and with what is kept beside products and matches; what is kept beside advisories is made again)
@@ -20,15 +25,24 @@ _APPLICATION = 0x43504553
 _SECONDS_TO_WAIT = 10
 # A query over many numbers is asked for a part of them at a time.
 _AT_ONCE = 500
+# SQLite has no half of a character, which JSON and names of files can have; it is kept by its number behind this sign.
+_SIGN = "\x1a"
+_KEPT_BY_NUMBER = re.compile(f"[{_SIGN}\ud800-\udfff]")
+_NUMBER = re.compile(f"{_SIGN}([0-9a-f]{{4}})")
 # The place of a record: the number of its page, and behind that its number in the page, from 0.
 _BITS = 24
 
 _TABLES = """
 CREATE TABLE pages (
     number INTEGER PRIMARY KEY, key TEXT NOT NULL UNIQUE, name TEXT NOT NULL, kind TEXT NOT NULL, is_of_records INTEGER NOT NULL,
-    added TEXT NOT NULL, records INTEGER NOT NULL, start INTEGER, said INTEGER, total INTEGER, ids BLOB
+    added TEXT NOT NULL, records INTEGER NOT NULL, start INTEGER, said INTEGER, total INTEGER, ids BLOB, copy TEXT
 );
+CREATE TABLE runs (number INTEGER PRIMARY KEY, began TEXT NOT NULL, paths TEXT);
+CREATE TABLE given (run INTEGER NOT NULL, page INTEGER NOT NULL, PRIMARY KEY (run, page)) WITHOUT ROWID;
 CREATE TABLE parts (digest TEXT PRIMARY KEY) WITHOUT ROWID;
+CREATE TABLE faults (
+    kind TEXT NOT NULL, key TEXT NOT NULL, place TEXT NOT NULL, reason TEXT NOT NULL, modified TEXT NOT NULL, PRIMARY KEY (kind, key, place)
+) WITHOUT ROWID;
 CREATE TABLE names (
     number INTEGER PRIMARY KEY, vendor TEXT NOT NULL, product TEXT NOT NULL, squeezed TEXT NOT NULL, UNIQUE (vendor, product)
 );
@@ -87,6 +101,7 @@ class Kept:
                 raise Fatal(f"{folder}: no store can be made there: {why(fault)}") from fault
         with self._telling():
             self._connection = sqlite3.connect(self._path, timeout=_SECONDS_TO_WAIT, isolation_level=None)
+            self._connection.text_factory = _read_text
             try:
                 self._open(is_made)
             except BaseException:
@@ -153,16 +168,16 @@ class Kept:
     def rows(self, query: str, values: Sequence[object] = ()) -> list[tuple]:
         """All rows of a query."""
         with self._telling():
-            return self._connection.execute(query, values).fetchall()
+            return self._connection.execute(query, _kept(values)).fetchall()
 
     def one(self, query: str, values: Sequence[object] = ()) -> tuple | None:
         with self._telling():
-            return self._connection.execute(query, values).fetchone()
+            return self._connection.execute(query, _kept(values)).fetchone()
 
     def each(self, query: str, values: Sequence[object] = ()) -> Iterator[tuple]:
         """The rows of a query as they come."""
         with self._telling():
-            yield from self._connection.execute(query, values)
+            yield from self._connection.execute(query, _kept(values))
 
     def rows_of(self, query: str, values: Iterable[object]) -> list[tuple]:
         """The rows of a query for each of these values, in place of `{}`."""
@@ -175,7 +190,14 @@ class Kept:
     def put(self, query: str, rows: Iterable[Sequence[object]]) -> None:
         """Runs an edit for each of these rows."""
         with self._telling():
-            self._connection.executemany(query, rows)
+            self._connection.executemany(query, map(_kept, rows))
+
+    def read(self, reader: Callable[[bytes], Read], data: bytes) -> Read:
+        """What is read of bytes that were kept. Fatal if that can't be."""
+        try:
+            return reader(data)
+        except (ValueError, TypeError, KeyError, zlib.error) as fault:
+            raise Fatal(f"{self._path}: {_WORDS[sqlite3.SQLITE_CORRUPT]} ({fault})") from fault
 
     @contextlib.contextmanager
     def _telling(self) -> Iterator[None]:
@@ -184,6 +206,24 @@ class Kept:
             yield
         except sqlite3.Error as fault:
             raise Fatal(f"{self._path}: {_words(fault)}") from fault
+        except (UnicodeError, OverflowError) as fault:
+            raise Fatal(f"{self._path}: the store has, or is asked for, what can not be kept: {fault}") from fault
+
+
+def _kept(values: Sequence[object]) -> tuple[object, ...]:
+    """Values as they are kept."""
+    return tuple([_kept_text(one) if isinstance(one, str) else one for one in values])
+
+
+def _kept_text(text: str) -> str:
+    if text.isascii() and _SIGN not in text:
+        return text
+    return _KEPT_BY_NUMBER.sub(lambda found: f"{_SIGN}{ord(found[0]):04x}", text)
+
+
+def _read_text(data: bytes) -> str:
+    text = data.decode()
+    return _NUMBER.sub(lambda found: chr(int(found[1], 16)), text) if _SIGN in text else text
 
 
 # By SQLite's codes.

@@ -3,16 +3,18 @@ dictionary `cpe` refuses. Only the deprecations, and what they name, are tried a
 from __future__ import annotations
 
 import json
-from collections.abc import Iterable, Iterator
+import os
+from collections.abc import Collection, Iterable, Iterator
 
 from . import whole
-from .adding import KINDS, change_of, ids_of
+from .adding import FILES, KINDS, change_of, ids_of
 from .concern import plain_name
 from .dictionary import Product, deprecations_of
 from .feeds import Json, Placed, Source
 from .kept import Kept, page_and_number
+from .matches import key_of_name
 from .program import Candidate, Program, candidate_at
-from .said import Noting
+from .said import Noting, Said
 
 _COLUMNS = "place, name, title, day, id, change, odd, fault"
 
@@ -50,6 +52,26 @@ def is_settled(kept: Kept) -> bool:
     return kept.one("SELECT 1 FROM unsettled") is None
 
 
+def tell_unended(kept: Kept, said: Said) -> None:
+    """Says which runs of store.py add have not ended: what they hadn't come to isn't there."""
+    for began, paths in kept.rows("SELECT began, paths FROM runs WHERE paths IS NOT NULL ORDER BY number"):
+        some = whole.some_of(list(map(os.path.basename, json.loads(paths))))
+        said.left_out(some, f"store.py add of this began at {began} and has not ended: pages may be missing until it is run again, to its end")
+
+
+def tell_unread(kept: Kept, said: Said) -> None:
+    """Says which files, or members of archives among them, could not be read when they were added."""
+    for path, place, reason in kept.rows("SELECT key, place, reason FROM faults WHERE kind = ? ORDER BY key, place", (FILES,)):
+        said.left_out(place, f"{reason}; it isn't in the store, until a good one is added from {path}")
+
+
+def tell_faults(kept: Kept, kind: str, keys: Collection[str] | None, said: Said) -> None:
+    """Says which records of these ids, or of all, could not be read when their pages were added."""
+    for key, place, reason in kept.rows("SELECT key, place, reason FROM faults WHERE kind = ? ORDER BY key, place", (kind,)):
+        if keys is None or key in keys:
+            said.left_out(key, reason, place)
+
+
 def told_of(kept: Kept, kind: str) -> Iterator[dict[str, Json]]:
     """What was worked out of the feeds of a kind: pages that are missing, remarks, and what was left out."""
     return (json.loads(text) for (text,) in kept.rows("SELECT text FROM told WHERE kind = ? ORDER BY number", (kind,)))
@@ -57,16 +79,23 @@ def told_of(kept: Kept, kind: str) -> Iterator[dict[str, Json]]:
 
 def _told_of_pages(kept: Kept, kind: str) -> Iterator[dict[str, Json]]:
     noted = _Noted()
-    spans, uncounted = [], []
-    for name, is_of_records, count, start, said, total, ids in kept.rows(
-        "SELECT name, is_of_records, records, start, said, total, ids FROM pages WHERE kind = ? ORDER BY number", (kind,)
+    spans, uncounted = {}, []
+    copies: dict[tuple[object, ...], whole.Span] = {}
+    for number, name, is_of_records, count, start, said, total, ids, copy in kept.rows(
+        "SELECT number, name, is_of_records, records, start, said, total, ids, copy FROM pages WHERE kind = ? ORDER BY number", (kind,)
     ):
         if total is not None:
-            spans.append(whole.Span(name, start, count, said, total, [] if ids is None else list(ids_of(ids))))
+            span = whole.Span(name, start, count, said, total, [] if ids is None else list(ids_of(ids)))
+            # (a page in other bytes is the same page)
+            spans[number] = copies.setdefault((start, count, said, total, copy), span) if copy else span
         elif not is_of_records:
             uncounted.append(name)
+    runs: dict[int, list[whole.Span]] = {}
+    for run, page in kept.rows("SELECT run, page FROM given ORDER BY run, page"):
+        if page in spans:
+            runs.setdefault(run, []).append(spans[page])
     whole.tell_uncounted(uncounted, noted)
-    for one in whole.missing_of(kind, spans, noted):
+    for one in whole.missing_of_runs(kind, runs.values(), noted):
         yield {"missing": [one.kind, one.files, one.total, one.given, one.where]}
     yield from ({"remark": text} for text in noted.remarks_noted)
 
@@ -83,10 +112,13 @@ def _rows_of_deprecations(kept: Kept) -> list[tuple]:
     rows = {row[0]: row for row in kept.rows(f"SELECT {_COLUMNS} FROM products WHERE change IS NOT NULL")}
     rows |= {row[0]: row for row in odd_rows(kept)}
     for name in _named(row[5] for row in rows.values() if row[5] is not None):
-        plain = plain_name(name)
-        query = f"SELECT {_COLUMNS} FROM products WHERE product = (SELECT number FROM names WHERE vendor = ? AND product = ?) AND name = ?"
-        if plain is not None:
-            rows |= {row[0]: row for row in kept.rows(query, (*plain[1], name.lower()))}
+        query = f"SELECT {_COLUMNS} FROM products WHERE product = (SELECT number FROM names WHERE vendor = ? AND product = ?)"
+        key = key_of_name(name)
+        if plain_name(name) is not None and key is not None:
+            rows |= {row[0]: row for row in kept.rows(f"{query} AND name = ?", (*key, name.lower()))}
+        elif key is not None:
+            # (what is spelled otherwise may be any entry of its product)
+            rows |= {row[0]: row for row in kept.rows(query, key)}
     return [rows[place] for place in sorted(rows)]
 
 

@@ -16,15 +16,18 @@ wrong; 1 if something was left out, is missing or wrong, which is reported; 2 if
 """
 from __future__ import annotations
 
+import json
+import os
 from collections.abc import Callable, Iterator, Mapping, Sequence
 
 from . import checking, feeds
 from .adding import KINDS, Adding
 from .kept import Kept
+from .latest import time_of
 from .program import Program
 from .progress import Progress
 from .said import Fatal, Output, Said
-from .settling import settle, told_of
+from .settling import settle, tell_faults, tell_unended, tell_unread, told_of
 from .table import counted
 from .unpack import LARGE, TOLD_LIMITS
 from .whole import CALLED, Missing
@@ -49,34 +52,39 @@ def run(words: Sequence[str]) -> int:
 
 
 def _add(folder: str, read: Words, said: Said, output: Output) -> None:
+    for path in read.files:
+        # (of a word that was mistyped nothing is noted)
+        if not os.path.exists(path):
+            raise Fatal(f"{path}: there is no such file; nothing was added")
     program = Program()
     with Progress() as progress:
         kept = Kept(folder, is_made=True)
         adding = Adding(kept, said)
         adding.make_again()
-        there = 0
-
-        def is_there(data: bytes) -> bool:
-            nonlocal there
-            found = adding.is_there(data)
-            there += found
-            return found
-
-        limits = LARGE if read.has("--large") else TOLD_LIMITS
         count = changed = 0
-        progress.step("adding pages")
-        for page in feeds.pages(read.files, said, KINDS, limits=limits, is_passed=is_there) if read.files else ():
-            added = adding.put(page)
-            if added is None:
-                there += 1
-                continue
-            count, changed = count + 1, changed + added
-            progress.step(f"adding pages, {count} so far")
-        adding.end()
+        if read.files:
+            adding.begin(read.files)
+            count, changed = _put(adding, read, said, progress)
         progress.step("reading what the pages say together")
         settle(kept, program)
+        if read.files:
+            adding.finish(read.files)
         kept.close()
-    output.line(f"added {counted(count, 'page')}: {counted(changed, 'record')} new or later" + (f"; {there} were there" if there else ""))
+    output.line(f"added {counted(count, 'page')}: {counted(changed, 'record')} new or later" + (f"; {adding.there} were there" if adding.there else ""))
+
+
+def _put(adding: Adding, read: Words, said: Said, progress: Progress) -> tuple[int, int]:
+    """Adds the pages: how many they are, and how many of their records are new or later."""
+    limits = LARGE if read.has("--large") else TOLD_LIMITS
+    count = changed = 0
+    progress.step("adding pages")
+    for page in feeds.pages(read.files, said, KINDS, limits=limits, follower=adding):
+        added = adding.put(page)
+        if added is not None:
+            count, changed = count + 1, changed + added
+            progress.step(f"adding pages, {count} so far")
+    adding.end()
+    return count, changed
 
 
 def _status(folder: str, read: Words, said: Said, output: Output) -> None:
@@ -90,13 +98,15 @@ def _lines(kept: Kept, said: Said) -> Iterator[str]:
     (pages, last) = kept.rows("SELECT count(*), max(added) FROM pages")[0]
     yield f"{counted(pages, 'page')}, the last one added {last}" if pages else "no page"
     for kind, table, more in (("products", "products", ""), ("vulnerabilities", "advisories", " AND is_passed = 0"), ("matchStrings", "matches", "")):
-        count, modified = kept.rows(f"SELECT count(*), max(modified) FROM {table} WHERE 1{more}")[0]
-        when = f", the last modified {modified.strip(chr(34))}" if count else ""
-        yield f"{CALLED[kind]}: {count:,}{when}"
+        count = kept.rows(f"SELECT count(*) FROM {table} WHERE 1{more}")[0][0]
+        yield f"{CALLED[kind]}: {count:,}{_last(kept, f'SELECT DISTINCT modified FROM {table} WHERE 1{more}')}"
     rejected, unanalysed = kept.rows("SELECT sum(state = 'Rejected'), sum(state != 'Rejected') FROM advisories WHERE is_passed = 0 AND state IS NOT NULL")[0]
     yield f"of these rejected: {rejected or 0:,}, not analysed: {unanalysed or 0:,}"
+    tell_unended(kept, said)
+    tell_unread(kept, said)
+    tell_faults(kept, "matchStrings", None, said)
     for (kind,) in kept.rows("SELECT kind FROM unsettled"):
-        said.left_out(CALLED[kind], "pages were added by a run that was stopped; run store.py add again")
+        said.left_out(CALLED[kind], "what their pages say together was not worked out by the run that added them; run store.py add")
     for kind in KINDS:
         for one in told_of(kept, kind):
             if "missing" in one:
@@ -104,6 +114,13 @@ def _lines(kept: Kept, said: Said) -> Iterator[str]:
                 said.left_out(missing.files, f"{missing.words()}; {missing.where}")
             elif "remark" in one:
                 said.remark(one["remark"])
+
+
+def _last(kept: Kept, query: str) -> str:
+    """The last of these times, in words; nothing if none is one."""
+    times = (json.loads(modified) for (modified,) in kept.each(query))
+    last = max(((time_of(one), one) for one in times if isinstance(one, str) and time_of(one) > time_of("")), default=None)
+    return f", the last modified {last[1]}" if last else ""
 
 
 def _check(folder: str, read: Words, said: Said, output: Output) -> None:

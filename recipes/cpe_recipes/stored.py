@@ -22,7 +22,7 @@ from .near_products import OPEN, Product, key_of
 from .product_index import squeezed
 from .program import Program
 from .said import Deferred, Fatal, Mute, Said
-from .settling import candidates_of, is_settled, rows_of_products, settle, told_of
+from .settling import candidates_of, is_settled, rows_of_products, settle, tell_faults, tell_unended, tell_unread, told_of
 from .unanalysed import States
 from .whole import Missing, Reading
 
@@ -57,6 +57,8 @@ class Stored:
                 with self._kept.reading():
                     # (another run may have added a page since then)
                     if is_settled(self._kept):
+                        tell_unended(self._kept, self._said)
+                        tell_unread(self._kept, self._said)
                         yield self
                         return
             raise Fatal(f"{self._kept.folder}: another run adds pages to the store; scan when that is done")
@@ -105,7 +107,7 @@ class Stored:
         """What was made before of the advisories at these places."""
         query = "SELECT place, data FROM made WHERE place IN {}"
         doubled = {place for (place,) in self._kept.rows(f"SELECT place FROM advisories WHERE is_doubled = 1 AND {_COUNTS}")}
-        return {place: read(data) for place, data in self._kept.rows_of(query, places) if place not in doubled}
+        return {place: self._kept.read(read, data) for place, data in self._kept.rows_of(query, places) if place not in doubled}
 
     def dictionary(self, asked: Sequence[Machine], tables: Tables) -> tuple[list[str], Unnamed]:
         """The entries that concern these machines."""
@@ -198,7 +200,7 @@ class Stored:
             if page not in found:
                 name, is_of_records = named[page]
                 found[page] = Page(name, ADVISORIES, [], numbers=[], is_of_records=is_of_records)
-            found[page].records.append(made[place] if place in made else record_of(raw[place]))
+            found[page].records.append(made[place] if place in made else self._kept.read(record_of, raw[place]))
             found[page].numbers.append(number + 1)  # type: ignore[union-attr]
         return list(found.values())
 
@@ -230,7 +232,8 @@ class Stored:
     def listed(self, keys: Collection[str]) -> dict[str, list[str]]:
         """The names that the match feed lists for these matches."""
         self._tell("matchStrings")
+        tell_faults(self._kept, "matchStrings", set(keys), self._said)
         found: dict[str, list[str]] = {}
         for _, key, listed in sorted(self._kept.rows_of("SELECT place, key, listed FROM matches WHERE key IN {}", keys)):
-            found.setdefault(key, []).extend(json.loads(listed))
+            found.setdefault(key, []).extend(self._kept.read(json.loads, listed))
         return found

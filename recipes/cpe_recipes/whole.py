@@ -7,12 +7,13 @@ pages tell a higher total, and no record may be there twice in place of another.
 """
 from __future__ import annotations
 
+from collections import Counter
 from collections.abc import Iterable, Iterator, Sequence
 from dataclasses import dataclass, field, replace
 
 from . import feeds
 from .feeds import Json, Page
-from .said import Fatal, Said
+from .said import Fatal, Mute, Said
 from .unpack import LARGE, LIMITS, TOLD_LIMITS, Limits
 from .words import FLAG, Words
 
@@ -135,7 +136,7 @@ def pages(
 def tell_uncounted(names: Sequence[str], said: Said) -> None:
     """Remarks the pages that don't tell how many records their feed has."""
     if names:
-        said.remark(f"{_some(names)}: no totalResults, so it isn't known whether this is all of the feed")
+        said.remark(f"{some_of(names)}: no totalResults, so it isn't known whether this is all of the feed")
 
 
 def missing_of(kind: str, spans: Sequence[Span], said: Said) -> list[Missing]:
@@ -143,10 +144,19 @@ def missing_of(kind: str, spans: Sequence[Span], said: Said) -> list[Missing]:
     return [*odd_of(kind, spans), *_missing(kind, spans, said)]
 
 
+def fault_of(page: Page) -> str:
+    """Why it isn't known which part of its feed a page is; nothing if it is known, or if it doesn't tell how many its feed has."""
+    count, total = len(page.records), page.counts.get("totalResults")
+    if total is None or "startIndex" in page.counts or count == total:
+        return ""
+    return f"it has {count:,} of {total:,} {CALLED[page.kind]}, and no startIndex that says which"
+
+
 def span_of(page: Page) -> Span:
+    fault = fault_of(page)
+    if fault:
+        raise Fatal(f"{page.name}: {fault}")
     count, total = len(page.records), page.counts["totalResults"]
-    if "startIndex" not in page.counts and count != total:
-        raise Fatal(f"{page.name}: it has {count:,} of {total:,} {CALLED[page.kind]}, and no startIndex that says which")
     start, said = page.counts.get("startIndex", 0), page.counts.get("resultsPerPage", count)
     # (the last page may tell how many it has room for)
     said = min(said, max(total - start, 0))
@@ -161,6 +171,17 @@ def _id(record: Json, kind: str) -> Json:
     return id if isinstance(id, str) else None
 
 
+def stamps_of(page: Page) -> list[tuple[Json, Json, Json]]:
+    """The ids of the records of a page, each with the times at which it was modified."""
+    outer, _ = _IDS[page.kind]
+    found = []
+    for record in page.records:
+        inner = record.get(outer) if isinstance(record, dict) else None
+        times = (inner.get("lastModified"), inner.get("cpeLastModified")) if isinstance(inner, dict) else (None, None)
+        found.append((_id(record, page.kind), *times))
+    return found
+
+
 def odd_of(kind: str, spans: Iterable[Span]) -> Iterator[Missing]:
     """Pages that have another number of records than they tell, or that end behind their feed."""
     for span in spans:
@@ -170,23 +191,112 @@ def odd_of(kind: str, spans: Iterable[Span]) -> Iterator[Missing]:
             yield Missing(kind, span.name, span.total, span.count, f"it says that it has {span.said:,} of them")
 
 
+def missing_of_runs(kind: str, runs: Iterable[Sequence[Span]], said: Said) -> list[Missing]:
+    """What is missing of feeds of which runs gave pages, one after the other. What a run gave is judged by itself, and if it isn't whole,
+    with what is left of the runs before. It is no longer missing if a later feed is whole, as large, and has all that was given of it."""
+    feeds_of_runs = _Runs(kind, said)
+    for spans in runs:
+        feeds_of_runs.put(spans)
+    found = {id(span): span for span in feeds_of_runs.odd}.values()
+    return [*_odd(kind, found), *_missing(kind, feeds_of_runs.left, said)]
+
+
+class _Runs:
+    """What is left of the feeds of runs: pages that are odd, and those of feeds that aren't whole."""
+
+    def __init__(self, kind: str, said: Said) -> None:
+        self._kind, self._said = kind, said
+        self.odd: list[Span] = []
+        self.left: list[Span] = []
+        # (by a page, the number of the last run that gave it)
+        self._last: dict[int, int] = {}
+        self._runs = 0
+        # (pages of feeds that were whole, and those of them that were given again: they may belong to a later feed too, and open none)
+        self._closed: set[int] = set()
+        self._spare: dict[tuple[int, int], Span] = {}
+
+    def put(self, spans: Sequence[Span]) -> None:
+        """Puts the pages of a run."""
+        self._runs += 1
+        self._last.update((id(span), self._runs) for span in spans)
+        found, others = _parted(self._kind, spans)
+        self._spare |= {(span.total, span.start): span for span in others if id(span) in self._closed}
+        joined, self.left = _parted(self._kind, _each_once([*self.left, *(span for span in others if id(span) not in self._closed)]))
+        if self.left and self._spare:
+            filled, rest = _parted(self._kind, [*self.left, *self._spare.values()])
+            joined += [feed for feed in filled if any(id(span) not in self._closed for span in feed)]
+            self.left = [span for span in rest if id(span) not in self._closed]
+        self.odd += [span for span in spans if any(_odd(self._kind, [span]))]
+        for feed in [*found, *joined]:
+            self._end(feed)
+
+    def _end(self, feed: Sequence[Span]) -> None:
+        """Takes a feed that is whole, and with it what it ends."""
+        list(_judged(self._kind, feed, self._said))
+        self._closed.update(map(id, feed))
+        self._spare = {key: span for key, span in self._spare.items() if all(span is not one for one in feed)}
+        since = min(self._last[id(span)] for span in feed)
+        self.odd = [span for span in self.odd if not self._is_ended([span], feed, since)]
+        left = [span for span in self.left if id(span) not in self._closed]
+        self.left = [span for group in _feeds(left) if not self._is_ended(group, feed, since) for span in group]
+
+    def _is_ended(self, group: Sequence[Span], feed: Sequence[Span], since: int) -> bool:
+        return max(self._last[id(span)] for span in group) < since and _ends(feed, group)
+
+
+def _each_once(spans: Iterable[Span]) -> list[Span]:
+    return list({id(span): span for span in spans}.values())
+
+
+def _parted(kind: str, spans: Sequence[Span]) -> tuple[list[list[Span]], list[Span]]:
+    """The feeds that are whole, and the pages of the others."""
+    whole_ones: list[list[Span]] = []
+    others: list[Span] = []
+    for feed in _feeds(spans):
+        if any(_judged(kind, feed, Mute())):
+            others.extend(feed)
+        else:
+            whole_ones.append(feed)
+    return whole_ones, others
+
+
+def _ends(feed: Sequence[Span], other: Sequence[Span]) -> bool:
+    """Whether a feed that is whole is as large as another one, and has all that was given of it."""
+    given = {id for span in other for id in span.ids}
+    is_as_large = max(span.total for span in feed) >= max(span.total for span in other)
+    return bool(given) and None not in given and is_as_large and given.issubset(id for span in feed for id in span.ids)
+
+
 def _missing(kind: str, spans: Sequence[Span], said: Said) -> Iterator[Missing]:
     """The feeds that aren't whole. What is there twice is remarked."""
+    for feed in _feeds(spans):
+        yield from _judged(kind, feed, said)
+
+
+def _feeds(spans: Sequence[Span]) -> Iterator[list[Span]]:
+    """The pages of each feed, or of all that tell the same total."""
     groups: dict[int, list[Span]] = {}
     for span in spans:
         if not span.is_alone() and span.end() <= span.total:
             groups.setdefault(span.total, []).append(span)
     grown: list[Span] = []
     for total, group in sorted(groups.items()):
-        if not _gaps(group, total):
-            yield from _judged(kind, group, said)
+        if not _gaps(group, total, _times(group, total)):
+            yield group
         elif _is_growing([*grown, *group]):
-            grown.extend(group)
+            grown = [*grown, *group]
         else:
-            yield from _judged(kind, grown, said)
+            if grown:
+                yield grown
             grown = group
     if grown:
-        yield from _judged(kind, grown, said)
+        yield grown
+
+
+def _times(spans: Sequence[Span], total: int) -> int:
+    """Of how many feeds of so many records each these are pages, at least."""
+    # (of one without an id isn't known whether it comes twice)
+    return max(1, -(-len({id for span in spans for id in span.ids} - {None}) // max(total, 1)))
 
 
 def _is_growing(spans: Sequence[Span]) -> bool:
@@ -199,33 +309,48 @@ def _is_growing(spans: Sequence[Span]) -> bool:
 def _judged(kind: str, spans: Sequence[Span], said: Said) -> Iterator[Missing]:
     """What is missing of one feed."""
     total, least = max(span.total for span in spans), min(span.total for span in spans)
-    files = _some([span.name for span in spans])
-    gaps = _gaps(spans, total)
+    files = some_of([span.name for span in spans])
+    times = _times(spans, total)
+    gaps = _gaps(spans, total, times)
+    if gaps and times > 1:
+        where = f"they are pages of {times} feeds of {total:,} each, and in one those of startIndex {_ranges(gaps)} are missing"
+        yield Missing(kind, files, total * times, _distinct(spans), where)
+        return
     if gaps:
-        where = ", ".join(f"{start:,} to {end - 1:,}" for start, end in gaps[:_MOST_TOLD])
-        more = f" and {len(gaps) - _MOST_TOLD:,} more parts" if len(gaps) > _MOST_TOLD else ""
         given = total - sum(end - start for start, end in gaps)
-        yield Missing(kind, files, total, given, f"those of startIndex {where}{more} are missing")
+        yield Missing(kind, files, total, given, f"those of startIndex {_ranges(gaps)} are missing")
         return
     distinct = _distinct(spans)
-    if distinct < total:
+    if distinct < total and times == 1:
         yield Missing(kind, files, total, distinct, "others come twice in their place")
         return
     if least < total:
         said.remark(f"{files}: the feed grew from {least:,} to {total:,} {CALLED[kind]} while it was fetched")
-    twice = sum(span.count for span in spans) - total
+    twice = sum(span.count for span in spans) - total * times
     if twice > 0:
         said.remark(f"{files}: pages overlap, {twice:,} {CALLED[kind]} come twice")
 
 
-def _gaps(spans: Iterable[Span], total: int) -> list[tuple[int, int]]:
-    """The indexes that no page has, as begins and ends."""
-    found, reached = [], 0
-    for span in sorted(spans, key=lambda span: span.start):
-        if span.start > reached:
-            found.append((reached, span.start))
-        reached = max(reached, span.end())
-    return [*found, (reached, total)] if reached < total else found
+def _ranges(gaps: Sequence[tuple[int, int]]) -> str:
+    """The first of these gaps in words, and how many more there are."""
+    more = f" and {len(gaps) - _MOST_TOLD:,} more parts" if len(gaps) > _MOST_TOLD else ""
+    return ", ".join(f"{start:,} to {end - 1:,}" for start, end in gaps[:_MOST_TOLD]) + more
+
+
+def _gaps(spans: Iterable[Span], total: int, times: int = 1) -> list[tuple[int, int]]:
+    """The indexes that fewer pages have than this, as begins and ends."""
+    edges: Counter[int] = Counter()
+    for span in spans:
+        edges[span.start] += 1
+        edges[span.end()] -= 1
+    found: list[tuple[int, int]] = []
+    begin = depth = 0
+    for end in sorted({*edges, total}):
+        if depth < times and end > begin:
+            is_next = found and found[-1][1] == begin
+            found.append((found.pop()[0] if is_next else begin, end))
+        depth, begin = depth + edges[end], end
+    return found
 
 
 def _distinct(spans: Iterable[Span]) -> int:
@@ -234,7 +359,7 @@ def _distinct(spans: Iterable[Span]) -> int:
     return len(set(ids) - {None}) + ids.count(None)
 
 
-def _some(names: Sequence[str]) -> str:
+def some_of(names: Sequence[str]) -> str:
     """The first of these names, each once, and how many more there are."""
     found = list(dict.fromkeys(names))
     more = f" and {len(found) - _MOST_TOLD:,} more" if len(found) > _MOST_TOLD else ""

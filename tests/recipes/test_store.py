@@ -9,6 +9,7 @@ import subprocess
 import sys
 import tempfile
 import unittest
+import zipfile
 from contextlib import contextmanager
 from pathlib import Path
 from unittest import mock
@@ -269,6 +270,14 @@ class Stores(RecipeCase):
         self.assertEqual(self.verdicts(status=1)[0], {"2": "TRUE"})
         self.assertIn("neither tells to be later", str(self.verdicts(status=1)[1]["leftOut"]))
 
+    def test_pages_of_the_same_name(self):
+        self.filled()
+        for day in range(4, 7):
+            (self.folder / str(day)).mkdir()
+            modified = self.file(f"{day}/modified.json", page("vulnerabilities", cve(day, match(HERE))))
+            self.add(modified)
+        self.assertEqual(self.verdicts()[0], dict.fromkeys("1456", "TRUE"))
+
     def test_an_id_that_goes(self):
         self.filled()
         before = self.file("before.json", ran(scan.run, ["--json", "--store", self.store, "--machines", self.machines])[1])
@@ -291,6 +300,14 @@ class Stores(RecipeCase):
         self.add(page("products", product(fs("x", "new", "1.0"), later)))
         self.assertEqual(self.verdicts()[0], {"1": "TRUE", "4": "TRUE"})
 
+    def test_a_deprecation_that_is_spelled_as_a_uri(self):
+        self.filled()
+        new = fs("new\\!", "prod", "1.0")
+        self.machines = self.file("machines", f"m {fs('old', 'prod', '1.0')}\n")
+        old = product("cpe:/a:old:prod:1.0", deprecated=True, deprecatedBy=[{"cpeName": "cpe:/a:new%21:prod:1.0"}])
+        self.add(page("products", old, product(new)), page("vulnerabilities", cve(4, match(new))))
+        self.assertEqual(self.verdicts()[0], {"4": "TRUE"})
+
     def test_pages_that_are_missing(self):
         self.filled()
         self.add(page("vulnerabilities", cve(5, match(HERE)), cve(6, match(HERE)), start=0, total=3))
@@ -303,13 +320,93 @@ class Stores(RecipeCase):
         self.add(page("vulnerabilities", cve(7, match(HERE)), start=2, total=3))
         self.assertEqual(self.verdicts()[0], {"1": "TRUE", "5": "TRUE", "6": "TRUE", "7": "TRUE"})
 
+    def test_a_window_that_has_as_many_as_another(self):
+        self.filled()
+        first = [page("vulnerabilities", *(cve(n, match(HERE)) for n in some), start=some[0] - 10, total=4) for some in ((10, 11), (12, 13))]
+        second = page("vulnerabilities", *(cve(n, match(HERE), modified="2024-07-01T00:00:00.000") for n in (10, 11)), total=4)
+        self.add(*first)
+        self.add(second)
+        # (the second page of the later window isn't there)
+        self.assertIn("the feed has 4 advisories, 2 were given; those of startIndex 2 to 3 are missing", self.scan_is_fatal())
+        self.add(page("vulnerabilities", cve(12, match(HERE), modified="2024-07-01T00:00:00.000"), cve(14, match(HERE)), start=2, total=4))
+        self.verdicts()
+        # (a page that is there opens no feed)
+        self.add(first[0], page("vulnerabilities", cve(15, match(HERE))))
+        self.verdicts()
+
+    def test_two_windows_of_one_run(self):
+        self.filled()
+        pages = [page("vulnerabilities", *(cve(n, match(HERE)) for n in some), start=some[0] % 2, total=2) for some in ((10,), (11,), (12,))]
+        self.add(*pages)
+        gap = "the feed has 4 advisories, 3 were given; they are pages of 2 feeds of 2 each, and in one those of startIndex 1 to 1 are missing"
+        self.assertIn(gap, self.scan_is_fatal())
+        self.add(*pages, page("vulnerabilities", cve(13, match(HERE)), start=1, total=2))
+        self.verdicts()
+
+    def test_a_gap_that_a_later_feed_ends(self):
+        self.filled()
+        self.add(page("vulnerabilities", cve(10, match(HERE)), cve(11, match(HERE)), total=40))
+        # (a window has it not, nor has one that has others)
+        for some in ((10, 12), range(12, 60)):
+            self.add(*(page("vulnerabilities", cve(n, match(HERE)), start=k, total=len(some)) for k, n in enumerate(some)))
+            self.assertIn("the feed has 40 advisories, 2 were given", self.scan_is_fatal())
+        self.add(*(page("vulnerabilities", cve(n, match(HERE)), start=k, total=51) for k, n in enumerate(range(10, 61))))
+        self.verdicts()
+
     def test_what_a_stopped_run_had_not_worked_out(self):
         with mock.patch("cpe_recipes.store.settle", side_effect=KeyboardInterrupt), self.assertRaises(KeyboardInterrupt):
             self.filled()
         status, _, said = ran(store.run, ["status", "--store", self.store])
-        self.assertEqual((status, len([line for line in said if "run store.py add again" in line])), (1, 2))
+        self.assertEqual((status, len([line for line in said if "was not worked out by the run that added them" in line])), (1, 2))
+        self.assertEqual(self.verdicts(status=1)[0], {"1": "TRUE"})
+        self.add(*map(str, self.folder.glob("page-*.json")))
         self.assertEqual(self.verdicts()[0], {"1": "TRUE"})
         self.assertEqual(ran(store.run, ["status", "--store", self.store])[0], 0)
+
+    def of_years(self):
+        """Pages that have all of their feed each, so that they don't show what is missing."""
+        return [self.file(f"year-{k}.json", page("vulnerabilities", cve(k, match(HERE)))) for k in range(4, 9)]
+
+    def test_an_add_that_was_killed_between_pages(self):
+        self.filled()
+        years = self.of_years()
+        put, count = adding.Adding.put, iter(range(9))
+        with mock.patch.object(adding.Adding, "put", lambda *given: put(*given) if next(count) < 2 else os.kill(os.getpid(), signal.SIGKILL)):
+            process = os.fork()
+            if process == 0:
+                ran(store.run, ["add", "--store", self.store, *years])
+                os._exit(0)
+        os.waitpid(process, 0)
+        # (neither a scan nor what adds other pages, or none, changes that)
+        for pages in ([], years[:1], [page("vulnerabilities", cve(9, match(ELSEWHERE)))]):
+            verdicts, value = self.verdicts(status=1)
+            self.assertEqual((verdicts, len(value["leftOut"])), ({"1": "TRUE", "4": "TRUE", "5": "TRUE"}, 1))
+            self.assertIn("and has not ended", value["leftOut"][0]["reason"])
+            status, _, said = ran(store.run, ["status", "--store", self.store])
+            self.assertEqual((status, any("year-4.json, year-5.json, year-6.json and 2 more: store.py add of this began" in line for line in said)), (1, True))
+            self.add(*pages)
+        self.add(*years)
+        self.assertEqual(self.verdicts()[0], dict.fromkeys("145678", "TRUE"))
+        self.assertEqual(ran(store.run, ["status", "--store", self.store])[0], 0)
+
+    def test_a_scan_between_two_pages_of_an_add(self):
+        self.filled()
+        put, found = adding.Adding.put, []
+
+        def scanned(*given):
+            found.append(self.verdicts(status=1))
+            return put(*given)
+
+        with mock.patch.object(adding.Adding, "put", scanned):
+            self.add(*self.of_years())
+        self.assertEqual([len(verdicts) for verdicts, _ in found], [1, 2, 3, 4, 5])
+        self.assertEqual({one["reason"].endswith("pages may be missing until it is run again, to its end") for _, value in found for one in value["leftOut"]}, {True})
+        self.assertEqual(len(self.verdicts()[0]), 6)
+
+    def test_a_file_that_is_not_there(self):
+        self.filled()
+        self.assertIn("there is no such file; nothing was added", self.fatal("add", "--store", self.store, *self.of_years(), str(self.folder / "none")))
+        self.assertEqual(self.verdicts()[0], {"1": "TRUE"})
 
     def test_status(self):
         self.filled()
@@ -321,6 +418,12 @@ class Stores(RecipeCase):
             "match strings: 0", "of these rejected: 0, not analysed: 1",
         ])
 
+    def test_the_last_time_is_told_by_the_time(self):
+        times = ("2024-06-01T00:30:00+02:00", "2024-05-31T23:00:00Z", "zzz", 99, None)
+        self.add(page("products", product(HERE, None)), page("vulnerabilities", *(cve(n, match(HERE), modified=time) for n, time in enumerate(times, 1))))
+        lines = ran(store.run, ["status", "--store", self.store])[1].splitlines()
+        self.assertEqual(lines[1:3], ["products: 1", "advisories: 5, the last modified 2024-05-31T23:00:00Z"])
+
     def test_pages_that_can_not_be_read(self):
         bad = self.file("bad.json", '{"products":')
         with self.assertRaises(Fatal):
@@ -328,6 +431,114 @@ class Stores(RecipeCase):
         written, said = self.add(page("products", product(HERE)), bad, status=1)
         self.assertEqual((written, said[0][:22]), ("added 1 page: 1 record new or later", "left out bad.json: no "))
         self.assertIn("no advisory that can have a verdict is in the store", self.scan_is_fatal())
+
+    def test_a_file_that_is_torn_behind_its_first_page(self):
+        self.filled()
+        text = json.dumps(page("vulnerabilities", cve(4, match(HERE))))
+        torn = self.file("torn.json", text + "\n" + text.replace("0004", "0005")[:-20])
+        for _ in range(2):
+            # (it is never taken for one that was added whole)
+            self.assertIn("left out torn.json: no JSON", str(self.add(torn, page("products", product(HERE)), status=1)[1]))
+        Path(torn).write_text(text + "\n" + text.replace("0004", "0005"))
+        self.add(torn)
+        self.assertEqual(self.verdicts()[0], dict.fromkeys("145", "TRUE"))
+
+    def left(self, count):
+        """What a scan leaves out; status tells as much."""
+        left = self.verdicts(status=1 if count else 0)[1]["leftOut"]
+        status, _, said = ran(store.run, ["status", "--store", self.store])
+        self.assertEqual((len(left), len(said), status), (count, count, 1 if count else 0), said)
+        return left
+
+    def test_what_could_not_be_read_is_said_by_each_scan(self):
+        self.filled()
+        bad, archive = str(self.folder / "bad.json"), str(self.folder / "pages.zip")
+        good = json.dumps(page("vulnerabilities", cve(4, match(HERE)))).encode()
+        for data in (b'{"vulnerabilities":["\xff"]}', good[:-9], good + good[:-9]):
+            Path(bad).write_bytes(data)
+            self.add(bad, page("products", product(HERE)), status=1)
+            self.assertEqual([one["id"] for one in self.left(1)], ["bad.json"])
+        with zipfile.ZipFile(archive, "w") as members:
+            members.writestr("a.json", good)
+            members.writestr("b.json", good[:-9])
+        self.add(archive, status=1)
+        self.assertEqual([one["id"] for one in self.left(2)], ["bad.json", "pages.zip/b.json"])
+        Path(bad).write_bytes(good)
+        self.add(bad)
+        self.left(1)
+        with zipfile.ZipFile(archive, "w") as members:
+            members.writestr("a.json", good)
+        self.add(archive)
+        self.left(0)
+
+    def test_a_page_that_does_not_say_where_it_begins(self):
+        self.filled()
+        bad = page("vulnerabilities", cve(4, match(HERE)), total=2)
+        del bad["startIndex"]
+        bad = self.file("bad.json", bad)
+        good = page("vulnerabilities", cve(5, match(HERE)))
+        written, said = self.add(bad, good, status=1)
+        self.assertEqual((written, said), ("added 1 page: 1 record new or later", ["left out bad.json: it has 1 of 2 advisories, and no startIndex that says which"]))
+        self.assertEqual(self.verdicts(status=1)[0], dict.fromkeys("15", "TRUE"))
+        self.assertIn("no startIndex that says which", self.left(1)[0]["reason"])
+
+    def test_a_match_that_could_not_be_read(self):
+        self.filled()
+        self.add(page("vulnerabilities", cve(4, match(fs("v", "p")) | {"matchCriteriaId": "L", "versionEndIncluding": "2.0"})))
+        one = {"matchCriteriaId": "L", "criteria": fs("v", "p"), "matches": [{"cpeName": HERE}], "lastModified": "2024-05-01T00:00:00.000"}
+        of = [{"matchString": one | more} for more in ({"matches": "no"}, {"lastModified": "2024-04-01T00:00:00.000"}, {}, {"matches": "no", "lastModified": "2024-04-01T00:00:00.000"})]
+        for record, count, is_read in zip(of, (1, 1, 0, 0), (False, True, True, False)):
+            self.add(page("matchStrings", record, {"matchString": {"matchCriteriaId": "M", "matches": []}}), status=0 if is_read else 1)
+            self.assertEqual([one["id"] for one in self.left(count)], ["L"] * count)
+        # (of one that isn't wanted nothing is said)
+        self.add(page("matchStrings", {"matchString": {"matchCriteriaId": "M", "matches": 7}}), status=1)
+        self.assertEqual(self.verdicts()[1]["leftOut"], [])
+        self.assertEqual(ran(store.run, ["status", "--store", self.store])[0], 1)
+
+    def test_odd_texts(self):
+        half = "\ud800"
+        odd = {
+            "a title": page("products", product(fs("v", "p", "2.0"), titles=[{"title": f"a{half}", "lang": "en"}])),
+            "a name": page("products", product(fs("v", f"p{half}", "2.0"))),
+            "an id": page("vulnerabilities", cve(8, match(HERE)) | {"cve": cve(8, match(HERE))["cve"] | {"id": f"CVE{half}"}}),
+            "a state": page("vulnerabilities", cve(8, status=f"A{half}")),
+            "an id of a match": page("matchStrings", {"matchString": {"matchCriteriaId": f"K{half}", "matches": [{"cpeName": HERE}]}}),
+            "the sign that the store has for these": page("vulnerabilities", cve(8, status="A\x1a001a")),
+        }
+        for what, one in odd.items():
+            with self.subTest(what):
+                shutil.rmtree(self.store, ignore_errors=True)
+                self.filled()
+                path = self.file("odd.json", one)
+                self.add(path, page("vulnerabilities", cve(9, match(HERE))))
+                pages = [path, *(str(self.folder / name) for name in sorted(os.listdir(self.folder)) if name.startswith("page-"))]
+                words = ["--machines", self.machines, "--json", "--all"]
+                for kind, option in OPTIONS.items():
+                    of_kind = [name for name in pages if kind in json.loads(Path(name).read_text())]
+                    words += [option, *of_kind] if of_kind else []
+                whole = ran(scan.run, words)
+                found = ran(scan.run, ["--store", self.store, *words[:4]])
+                self.assertEqual(found[0], whole[0])
+                self.assertEqual(of_verdicts(found[1].splitlines()), of_verdicts(whole[1].splitlines()))
+                self.assertEqual(ran(store.run, ["check", "--store", self.store])[0], 0)
+                [path.unlink() for path in self.folder.glob("page-*")]
+
+    def test_a_file_whose_name_is_no_text(self):
+        self.filled()
+        path = str(self.folder / "odd\udcff.json")
+        try:
+            Path(path).write_text(json.dumps(page("vulnerabilities", cve(9, match(HERE)))))
+        except OSError:
+            self.skipTest("no such name can be here")
+        self.add(path)
+        self.assertEqual(self.verdicts()[0], dict.fromkeys("19", "TRUE"))
+
+    def test_a_count_that_is_too_large(self):
+        self.filled()
+        bad = self.file("bad.json", page("vulnerabilities", cve(8, match(HERE)), total=1 << 70))
+        _, said = self.add(bad, page("vulnerabilities", cve(9, match(HERE))), status=1)
+        self.assertIn("which is no count", said[0])
+        self.assertEqual(self.verdicts(status=1)[0], dict.fromkeys("19", "TRUE"))
 
     def test_words(self):
         self.filled()
@@ -360,6 +571,19 @@ class Stores(RecipeCase):
                 self.assertIn(FILE, self.scan_is_fatal())
                 with self.assertRaises(Fatal):
                     self.filled()
+
+    def test_a_record_that_is_torn(self):
+        later = page("vulnerabilities", *(cve(n, match(HERE), modified="2024-07-01T00:00:00.000") for n in (1, 2, 3)))
+        for edit in ("UPDATE made SET data = x'789c00'", "DELETE FROM made; UPDATE advisories SET data = x'789c00'"):
+            shutil.rmtree(self.store, ignore_errors=True)
+            self.filled()
+            with sqlite3.connect(Path(self.store) / FILE) as connection:
+                connection.executescript(edit)
+            connection.close()
+            with self.subTest(edit):
+                self.assertIn("the store is torn: remove it, and add the pages again", self.scan_is_fatal())
+                if "advisories" in edit:
+                    self.assertIn("the store is torn", self.fatal("add", "--store", self.store, self.file("later.json", later)))
 
     def test_a_store_of_another_version(self):
         self.filled()
@@ -427,9 +651,11 @@ class Stores(RecipeCase):
         run = subprocess.run(["sh", "-c", words], capture_output=True, text=True)
         self.assertEqual((run.returncode, run.stdout), (2, ""))
         self.assertRegex(run.stderr, "^store.py: .*(the disk is full|can not be read or written)")
-        self.assertEqual(self.verdicts(), before)
+        # (it is the same, and the scan says that the run has not ended)
+        self.assertEqual(self.verdicts(status=1)[0], before[0])
         self.assertEqual(ran(store.run, ["check", "--store", self.store])[:2], (0, "5 records read again, 0 wrong\n"))
         self.assertEqual(self.add(big)[0], "added 1 page: 2990 records new or later")
+        self.assertEqual(self.verdicts()[0], before[0])
 
     def test_what_stands_beside_another_record(self):
         edits = {
