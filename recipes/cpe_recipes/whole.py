@@ -198,7 +198,7 @@ def missing_of_runs(kind: str, runs: Iterable[Sequence[Span]], said: Said) -> li
     for spans in runs:
         feeds_of_runs.put(spans)
     found = {id(span): span for span in feeds_of_runs.odd}.values()
-    return [*_odd(kind, found), *_missing(kind, feeds_of_runs.left, said)]
+    return [*odd_of(kind, found), *_missing(kind, feeds_of_runs.left, said)]
 
 
 class _Runs:
@@ -226,7 +226,7 @@ class _Runs:
             filled, rest = _parted(self._kind, [*self.left, *self._spare.values()])
             joined += [feed for feed in filled if any(id(span) not in self._closed for span in feed)]
             self.left = [span for span in rest if id(span) not in self._closed]
-        self.odd += [span for span in spans if any(_odd(self._kind, [span]))]
+        self.odd += [span for span in spans if any(odd_of(self._kind, [span]))]
         for feed in [*found, *joined]:
             self._end(feed)
 

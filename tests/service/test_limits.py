@@ -76,6 +76,17 @@ class PathsTest(ServiceCase):
             self.assertEqual(pathless(text), wanted)
 
 
+def received(connection, last):
+    """What a connection receives, up to these bytes."""
+    found = b""
+    while last not in found:
+        piece = connection.recv(4_096)
+        if not piece:
+            raise AssertionError(f"the connection ended behind {found!r}")
+        found += piece
+    return found
+
+
 class ConnectionsTest(ServiceCase):
     def test_a_request_that_never_ends_is_closed_behind_a_first_one_too(self):
         server = self.server()
@@ -84,19 +95,19 @@ class ConnectionsTest(ServiceCase):
             connection = socket.create_connection(("127.0.0.1", server.port), PATIENCE)
             self.addCleanup(connection.close)
             connection.sendall(b"GET /tables/letters HTTP/1.1\r\nHost: localhost\r\n\r\n")
-            self.assertTrue(connection.recv(4_096).startswith(b"HTTP/1.1 404 "))
+            self.assertTrue(received(connection, b"}").startswith(b"HTTP/1.1 404 "))
             connection.sendall(end)
             connections.append(connection)
         with socket.create_connection(("127.0.0.1", server.port), PATIENCE) as listener:
             listener.sendall(b"GET /events HTTP/1.1\r\nHost: localhost\r\n\r\n")
-            self.assertIn(b"listening", listener.recv(4_096) + listener.recv(4_096))
+            received(listener, b"listening")
             for connection in connections:
                 # (it is looked at each 30 seconds)
                 connection.settimeout(2 * PATIENCE)
                 self.assertEqual(connection.recv(1), b"")
             # (a request that runs is left alone)
             listener.settimeout(PATIENCE)
-            self.assertIn(b"still here", listener.recv(4_096))
+            received(listener, b"still here")
 
 
 def page(start, *ids, total=4):
