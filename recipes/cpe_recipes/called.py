@@ -1,7 +1,7 @@
 """A name of an item, and how sure it is that the item has it; calling.py says which those are.
 
-A name that an item perhaps has is put as one that is known in part, which no fact covers and some may cover. So cpe itself says
-what hangs on it, under a negation too.
+A name that an item perhaps has is put as one that is known in part, which no fact covers and some may cover. So cpe itself finds which
+verdicts depend on this name, also under a negation.
 """
 from __future__ import annotations
 

@@ -5,8 +5,8 @@ of these; an old name that covers no more than a part of a product has the item'
 lists for a match has the name of the match too. So an old name in a list is found by criteria over the new one, a new name by
 criteria over the old one, and each by its own.
 
-Other names it perhaps has. Such a name is put as one that is known in part, which no fact covers and some may cover, so cpe itself
-says what hangs on it, under a negation too:
+Other names it perhaps has. Such a name is put as one that is known in part, which no fact covers and some may cover. So cpe itself finds
+which verdicts depend on this name, also under a negation. These are such names:
 
 - where no entry has the item, its name under each product to which entries of its own lead;
 - where no entry leads to the item, its name under each product of which at least half of the entries lead to the item's product;

@@ -15,8 +15,8 @@ all versions that its pattern begins with are outside, and else there is none.
     python3 decide.py --ranges FILE.. --records FILE.. --machines FILE [--names FILE] [--matches FILE..] [--letters FILE]
 
 The ranges are those of `advisories.sh --ranges`, the records have the entries and deprecations by which names lead on, the
-machines are a line each: a name and names of items. It writes lines of a machine, the id of a check, and TRUE or FALSE, with
-tabs between them.
+machines are a line each: a name and names of items. For each check that it decides on a machine, it writes a line: machine, id of the
+check, TRUE or FALSE, separated by tabs.
 """
 from __future__ import annotations
 

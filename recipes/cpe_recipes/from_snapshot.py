@@ -3,10 +3,12 @@ saved session ended:
 
     { sh from-snapshot.sh inventory.snapshot; cat new.jsonl; } | cpe watch
 
-`cpe save` makes the same snapshot of them. Deprecations come after all entries, those of successors first. A deprecation is told
-by the last notes of its entry, so an entry that has one without a note of it is left out, which no session leaves, and so is one
-with so many notes that its record would be too long for a line. The status is 2, and nothing is written, where the file is no snapshot; that its rows are lawful is not asked here: `cpe` refuses the records
-of those that are not, and `cpe load` the snapshot.
+`cpe save` makes the same snapshot of them. Deprecations come after all entries, those of successors first. A deprecation is written
+from the last notes of its entry. An entry with a deprecation that no note has is left out; no session leaves one. An entry is left out
+too if it has more notes than the line of its record has room for.
+
+If the file is no snapshot, nothing is written, and the status is 2. Whether its rows are lawful isn't checked here. `cpe` refuses the
+records of rows that aren't, and `cpe load` refuses the snapshot.
 """
 from __future__ import annotations
 

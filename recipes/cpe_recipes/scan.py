@@ -35,7 +35,9 @@ What is written:
 - --why: the items that make a verdict TRUE (`decidedBy`), in all forms but the table; deciding.py says how, and what it takes.
 - --fail-on: the status is 3 if a verdict fits one of these gates (gates.py, gating.py); --since is the kept result for the term `new`.
 
-cases.py says what machines are asked for. All verdicts come from one run of cpe.
+cases.py chooses which statements are evaluated for which machine. cpe evaluates them in one run. If they are more than it takes at once,
+it evaluates them in portions, with the same verdicts (portions.py). Then, and with a store, the advisories that can't concern any of the
+machines are FALSE without being evaluated (concern.py), unless --all asks for each of them.
 
 A statement holds for a machine if it holds of the names as written or as the dictionary leads them on, on either side. calling.py says
 which names an item has so, and which it perhaps has. If something is negated it holds only if it does so in each way.
@@ -44,9 +46,9 @@ A component may have several names. One that makes a verdict TRUE is enough, and
 is if a test is negated.
 
 What a list doesn't say is UNKNOWN. An item that is known in part may be what a fact names, since its name has a pattern. So may one that
-says less than the fact, such as a plugin without its platform. reasons.py writes what isn't said beside such a verdict. Those of items
-that say less are counted apart, as `perhaps`. With --strict they are FALSE, as NIST IR 7696 has it, and counted all the same. If a range
-has none of all that an item may be, the item is FALSE in it; decide.py says when.
+says less than the fact, such as a plugin without its platform. reasons.py writes what isn't said beside such a verdict. Verdicts that
+depend on an item that says less are counted apart, as `perhaps`. With --strict these verdicts are FALSE, as NIST IR 7696 has it, but are
+still counted. If a range has none of all that an item may be, the item is FALSE in it; decide.py says when.
 
 The status is 0 if every verdict is there and nothing was left out, and 1 if something was, which is reported. It is 2 if there is no
 result: then nothing was written except why. It is 3 if a verdict fits a gate, whether or not something was left out.

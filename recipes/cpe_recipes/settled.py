@@ -4,7 +4,8 @@ A line settles an UNKNOWN: the verdict is what it says, and is written as settle
 themselves isn't settled, and a remark says where they decide otherwise than a line:
 
 - TRUE stays TRUE, so a line never hides a machine;
-- FALSE becomes TRUE if a line names the machine and says so, and is written as settled. A * settles no FALSE.
+- FALSE becomes TRUE if a line names the machine and says so, and is written as settled. A line for every machine (`*`) never turns FALSE
+  into TRUE.
 
 A line for a machine counts before one for every machine. Of lines that contradict each other none counts. What is no line is said, and
 settles nothing; a line that settles nothing is remarked.
