@@ -146,11 +146,11 @@ class Adding:
 
     def make_again(self) -> None:
         """Derives all that is kept beside the records of advisories, if other recipes derived it."""
-        if self._is_of_these_recipes():
+        if is_of_these_recipes(self._kept):
             return
         with self._kept.writing():
             # (another run may have been quicker)
-            if self._is_of_these_recipes():
+            if is_of_these_recipes(self._kept):
                 return
             self._read_numbers()
             for table in ("maker", "concerns", "ranged", "made"):
@@ -163,9 +163,6 @@ class Adding:
                 derived.put(self._kept, place, self._number)
             self._put_numbers()
             self._kept.put("INSERT INTO maker VALUES (?)", [(maker(),)])
-
-    def _is_of_these_recipes(self) -> bool:
-        return self._kept.rows("SELECT digest FROM maker") == [(maker(),)]
 
     def _put_numbers(self) -> None:
         names = [(number, *product, squeezed(product[1])) for product, number in self._new.items()]
@@ -283,6 +280,11 @@ class Adding:
                 self._kept.put("DELETE FROM matches WHERE place = ?", [one[:1] for one in known])
         self._kept.put("INSERT INTO matches VALUES (?, ?, ?, ?)", [(place, key, modified, listed)])
         return True
+
+
+def is_of_these_recipes(kept: Kept) -> bool:
+    """Whether what is kept beside records was derived by these recipes."""
+    return kept.rows("SELECT digest FROM maker") == [(maker(),)]
 
 
 class _LatestProducts:

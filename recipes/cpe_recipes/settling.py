@@ -39,12 +39,22 @@ def settle(kept: Kept, program: Program) -> None:
         return
     with kept.writing():
         for (kind,) in kept.rows("SELECT kind FROM unsettled"):
-            told = list(_told_of_pages(kept, kind))
-            if kind == "products":
-                told += _told_of_dictionary(kept, program)
+            told = _worked_out(kept, program, kind)
             kept.put("DELETE FROM told WHERE kind = ?", [(kind,)])
             kept.put("INSERT INTO told VALUES (?, ?, ?)", ((kind, number, json.dumps(one)) for number, one in enumerate(told)))
         kept.put("DELETE FROM unsettled WHERE ?", [(True,)])
+
+
+def _worked_out(kept: Kept, program: Program, kind: str) -> list[dict[str, Json]]:
+    """What the pages of a kind say together."""
+    told = list(_told_of_pages(kept, kind))
+    return told + _told_of_dictionary(kept, program) if kind == "products" else told
+
+
+def told_now(kept: Kept, program: Program, kind: str) -> Iterable[dict[str, Json]]:
+    """The same as it is now, kept or not. Nothing is written."""
+    is_unsettled = kept.one("SELECT 1 FROM unsettled WHERE kind = ?", (kind,)) is not None
+    return _worked_out(kept, program, kind) if is_unsettled else told_of(kept, kind)
 
 
 def is_settled(kept: Kept) -> bool:

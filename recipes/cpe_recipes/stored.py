@@ -8,12 +8,12 @@ from collections.abc import Collection, Iterable, Iterator, Mapping, Sequence
 from dataclasses import dataclass
 
 from . import advisories, names
-from .adding import NO_PRODUCT, Adding, record_of
+from .adding import NO_PRODUCT, Adding, is_of_these_recipes, record_of
 from .cases import Asked, Known
 from .components import Machine
 from .decide import leads_of
 from .feeds import ADVISORIES, Page, Source
-from .kept import Kept, page_and_number
+from .kept import ADD_AGAIN, Kept, page_and_number
 from .made import MadeStatements, read
 from .matches import key_of_name
 from .naming import Unnamed, name_machines, wanted_names
@@ -22,7 +22,7 @@ from .near_products import OPEN, Product, key_of
 from .product_index import squeezed
 from .program import Program
 from .said import Deferred, Fatal, Mute, Said
-from .settling import candidates_of, is_settled, rows_of_products, settle, tell_faults, tell_unended, tell_unread, told_of
+from .settling import candidates_of, rows_of_products, tell_faults, tell_unended, tell_unread, told_now
 from .unanalysed import States
 from .whole import Missing, Reading
 
@@ -49,25 +49,30 @@ class Stored:
 
     @contextlib.contextmanager
     def opened(self) -> Iterator[Stored]:
-        """All that is taken within is of one time, and worked out."""
+        """All that is taken within is of one time. Nothing is written, unless other recipes filled the store."""
         try:
             for _ in range(_TRIES):
-                Adding(self._kept, self._said).make_again()
-                settle(self._kept, self._program)
+                self._make_again()
                 with self._kept.reading():
-                    # (another run may have added a page since then)
-                    if is_settled(self._kept):
+                    # (another run, of other recipes, may have been there since then)
+                    if is_of_these_recipes(self._kept):
                         tell_unended(self._kept, self._said)
                         tell_unread(self._kept, self._said)
                         yield self
                         return
-            raise Fatal(f"{self._kept.folder}: another run adds pages to the store; scan when that is done")
+            raise Fatal(f"{self._kept.folder}: other recipes write to the store; scan when that is done")
         finally:
             self._kept.close()
 
+    def _make_again(self) -> None:
+        try:
+            Adding(self._kept, self._said).make_again()
+        except Fatal as fault:
+            raise Fatal(f"{fault}; other recipes filled the store, so all that they derived must be derived again: {ADD_AGAIN}") from fault
+
     def _tell(self, kind: str) -> None:
         """Says what was worked out of the feeds of a kind."""
-        for one in told_of(self._kept, kind):
+        for one in told_now(self._kept, self._program, kind):
             if "missing" in one:
                 self._reading.judge([Missing(*one["missing"])], self._said, " (--partial lets it pass)")
             elif "remark" in one:

@@ -20,7 +20,7 @@ from test_portions import advisory, match
 
 from test_feeds import Heard
 
-from cpe_recipes import adding, feeds, fleet, made, scan, settling, store
+from cpe_recipes import adding, feeds, fleet, made, scan, store, stored
 from cpe_recipes.kept import FILE, VERSION, Kept
 from cpe_recipes.program import Program
 from cpe_recipes.said import Fatal
@@ -60,6 +60,19 @@ def killed(words, moment):
         finally:
             os._exit(0)
     return os.WIFSIGNALED(os.waitpid(process, 0)[1])
+
+
+@contextmanager
+def as_another():
+    """Whoever may write everywhere is another one meanwhile, who may not."""
+    is_root = os.geteuid() == 0
+    if is_root:
+        os.seteuid(65534)
+    try:
+        yield
+    finally:
+        if is_root:
+            os.seteuid(0)
 
 
 class Sequence:
@@ -595,19 +608,46 @@ class Stores(RecipeCase):
     def test_a_page_that_another_run_adds_meanwhile(self):
         self.filled()
         late = self.file("late.json", page("vulnerabilities", cve(9, match(HERE)), start=1, total=2))
-        runs = []
 
-        def settle(*given):
-            settling.settle(*given)
-            runs.append(given)
-            if len(runs) == 1:
-                kept = Kept(self.store)
-                adding.Adding(kept, Heard()).put(next(feeds.pages([late], Heard(), adding.KINDS)))
-                kept.close()
+        def added(*given):
+            kept = Kept(self.store)
+            adding.Adding(kept, Heard()).put(next(feeds.pages([late], Heard(), adding.KINDS)))
+            kept.close()
 
-        with mock.patch("cpe_recipes.stored.settle", settle):
+        # (what the pages say together is worked out by the scan then)
+        with mock.patch.object(stored.Stored, "_make_again", added):
             self.assertIn("the feed has 2 advisories, 1 were given", self.scan_is_fatal())
-        self.assertEqual(len(runs), 2)
+
+    def test_a_scan_writes_nothing(self):
+        with mock.patch("cpe_recipes.store.settle", side_effect=KeyboardInterrupt), self.assertRaises(KeyboardInterrupt):
+            self.filled()
+        connection = sqlite3.connect(Path(self.store) / FILE, isolation_level=None)
+        self.addCleanup(connection.close)
+        # (another run writes meanwhile)
+        connection.execute("BEGIN IMMEDIATE")
+        with mock.patch("cpe_recipes.kept._SECONDS_TO_WAIT", 0.1):
+            self.assertEqual(self.verdicts(status=1)[0], {"1": "TRUE"})
+            connection.execute("UPDATE maker SET digest = 'other'")
+            connection.execute("COMMIT")
+            connection.execute("BEGIN IMMEDIATE")
+            self.assertIn("other recipes filled the store, so all that they derived must be derived again: run store.py add", self.scan_is_fatal())
+
+    def test_a_store_that_can_not_be_written(self):
+        self.filled()
+        for path, mode in ((self.folder, 0o755), (Path(self.store), 0o555), (Path(self.store) / FILE, 0o444)):
+            path.chmod(mode)
+        self.addCleanup(Path(self.store).chmod, 0o755)
+        before = self.verdicts()
+        with as_another():
+            self.assertEqual(self.verdicts(), before)
+        # (what a run that was killed left isn't passed over)
+        (Path(self.store) / f"{FILE}-wal").write_bytes(b"x" * 100)
+        with as_another():
+            self.assertIn("run store.py add --store FOLDER as one who can write there", self.scan_is_fatal())
+        # (nor what is written meanwhile)
+        (Path(self.store) / f"{FILE}-wal").unlink()
+        with as_another(), mock.patch.object(Kept, "_state", side_effect=[(1, 1), (2, 2)]):
+            self.assertIn("another run added pages meanwhile", self.scan_is_fatal())
 
     def test_two_runs_that_add_at_once(self):
         pages = [self.file(f"two-{k}.json", page("vulnerabilities", *(cve(10 * k + n, match(fs("v", f"p{k}{n}"))) for n in range(9)))) for k in range(12)]
