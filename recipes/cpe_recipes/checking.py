@@ -5,7 +5,7 @@ import json
 import zlib
 from collections.abc import Iterator
 
-from .adding import Derived, record_of, told_apart
+from .adding import Derived, in_form, record_of, told_apart
 from .concern import Concern, plain_name
 from .kept import Kept, page_and_number
 from .made import maker
@@ -48,10 +48,10 @@ def _advisories(kept: Kept, numbers: dict[int, tuple[str, str]]) -> Iterator[tup
     for key, place in kept.each("SELECT key, place FROM ranged"):
         ranges.setdefault(place, set()).add(key)
     is_of_these = kept.rows("SELECT digest FROM maker") == [(maker(),)]
-    columns_of = "place, id, modified, a.data, made.data, has_names, state, is_odd, is_of_systems"
-    for place, id, modified, data, made, *columns in kept.each(f"SELECT {columns_of} FROM advisories a LEFT JOIN made USING (place)"):
+    columns_of = "place, id, modified, is_of_records, a.data, made.data, has_names, state, is_odd, is_of_systems"
+    for place, id, modified, is_of_records, data, made, *columns in kept.each(f"SELECT {columns_of} FROM advisories a LEFT JOIN made USING (place)"):
         try:
-            record = record_of(data)
+            record = in_form(record_of(data), is_of_records)
         except (ValueError, zlib.error):
             yield place, "its record can't be read"
             continue

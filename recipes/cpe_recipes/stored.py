@@ -8,7 +8,7 @@ from collections.abc import Collection, Iterable, Iterator, Mapping, Sequence
 from dataclasses import dataclass
 
 from . import advisories, names
-from .adding import NO_PRODUCT, Adding, is_of_these_recipes, record_of
+from .adding import NO_PRODUCT, Adding, in_form, is_of_these_recipes, record_of
 from .cases import Asked, Known
 from .components import Machine
 from .decide import leads_of
@@ -204,7 +204,7 @@ class Stored:
             if page not in found:
                 name, is_of_records = named[page]
                 found[page] = Page(name, ADVISORIES, [], numbers=[], is_of_records=is_of_records)
-            found[page].records.append(made[place] if place in made else self._kept.read(record_of, raw[place]))
+            found[page].records.append(made[place] if place in made else in_form(self._kept.read(record_of, raw[place]), found[page].is_of_records))
             found[page].numbers.append(number + 1)  # type: ignore[union-attr]
         return list(found.values())
 

@@ -20,7 +20,7 @@ from test_portions import advisory, match
 
 from test_feeds import Heard
 
-from cpe_recipes import adding, feeds, fleet, made, scan, store, stored
+from cpe_recipes import adding, cve5, feeds, fleet, made, scan, store, stored
 from cpe_recipes.kept import FILE, VERSION, Kept
 from cpe_recipes.program import Program
 from cpe_recipes.said import Fatal
@@ -226,6 +226,25 @@ class Stores(RecipeCase):
             connection.execute("DELETE FROM concerns")
         connection.close()
         self.assertEqual(self.verdicts(), before)
+        self.assertEqual(ran(store.run, ["check", "--store", self.store])[0], 0)
+
+    def test_a_cve_record_that_older_recipes_converted(self):
+        record = {"dataType": "CVE_RECORD", "dataVersion": "5.1", "cveMetadata": {"cveId": "CVE-2024-0005", "state": "PUBLISHED", "dateUpdated": "2024-01-01T00:00:00Z"}}
+        affected = {"cpes": [HERE], "defaultStatus": "affected", "versions": [{"version": "1.0", "status": "affected", "versionType": "semver"}]}
+        record["containers"] = {"cna": {"affected": [affected], "descriptions": [{"lang": "en", "value": "x"}]}}
+        real = cve5.vulnerability
+
+        def older(one):
+            found = real(one)
+            found["cve"].pop("configurations", None)
+            return found
+
+        path = self.file("record.json", json.dumps([record]))
+        with mock.patch.object(adding, "maker", lambda: "older"), mock.patch.object(cve5, "vulnerability", older):
+            self.filled()
+            self.add(path, page("vulnerabilities", cve(5)))
+        # (now it has names, so that it counts in place of NVD's, which isn't analysed)
+        self.assertEqual(self.verdicts()[0], {"1": "TRUE", "5": "TRUE"})
         self.assertEqual(ran(store.run, ["check", "--store", self.store])[0], 0)
 
     def test_two_ranges_under_one_id_of_a_match(self):
