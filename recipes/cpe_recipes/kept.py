@@ -17,7 +17,7 @@ from urllib.parse import quote
 
 from .said import Fatal, why
 
-Read = TypeVar("Read")
+Kind, Read = TypeVar("Kind"), TypeVar("Read")
 
 FILE = "feeds.sqlite"
 # (change it with the tables, and with what is kept beside products and matches; what is kept beside advisories is made again)
@@ -218,8 +218,8 @@ class Kept:
         with self._telling():
             self._connection.executemany(query, map(_kept, rows))
 
-    def read(self, reader: Callable[[bytes], Read], data: bytes) -> Read:
-        """What is read of bytes that were kept. Fatal if that can't be."""
+    def read(self, reader: Callable[[Kind], Read], data: Kind) -> Read:
+        """What is read of something that was kept. Fatal if that can't be."""
         try:
             return reader(data)
         except (ValueError, TypeError, KeyError, zlib.error) as fault:

@@ -39,13 +39,13 @@ def settle(kept: Kept, program: Program) -> None:
         return
     with kept.writing():
         for (kind,) in kept.rows("SELECT kind FROM unsettled"):
-            told = _worked_out(kept, program, kind)
+            told = worked_out(kept, program, kind)
             kept.put("DELETE FROM told WHERE kind = ?", [(kind,)])
             kept.put("INSERT INTO told VALUES (?, ?, ?)", ((kind, number, json.dumps(one)) for number, one in enumerate(told)))
         kept.put("DELETE FROM unsettled WHERE ?", [(True,)])
 
 
-def _worked_out(kept: Kept, program: Program, kind: str) -> list[dict[str, Json]]:
+def worked_out(kept: Kept, program: Program, kind: str) -> list[dict[str, Json]]:
     """What the pages of a kind say together."""
     told = list(_told_of_pages(kept, kind))
     return told + _told_of_dictionary(kept, program) if kind == "products" else told
@@ -54,7 +54,7 @@ def _worked_out(kept: Kept, program: Program, kind: str) -> list[dict[str, Json]
 def told_now(kept: Kept, program: Program, kind: str) -> Iterable[dict[str, Json]]:
     """The same as it is now, kept or not. Nothing is written."""
     is_unsettled = kept.one("SELECT 1 FROM unsettled WHERE kind = ?", (kind,)) is not None
-    return _worked_out(kept, program, kind) if is_unsettled else told_of(kept, kind)
+    return worked_out(kept, program, kind) if is_unsettled else told_of(kept, kind)
 
 
 def is_settled(kept: Kept) -> bool:
@@ -157,7 +157,7 @@ def candidates_of(kept: Kept, rows: Iterable[tuple]) -> Iterator[Candidate]:
     changes = []
     for place, name, title, day, id, change, odd, fault in rows:
         page, number = page_and_number(place)
-        placed = Placed(id or "", None, sources[page], number + 1)
+        placed = Placed(id or "", None, kept.read(sources.__getitem__, page), number + 1)
         if fault is not None:
             yield candidate_at(placed, placed.id, reason=fault)
             continue

@@ -9,7 +9,8 @@
   changes replace what they have, older ones change nothing, and a page that is there already is passed over. Each page is added whole or
   not at all. If a run was stopped or killed, or the disk was full, run it again. Without pages it works out what a stopped one had not.
 - status: how much is in the store, when it was last added to, and which pages of a feed are missing.
-- check: reads all of it again, and compares what is kept beside each record with that record.
+- check: reads all of it again, and compares what is derived of it with that. It doesn't see a product, a list, a title or a time that is
+  another one than was added, or that a product or a list isn't there any more: of these nothing else is kept.
 
 `scan.py --store FOLDER` scans from it (kept.py, adding.py and stored.py say how). The status is 0 if all was added, or nothing is missing or
 wrong; 1 if something was left out, is missing or wrong, which is reported; 2 if there is no store, or it can't be read or written.
@@ -126,6 +127,6 @@ def _last(kept: Kept, query: str) -> str:
 def _check(folder: str, read: Words, said: Said, output: Output) -> None:
     kept = Kept(folder)
     with kept.reading():
-        count = checking.check(kept, said)
+        count = checking.check(kept, Program(), said)
     kept.close()
     output.line(f"{counted(count, 'record')} read again, {said.left} wrong")

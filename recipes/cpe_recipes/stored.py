@@ -202,7 +202,7 @@ class Stored:
         for place in places:
             page, number = page_and_number(place)
             if page not in found:
-                name, is_of_records = named[page]
+                name, is_of_records = self._kept.read(named.__getitem__, page)
                 found[page] = Page(name, ADVISORIES, [], numbers=[], is_of_records=is_of_records)
             found[page].records.append(made[place] if place in made else in_form(self._kept.read(record_of, raw[place]), found[page].is_of_records))
             found[page].numbers.append(number + 1)  # type: ignore[union-attr]

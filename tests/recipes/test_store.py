@@ -699,11 +699,17 @@ class Stores(RecipeCase):
             "its state": "UPDATE advisories SET state = 'Rejected'", "its record": "UPDATE advisories SET data = x'00' WHERE place % 2",
             "its name": "UPDATE products SET product = product % 2 + 1", "its page": "DELETE FROM pages WHERE kind = 'products'",
             "what it becomes": "UPDATE made SET data = x'00'", "its id": "UPDATE advisories SET id = 'CVE-2024-0009'", "an advisory that isn't there": "DELETE FROM advisories",
+            "where it leads": "DELETE FROM leads", "that it counts": "UPDATE advisories SET is_passed = 1 WHERE id LIKE '%2'",
+            "that another one isn't later": "UPDATE advisories SET is_doubled = 1", "its words": "UPDATE names SET squeezed = 'other'",
+            "what is missing": "UPDATE told SET text = '{\"remark\":\"other\"}'", "how many its feed has": "UPDATE pages SET total = 99",
         }
         for what, edit in edits.items():
             with self.subTest(what):
                 shutil.rmtree(self.store, ignore_errors=True)
                 self.filled()
+                old = product(fs("o", "p"), deprecated=True, deprecatedBy=[{"cpeName": HERE}])
+                self.add(page("products", old), page("vulnerabilities", cve(5, match(HERE)), total=2))
+                self.assertEqual(ran(store.run, ["check", "--store", self.store])[0], 0)
                 with sqlite3.connect(Path(self.store) / FILE) as connection:
                     connection.execute(edit)
                 connection.close()
