@@ -22,7 +22,7 @@ from .near_products import OPEN, Product, key_of
 from .product_index import squeezed
 from .program import Program
 from .said import Deferred, Fatal, Mute, Said
-from .settling import candidates_of, rows_of_products, tell_faults, tell_unended, tell_unread, told_now
+from .settling import candidates_of, rows_of_products, say_faults, say_unended, say_unread, noted_now
 from .unanalysed import States
 from .whole import Missing, Reading
 
@@ -56,8 +56,8 @@ class Stored:
                 with self._kept.reading():
                     # (another run, of other recipes, may have been there since then)
                     if is_of_these_recipes(self._kept):
-                        tell_unended(self._kept, self._said)
-                        tell_unread(self._kept, self._said)
+                        say_unended(self._kept, self._said)
+                        say_unread(self._kept, self._said)
                         yield self
                         return
             raise Fatal(f"{self._kept.folder}: other recipes write to the store; scan when that is done")
@@ -72,7 +72,7 @@ class Stored:
 
     def _tell(self, kind: str) -> None:
         """Says what was worked out of the feeds of a kind."""
-        for one in told_now(self._kept, self._program, kind):
+        for one in noted_now(self._kept, self._program, kind):
             if "missing" in one:
                 self._reading.judge([Missing(*one["missing"])], self._said, " (--partial lets it pass)")
             elif "remark" in one:
@@ -236,7 +236,7 @@ class Stored:
     def listed(self, keys: Collection[str]) -> dict[str, list[str]]:
         """The names that the match feed lists for these matches."""
         self._tell("matchStrings")
-        tell_faults(self._kept, "matchStrings", set(keys), self._said)
+        say_faults(self._kept, "matchStrings", set(keys), self._said)
         found: dict[str, list[str]] = {}
         for _, key, listed in sorted(self._kept.rows_of("SELECT place, key, listed FROM matches WHERE key IN {}", keys)):
             found.setdefault(key, []).extend(self._kept.read(json.loads, listed))

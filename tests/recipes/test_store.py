@@ -426,7 +426,7 @@ class Stores(RecipeCase):
             "match strings: 0", "of these rejected: 0, not analysed: 1",
         ])
 
-    def test_the_last_time_is_told_by_the_time(self):
+    def test_the_last_time_is_the_latest(self):
         times = ("2024-06-01T00:30:00+02:00", "2024-05-31T23:00:00Z", "zzz", 99, None)
         self.add(page("products", product(HERE, None)), page("vulnerabilities", *(cve(n, match(HERE), modified=time) for n, time in enumerate(times, 1))))
         lines = ran(store.run, ["status", "--store", self.store])[1].splitlines()
@@ -452,7 +452,7 @@ class Stores(RecipeCase):
         self.assertEqual(self.verdicts()[0], dict.fromkeys("145", "TRUE"))
 
     def left(self, count):
-        """What a scan leaves out; status tells as much."""
+        """What a scan leaves out; status says as much."""
         left = self.verdicts(status=1 if count else 0)[1]["leftOut"]
         status, _, said = ran(store.run, ["status", "--store", self.store])
         self.assertEqual((len(left), len(said), status), (count, count, 1 if count else 0), said)
