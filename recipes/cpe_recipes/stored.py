@@ -46,6 +46,8 @@ class Stored:
         self._kept, self._program, self._said, self._reading = Kept(folder), program, said, reading
         # (the ids of the matches that give items other names)
         self._naming: set[str] = set()
+        # (and those of matches that could not be read)
+        self._faulty: set[str] = set()
 
     @contextlib.contextmanager
     def opened(self) -> Iterator[Stored]:
@@ -85,6 +87,10 @@ class Stored:
         unnamed, wanted = self._named(asked, tables)
         places = self._places(wanted, ids, is_all)
         self._tell(ADVISORIES)
+        # (such a match may list what is here, though its advisory isn't read)
+        query = "SELECT DISTINCT key FROM faults WHERE kind = 'matchStrings' AND key IN (SELECT key FROM ranged)"
+        self._faulty = {key for (key,) in self._kept.rows(query)}
+        say_faults(self._kept, "matchStrings", self._faulty, self._said)
         found, made, states = self._converted(places)
         records = self._program.accepted_statements(found.candidates, self._said)
         order, elsewhere = self._in_order(places)
@@ -236,7 +242,7 @@ class Stored:
     def listed(self, keys: Collection[str]) -> dict[str, list[str]]:
         """The names that the match feed lists for these matches."""
         self._tell("matchStrings")
-        say_faults(self._kept, "matchStrings", set(keys), self._said)
+        say_faults(self._kept, "matchStrings", set(keys) - self._faulty, self._said)
         found: dict[str, list[str]] = {}
         for _, key, listed in sorted(self._kept.rows_of("SELECT place, key, listed FROM matches WHERE key IN {}", keys)):
             found.setdefault(key, []).extend(self._kept.read(json.loads, listed))

@@ -498,6 +498,11 @@ class Stores(RecipeCase):
         for record, count, is_read in zip(of, (1, 1, 0, 0), (False, True, True, False)):
             self.add(page("matchStrings", record, {"matchString": {"matchCriteriaId": "M", "matches": []}}), status=0 if is_read else 1)
             self.assertEqual([one["id"] for one in self.left(count)], ["L"] * count)
+        # (nor is what its items have otherwise)
+        self.machines = self.file("machines", f"m {fs('y', 'y', '1.0')}\n")
+        self.add(page("matchStrings", {"matchString": one | {"matches": ["x"], "lastModified": "2024-06-01T00:00:00.000"}}), status=1)
+        self.assertEqual([one["id"] for one in self.left(1)], ["L"])
+        self.add(page("matchStrings", {"matchString": one | {"lastModified": "2024-06-01T00:00:00.000"}}))
         # (of one that isn't wanted nothing is said)
         self.add(page("matchStrings", {"matchString": {"matchCriteriaId": "M", "matches": 7}}), status=1)
         self.assertEqual(self.verdicts()[1]["leftOut"], [])
@@ -656,8 +661,10 @@ class Stores(RecipeCase):
         for path, mode in ((self.folder, 0o755), (Path(self.store), 0o555), (Path(self.store) / FILE, 0o444)):
             path.chmod(mode)
         self.addCleanup(Path(self.store).chmod, 0o755)
-        before = self.verdicts()
+        before, program = self.verdicts(), Program().path
         with as_another():
+            if shutil.which(program) is None:
+                self.skipTest("the program can't be run by another user")
             self.assertEqual(self.verdicts(), before)
         # (what a run that was killed left isn't passed over)
         (Path(self.store) / f"{FILE}-wal").write_bytes(b"x" * 100)
