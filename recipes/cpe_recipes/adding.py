@@ -146,26 +146,30 @@ class Adding:
 
     def make_again(self) -> None:
         """Derives all that is kept beside the records of advisories, if other recipes derived it."""
-        if self._is_of_these_recipes():
+        if is_of_these_recipes(self._kept):
             return
         with self._kept.writing():
             # (another run may have been quicker)
-            if self._is_of_these_recipes():
+            if is_of_these_recipes(self._kept):
                 return
             self._read_numbers()
             for table in ("maker", "concerns", "ranged", "made"):
                 self._kept.put(f"DELETE FROM {table} WHERE ?", [(True,)])
+            edit = "UPDATE advisories SET id = ?, modified = ?, has_names = ?, state = ?, is_odd = ?, is_of_systems = ? WHERE place = ?"
             for (place,) in self._kept.rows("SELECT place FROM advisories"):
-                (data,) = self._kept.rows("SELECT data FROM advisories WHERE place = ?", (place,))[0]
-                derived = Derived.of(self._kept.read(record_of, data))
-                edit = "UPDATE advisories SET has_names = ?, state = ?, is_odd = ?, is_of_systems = ? WHERE place = ?"
-                self._kept.put(edit, [(*derived.columns(), place)])
+                data, is_of_records = self._kept.rows("SELECT data, is_of_records FROM advisories WHERE place = ?", (place,))[0]
+                record = in_form(self._kept.read(record_of, data), is_of_records)
+                derived = Derived.of(record)
+                self._kept.put(edit, [(*told_apart(record), *derived.columns(), place)])
                 derived.put(self._kept, place, self._number)
             self._put_numbers()
+            self._mark_again()
             self._kept.put("INSERT INTO maker VALUES (?)", [(maker(),)])
 
-    def _is_of_these_recipes(self) -> bool:
-        return self._kept.rows("SELECT digest FROM maker") == [(maker(),)]
+    def _mark_again(self) -> None:
+        self._kept.put("UPDATE advisories SET is_passed = ?, is_doubled = ?", [(False, False)])
+        for (id,) in self._kept.rows("SELECT id FROM advisories WHERE id IS NOT NULL GROUP BY id HAVING count(*) > 1"):
+            _mark(self._kept, id)
 
     def _put_numbers(self) -> None:
         names = [(number, *product, squeezed(product[1])) for product, number in self._new.items()]
@@ -227,9 +231,8 @@ class Adding:
         )
 
     def _put_advisories(self, page: Page, page_number: int) -> int:
-        records = [cve5.vulnerability(record) for record in page.records] if page.kind == RECORDS else page.records
         latest = _LatestAdvisories(self._kept, page.kind == RECORDS, self._number)
-        for number, record in enumerate(records):
+        for number, record in enumerate(page.records):
             latest.put(place_of(page_number, number), record)
         return latest.end()
 
@@ -282,6 +285,11 @@ class Adding:
         return True
 
 
+def is_of_these_recipes(kept: Kept) -> bool:
+    """Whether what is kept beside records was derived by these recipes."""
+    return kept.rows("SELECT digest FROM maker") == [(maker(),)]
+
+
 class _LatestProducts:
     """The products of a page that count, in place of those that are older (as dictionary.Products has it)."""
 
@@ -331,23 +339,27 @@ class _LatestAdvisories:
         self._changed = 0
 
     def put(self, place: int, record: Json) -> None:
-        id, modified = told_apart(record)
+        form = in_form(record, self._is_of_records)
+        id, modified = told_apart(form)
         if id is None:
             self._insert(place, None, modified, record)
             return
         known = self._kept.rows("SELECT place, modified, data FROM advisories WHERE id = ? AND is_of_records = ?", (id, self._is_of_records))
         if known:
             now, before = _time(modified), _time(known[0][1])
-            if now < before or now == before and any(self._kept.read(record_of, data) == record for _, _, data in known):
+            if now < before or now == before and any(self._form_of(data) == form for _, _, data in known):
                 return
             if now > before:
                 self._delete(known)
         self._insert(place, id, modified, record)
-        self._mark(id)
+        _mark(self._kept, id)
+
+    def _form_of(self, data: bytes) -> Json:
+        return in_form(self._kept.read(record_of, data), self._is_of_records)
 
     def _insert(self, place: int, id: str | None, modified: str, record: Json) -> None:
         data = zlib.compress(json.dumps(record, ensure_ascii=False, separators=(",", ":")).encode(errors="surrogatepass"), 1)
-        derived = Derived.of(record)
+        derived = Derived.of(in_form(record, self._is_of_records))
         row = (place, id, self._is_of_records, modified, *derived.columns(), False, False, data)
         self._kept.put("INSERT INTO advisories VALUES (?, ?, ?, ?, ?, ?, ?, ?, ?, ?, ?)", [row])
         derived.put(self._kept, place, self._number_of)
@@ -355,7 +367,7 @@ class _LatestAdvisories:
 
     def _delete(self, known: Iterable[tuple[int, str, bytes]]) -> None:
         for place, _, data in known:
-            record = self._kept.read(record_of, data)
+            record = self._form_of(data)
             concern = concern_of(record)
             if concern is not None:
                 products = [(self._number_of(product), place) for product in concern.products]
@@ -364,22 +376,33 @@ class _LatestAdvisories:
             for table in ("advisories", "made"):
                 self._kept.put(f"DELETE FROM {table} WHERE place = ?", [(place,)])
 
-    def _mark(self, id: str) -> None:
-        """Marks the records of an id that don't count beside those of the other feed, and those of which isn't known which is later."""
-        rows = self._kept.rows("SELECT place, is_of_records, has_names FROM advisories WHERE id = ?", (id,))
-        if len(rows) == 1:
-            return
-        nvd, records = ([row for row in rows if bool(row[1]) == is_of_records] for is_of_records in (False, True))
-        passed = []
-        if nvd and records:
-            is_analysed, has_names = any(row[2] for row in nvd), any(row[2] for row in records)
-            passed = records if is_analysed or not has_names else nvd
-        is_doubled = len(rows) - len(passed) > 1
-        edits = [(row in passed, is_doubled, row[0]) for row in rows]
-        self._kept.put("UPDATE advisories SET is_passed = ?, is_doubled = ? WHERE place = ?", edits)
-
     def end(self) -> int:
         return self._changed
+
+
+def _mark(kept: Kept, id: str) -> None:
+    """Marks the records of an id that don't count beside those of the other feed, and those of which isn't known which is later."""
+    rows = kept.rows("SELECT place, is_of_records, has_names FROM advisories WHERE id = ?", (id,))
+    if len(rows) > 1:
+        edits = ((*marks, place) for place, marks in marks_of(rows).items())
+        kept.put("UPDATE advisories SET is_passed = ?, is_doubled = ? WHERE place = ?", edits)
+
+
+def marks_of(rows: Sequence[tuple[int, int, int]]) -> dict[int, tuple[bool, bool]]:
+    """By the places of all records of an id, whether one doesn't count beside those of the other feed, and whether it isn't known which is
+    later. Each of the rows has a place, whether it is a CVE record, and whether it has names."""
+    nvd, records = ([row for row in rows if bool(row[1]) == is_of_records] for is_of_records in (False, True))
+    passed: Sequence[tuple[int, int, int]] = []
+    if nvd and records:
+        is_analysed, has_names = any(row[2] for row in nvd), any(row[2] for row in records)
+        passed = records if is_analysed or not has_names else nvd
+    is_doubled = len(rows) - len(passed) > 1
+    return {row[0]: (row in passed, is_doubled) for row in rows}
+
+
+def in_form(record: Json, is_of_records: bool) -> Json:
+    """The record of an advisory in NVD's form."""
+    return cve5.vulnerability(record) if is_of_records else record
 
 
 def told_apart(record: Json) -> tuple[str | None, str]:
@@ -427,7 +450,7 @@ class Derived:
 
 
 def record_of(data: bytes) -> Json:
-    """The record of an advisory as it is kept."""
+    """The record of an advisory as it is kept, which is as it came."""
     return json.loads(zlib.decompress(data).decode(errors="surrogatepass"))
 
 

@@ -1,19 +1,30 @@
-"""Reads all of a store again, and compares what is kept beside each record with that record, as adding.py puts it."""
+"""Reads all of a store again, and compares what is derived of it with that, as adding.py and settling.py put it.
+
+That is what is kept beside advisories, the products of the dictionary's names, where deprecations lead, which records of an id count, and
+what the pages say together. It doesn't see that a product, a list, a title or a time of the store is another one than was added, or that
+what was kept of matches that give items names isn't there: of these nothing else is kept.
+"""
 from __future__ import annotations
 
 import json
 import zlib
 from collections.abc import Iterator
 
-from .adding import Derived, record_of, told_apart
+from .adding import KINDS, NO_PRODUCT, Derived, in_form, marks_of, record_of, told_apart
 from .concern import Concern, plain_name
+from .feeds import Json
 from .kept import Kept, page_and_number
 from .made import maker
+from .matches import key_of_name
+from .product_index import squeezed
+from .program import Program
 from .said import Said
+from .settling import told_of, worked_out
 from .unanalysed import id_of
+from .whole import CALLED
 
 
-def check(kept: Kept, said: Said) -> int:
+def check(kept: Kept, program: Program, said: Said) -> int:
     """Says what is wrong, and returns how many records were read."""
     for (text,) in kept.rows("PRAGMA integrity_check"):
         if text != "ok":
@@ -28,6 +39,11 @@ def check(kept: Kept, said: Said) -> int:
             said.left_out(f"record {number + 1} of page {page}", "no such page is in the store")
         elif wrong:
             said.left_out(f"record {number + 1} of page {page}", wrong)
+    for place, wrong in (*_leads(kept, numbers), *_marks(kept)):
+        page, number = page_and_number(place)
+        said.left_out(f"record {number + 1} of page {page}", wrong)
+    if not said.left:
+        _check_together(kept, program, said)
     for product, place in kept.rows("SELECT product, place FROM concerns WHERE place NOT IN (SELECT place FROM advisories)"):
         said.left_out(f"product {product}", f"it has an advisory at {place}, which isn't there")
     return count
@@ -48,10 +64,10 @@ def _advisories(kept: Kept, numbers: dict[int, tuple[str, str]]) -> Iterator[tup
     for key, place, product in kept.each("SELECT key, place, product FROM ranged"):
         ranges.setdefault(place, set()).add((key, numbers.get(product, ("", ""))))
     is_of_these = kept.rows("SELECT digest FROM maker") == [(maker(),)]
-    columns_of = "place, id, modified, a.data, made.data, has_names, state, is_odd, is_of_systems"
-    for place, id, modified, data, made, *columns in kept.each(f"SELECT {columns_of} FROM advisories a LEFT JOIN made USING (place)"):
+    columns_of = "place, id, modified, is_of_records, a.data, made.data, has_names, state, is_odd, is_of_systems"
+    for place, id, modified, is_of_records, data, made, *columns in kept.each(f"SELECT {columns_of} FROM advisories a LEFT JOIN made USING (place)"):
         try:
-            record = record_of(data)
+            record = in_form(record_of(data), is_of_records)
         except (ValueError, zlib.error):
             yield place, "its record can't be read"
             continue
@@ -61,6 +77,51 @@ def _advisories(kept: Kept, numbers: dict[int, tuple[str, str]]) -> Iterator[tup
         is_right = is_right and products.get(place, set()) == concern.products and ranges.get(place, set()) == derived.named
         is_right = is_right and (made == derived.made or not is_of_these)
         yield place, "" if is_right else f"what is kept beside {id_of(record) or 'it'} is of another record"
+
+
+def _leads(kept: Kept, products: dict[int, tuple[str, str]]) -> Iterator[tuple[int, str]]:
+    """The products of which it isn't kept where their deprecations lead."""
+    numbers = {product: number for number, product in products.items()}
+    there = set(kept.rows("SELECT product, successor FROM leads"))
+
+    def number_of(name: Json) -> int | None:
+        key = key_of_name(name) if isinstance(name, str) else None
+        return NO_PRODUCT if key is None else numbers.get(key)
+
+    for place, text in kept.each("SELECT place, change FROM products WHERE change IS NOT NULL"):
+        try:
+            name, _, _, by, of = json.loads(text)
+        except ValueError:
+            yield place, "its deprecation can't be read"
+            continue
+        own = number_of(name)
+        if not there.issuperset([*((own, number_of(one)) for one in by), *((number_of(one), own) for one in of)]):
+            yield place, "it isn't kept where its deprecation leads"
+
+
+def _marks(kept: Kept) -> Iterator[tuple[int, str]]:
+    """The advisories with other marks than they have beside those of the same id."""
+    of_ids: dict[object, list[tuple[int, int, int]]] = {}
+    marks = {}
+    for place, id, is_of_records, has_names, is_passed, is_doubled in kept.each(
+        "SELECT place, id, is_of_records, has_names, is_passed, is_doubled FROM advisories"
+    ):
+        of_ids.setdefault(place if id is None else id, []).append((place, is_of_records, has_names))
+        marks[place] = (bool(is_passed), bool(is_doubled))
+    for rows in of_ids.values():
+        for place, wanted in marks_of(rows).items():
+            if marks[place] != wanted:
+                yield place, "its marks are those of one beside other records of its id"
+
+
+def _check_together(kept: Kept, program: Program, said: Said) -> None:
+    for number, product, words in kept.rows("SELECT number, product, squeezed FROM names"):
+        if squeezed(product) != words:
+            said.left_out(f"product {number}", "it is kept with other words")
+    unsettled = {kind for (kind,) in kept.rows("SELECT kind FROM unsettled")}
+    for kind in KINDS:
+        if kind not in unsettled and list(told_of(kept, kind)) != json.loads(json.dumps(worked_out(kept, program, kind))):
+            said.left_out(CALLED[kind], "what is kept of their pages together is of other pages")
 
 
 def _matches(kept: Kept) -> Iterator[tuple[int, str]]:

@@ -6,20 +6,23 @@ ended isn't there.
 from __future__ import annotations
 
 import contextlib
+import os
 import re
 import sqlite3
 import zlib
 from collections.abc import Callable, Iterable, Iterator, Sequence
 from pathlib import Path
 from typing import TypeVar
+from urllib.parse import quote
 
 from .said import Fatal, why
 
-Read = TypeVar("Read")
+Kind, Read = TypeVar("Kind"), TypeVar("Read")
 
 FILE = "feeds.sqlite"
 # (change it with the tables, and with what is kept beside products and matches; what is kept beside advisories is made again)
 VERSION = 2
+ADD_AGAIN = "run store.py add --store FOLDER as one who can write there"
 # By this number SQLite's own header says whose file it is.
 _APPLICATION = 0x43504553
 _SECONDS_TO_WAIT = 10
@@ -99,14 +102,37 @@ class Kept:
                 Path(folder).mkdir(parents=True, exist_ok=True)
             except OSError as fault:
                 raise Fatal(f"{folder}: no store can be made there: {why(fault)}") from fault
+        # (what the file was before a reading by which none who writes can be seen)
+        self._before: tuple[int, int] | None = None
         with self._telling():
-            self._connection = sqlite3.connect(self._path, timeout=_SECONDS_TO_WAIT, isolation_level=None)
+            self._connection = self._connected(is_made)
             self._connection.text_factory = _read_text
             try:
                 self._open(is_made)
             except BaseException:
                 self._connection.close()
                 raise
+
+    def _connected(self, is_made: bool) -> sqlite3.Connection:
+        """The file, opened. If the folder can't be written, it is only read."""
+        if is_made or os.access(self.folder, os.W_OK, effective_ids=os.access in os.supports_effective_ids):
+            return sqlite3.connect(self._path, timeout=_SECONDS_TO_WAIT, isolation_level=None)
+        uri = f"file:{quote(os.path.abspath(self._path))}?mode=ro"
+        connection = sqlite3.connect(uri, timeout=_SECONDS_TO_WAIT, isolation_level=None, uri=True)
+        try:
+            connection.execute("SELECT count(*) FROM sqlite_master").fetchone()
+        except sqlite3.OperationalError as fault:
+            # (so it is if none writes to the store; then all of it is in the file)
+            connection.close()
+            if os.path.exists(f"{self._path}-wal") and os.path.getsize(f"{self._path}-wal"):
+                raise Fatal(f"{self.folder}: it can't be written, and a run that added pages was stopped; {ADD_AGAIN}") from fault
+            self._before = self._state()
+            connection = sqlite3.connect(f"{uri}&immutable=1", isolation_level=None, uri=True)
+        return connection
+
+    def _state(self) -> tuple[int, int]:
+        found = os.stat(self._path)
+        return found.st_mtime_ns, found.st_size
 
     def _open(self, is_made: bool) -> None:
         pragma = {name: self._connection.execute(f"PRAGMA {name}").fetchone()[0] for name in ("application_id", "user_version")}
@@ -150,6 +176,8 @@ class Kept:
                 yield
             finally:
                 self._connection.execute("ROLLBACK")
+        if self._before not in (None, self._state()):
+            raise Fatal(f"{self.folder}: another run added pages meanwhile; scan when that is done")
 
     @contextlib.contextmanager
     def writing(self) -> Iterator[None]:
@@ -192,8 +220,8 @@ class Kept:
         with self._telling():
             self._connection.executemany(query, map(_kept, rows))
 
-    def read(self, reader: Callable[[bytes], Read], data: bytes) -> Read:
-        """What is read of bytes that were kept. Fatal if that can't be."""
+    def read(self, reader: Callable[[Kind], Read], data: Kind) -> Read:
+        """What is read of something that was kept. Fatal if that can't be."""
         try:
             return reader(data)
         except (ValueError, TypeError, KeyError, zlib.error) as fault:

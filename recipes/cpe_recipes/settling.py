@@ -39,12 +39,22 @@ def settle(kept: Kept, program: Program) -> None:
         return
     with kept.writing():
         for (kind,) in kept.rows("SELECT kind FROM unsettled"):
-            told = list(_told_of_pages(kept, kind))
-            if kind == "products":
-                told += _told_of_dictionary(kept, program)
+            found = worked_out(kept, program, kind)
             kept.put("DELETE FROM told WHERE kind = ?", [(kind,)])
-            kept.put("INSERT INTO told VALUES (?, ?, ?)", ((kind, number, json.dumps(one)) for number, one in enumerate(told)))
+            kept.put("INSERT INTO told VALUES (?, ?, ?)", ((kind, number, json.dumps(one)) for number, one in enumerate(found)))
         kept.put("DELETE FROM unsettled WHERE ?", [(True,)])
+
+
+def worked_out(kept: Kept, program: Program, kind: str) -> list[dict[str, Json]]:
+    """What the pages of a kind say together."""
+    found = list(_told_of_pages(kept, kind))
+    return found + _told_of_dictionary(kept, program) if kind == "products" else found
+
+
+def noted_now(kept: Kept, program: Program, kind: str) -> Iterable[dict[str, Json]]:
+    """The same as it is now, kept or not. Nothing is written."""
+    is_unsettled = kept.one("SELECT 1 FROM unsettled WHERE kind = ?", (kind,)) is not None
+    return worked_out(kept, program, kind) if is_unsettled else told_of(kept, kind)
 
 
 def is_settled(kept: Kept) -> bool:
@@ -52,20 +62,20 @@ def is_settled(kept: Kept) -> bool:
     return kept.one("SELECT 1 FROM unsettled") is None
 
 
-def tell_unended(kept: Kept, said: Said) -> None:
+def say_unended(kept: Kept, said: Said) -> None:
     """Says which runs of store.py add have not ended: what they hadn't come to isn't there."""
     for began, paths in kept.rows("SELECT began, paths FROM runs WHERE paths IS NOT NULL ORDER BY number"):
         some = whole.some_of(list(map(os.path.basename, json.loads(paths))))
         said.left_out(some, f"store.py add of this began at {began} and has not ended: pages may be missing until it is run again, to its end")
 
 
-def tell_unread(kept: Kept, said: Said) -> None:
+def say_unread(kept: Kept, said: Said) -> None:
     """Says which files, or members of archives among them, could not be read when they were added."""
     for path, place, reason in kept.rows("SELECT key, place, reason FROM faults WHERE kind = ? ORDER BY key, place", (FILES,)):
         said.left_out(place, f"{reason}; it isn't in the store, until a good one is added from {path}")
 
 
-def tell_faults(kept: Kept, kind: str, keys: Collection[str] | None, said: Said) -> None:
+def say_faults(kept: Kept, kind: str, keys: Collection[str] | None, said: Said) -> None:
     """Says which records of these ids, or of all, could not be read when their pages were added."""
     for key, place, reason in kept.rows("SELECT key, place, reason FROM faults WHERE kind = ? ORDER BY key, place", (kind,)):
         if keys is None or key in keys:
@@ -147,7 +157,7 @@ def candidates_of(kept: Kept, rows: Iterable[tuple]) -> Iterator[Candidate]:
     changes = []
     for place, name, title, day, id, change, odd, fault in rows:
         page, number = page_and_number(place)
-        placed = Placed(id or "", None, sources[page], number + 1)
+        placed = Placed(id or "", None, kept.read(sources.__getitem__, page), number + 1)
         if fault is not None:
             yield candidate_at(placed, placed.id, reason=fault)
             continue

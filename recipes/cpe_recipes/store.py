@@ -7,9 +7,12 @@
 - add: adds pages of NVD's API 2.0 or its feeds, of products, advisories and matches, and CVE records of format 5, plain, packed or in
   archives. A folder that isn't there is made. If a record is there more than once, the one that was modified last counts. So pages of
   changes replace what they have, older ones change nothing, and a page that is there already is passed over. Each page is added whole or
-  not at all. If a run was stopped or killed, or the disk was full, run it again. Without pages it works out what a stopped one had not.
-- status: how much is in the store, when it was last added to, and which pages of a feed are missing.
-- check: reads all of it again, and compares what is kept beside each record with that record.
+  not at all. If a run was stopped or killed, or the disk was full, run it again with the same pages: until then each scan reports it as
+  left out, as it does with what could not be read, until a good one comes. Without pages it works out what a stopped one had not.
+- status: how much is in the store, when it was last added to, which pages of a feed are missing, which runs that add have not ended, and
+  what could not be read.
+- check: reads all of it again, and compares what is derived of it with that. It doesn't see a product, a list, a title or a time that is
+  another one than was added, or that a product or a list isn't there any more: of these nothing else is kept.
 
 `scan.py --store FOLDER` scans from it (kept.py, adding.py and stored.py say how). The status is 0 if all was added, or nothing is missing or
 wrong; 1 if something was left out, is missing or wrong, which is reported; 2 if there is no store, or it can't be read or written.
@@ -27,7 +30,7 @@ from .latest import time_of
 from .program import Program
 from .progress import Progress
 from .said import Fatal, Output, Said
-from .settling import settle, tell_faults, tell_unended, tell_unread, told_of
+from .settling import settle, say_faults, say_unended, say_unread, told_of
 from .table import counted
 from .unpack import LARGE, TOLD_LIMITS
 from .whole import CALLED, Missing
@@ -102,9 +105,9 @@ def _lines(kept: Kept, said: Said) -> Iterator[str]:
         yield f"{CALLED[kind]}: {count:,}{_last(kept, f'SELECT DISTINCT modified FROM {table} WHERE 1{more}')}"
     rejected, unanalysed = kept.rows("SELECT sum(state = 'Rejected'), sum(state != 'Rejected') FROM advisories WHERE is_passed = 0 AND state IS NOT NULL")[0]
     yield f"of these rejected: {rejected or 0:,}, not analysed: {unanalysed or 0:,}"
-    tell_unended(kept, said)
-    tell_unread(kept, said)
-    tell_faults(kept, "matchStrings", None, said)
+    say_unended(kept, said)
+    say_unread(kept, said)
+    say_faults(kept, "matchStrings", None, said)
     for (kind,) in kept.rows("SELECT kind FROM unsettled"):
         said.left_out(CALLED[kind], "what their pages say together was not worked out by the run that added them; run store.py add")
     for kind in KINDS:
@@ -126,6 +129,6 @@ def _last(kept: Kept, query: str) -> str:
 def _check(folder: str, read: Words, said: Said, output: Output) -> None:
     kept = Kept(folder)
     with kept.reading():
-        count = checking.check(kept, said)
+        count = checking.check(kept, Program(), said)
     kept.close()
     output.line(f"{counted(count, 'record')} read again, {said.left} wrong")

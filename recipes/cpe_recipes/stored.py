@@ -8,12 +8,12 @@ from collections.abc import Collection, Iterable, Iterator, Mapping, Sequence
 from dataclasses import dataclass
 
 from . import advisories, names
-from .adding import NO_PRODUCT, Adding, record_of
+from .adding import NO_PRODUCT, Adding, in_form, is_of_these_recipes, record_of
 from .cases import Asked, Known
 from .components import Machine
 from .decide import leads_of
 from .feeds import ADVISORIES, Page, Source
-from .kept import Kept, page_and_number
+from .kept import ADD_AGAIN, Kept, page_and_number
 from .made import MadeStatements, read
 from .matches import key_of_name
 from .naming import Unnamed, name_machines, wanted_names
@@ -22,7 +22,7 @@ from .near_products import OPEN, Product, key_of
 from .product_index import squeezed
 from .program import Program
 from .said import Deferred, Fatal, Mute, Said
-from .settling import candidates_of, is_settled, rows_of_products, settle, tell_faults, tell_unended, tell_unread, told_of
+from .settling import candidates_of, rows_of_products, say_faults, say_unended, say_unread, noted_now
 from .unanalysed import States
 from .whole import Missing, Reading
 
@@ -46,28 +46,35 @@ class Stored:
         self._kept, self._program, self._said, self._reading = Kept(folder), program, said, reading
         # (the places of the advisories with a match that lists items of the products that are looked for)
         self._listing: set[int] = set()
+        # (the ids of matches that could not be read)
+        self._faulty: set[str] = set()
 
     @contextlib.contextmanager
     def opened(self) -> Iterator[Stored]:
-        """All that is taken within is of one time, and worked out."""
+        """All that is taken within is of one time. Nothing is written, unless other recipes filled the store."""
         try:
             for _ in range(_TRIES):
-                Adding(self._kept, self._said).make_again()
-                settle(self._kept, self._program)
+                self._make_again()
                 with self._kept.reading():
-                    # (another run may have added a page since then)
-                    if is_settled(self._kept):
-                        tell_unended(self._kept, self._said)
-                        tell_unread(self._kept, self._said)
+                    # (another run, of other recipes, may have been there since then)
+                    if is_of_these_recipes(self._kept):
+                        say_unended(self._kept, self._said)
+                        say_unread(self._kept, self._said)
                         yield self
                         return
-            raise Fatal(f"{self._kept.folder}: another run adds pages to the store; scan when that is done")
+            raise Fatal(f"{self._kept.folder}: other recipes write to the store; scan when that is done")
         finally:
             self._kept.close()
 
+    def _make_again(self) -> None:
+        try:
+            Adding(self._kept, self._said).make_again()
+        except Fatal as fault:
+            raise Fatal(f"{fault}; other recipes filled the store, so all that they derived must be derived again: {ADD_AGAIN}") from fault
+
     def _tell(self, kind: str) -> None:
         """Says what was worked out of the feeds of a kind."""
-        for one in told_of(self._kept, kind):
+        for one in noted_now(self._kept, self._program, kind):
             if "missing" in one:
                 self._reading.judge([Missing(*one["missing"])], self._said, " (--partial lets it pass)")
             elif "remark" in one:
@@ -80,6 +87,10 @@ class Stored:
         unnamed, wanted = self._named(asked, tables)
         places = self._places(wanted, ids, is_all)
         self._tell(ADVISORIES)
+        # (such a match may list what is here, though its advisory isn't read)
+        query = "SELECT DISTINCT key FROM faults WHERE kind = 'matchStrings' AND key IN (SELECT key FROM ranged)"
+        self._faulty = {key for (key,) in self._kept.rows(query)}
+        say_faults(self._kept, "matchStrings", self._faulty, self._said)
         found, made, states = self._converted(places)
         records = self._program.accepted_statements(found.candidates, self._said)
         order, elsewhere = self._in_order(places)
@@ -198,9 +209,9 @@ class Stored:
         for place in places:
             page, number = page_and_number(place)
             if page not in found:
-                name, is_of_records = named[page]
+                name, is_of_records = self._kept.read(named.__getitem__, page)
                 found[page] = Page(name, ADVISORIES, [], numbers=[], is_of_records=is_of_records)
-            found[page].records.append(made[place] if place in made else self._kept.read(record_of, raw[place]))
+            found[page].records.append(made[place] if place in made else in_form(self._kept.read(record_of, raw[place]), found[page].is_of_records))
             found[page].numbers.append(number + 1)  # type: ignore[union-attr]
         return list(found.values())
 
@@ -232,7 +243,7 @@ class Stored:
     def listed(self, keys: Collection[str]) -> dict[str, list[str]]:
         """The names that the match feed lists for these matches."""
         self._tell("matchStrings")
-        tell_faults(self._kept, "matchStrings", set(keys), self._said)
+        say_faults(self._kept, "matchStrings", set(keys) - self._faulty, self._said)
         found: dict[str, list[str]] = {}
         for _, key, listed in sorted(self._kept.rows_of("SELECT place, key, listed FROM matches WHERE key IN {}", keys)):
             found.setdefault(key, []).extend(self._kept.read(json.loads, listed))

@@ -145,7 +145,7 @@ def missing_of(kind: str, spans: Sequence[Span], said: Said) -> list[Missing]:
 
 
 def fault_of(page: Page) -> str:
-    """Why it isn't known which part of its feed a page is; nothing if it is known, or if it doesn't tell how many its feed has."""
+    """Why it isn't known which part of its feed a page is; nothing if it is known, or if it doesn't say how many its feed has."""
     count, total = len(page.records), page.counts.get("totalResults")
     if total is None or "startIndex" in page.counts or count == total:
         return ""
@@ -274,7 +274,7 @@ def _missing(kind: str, spans: Sequence[Span], said: Said) -> Iterator[Missing]:
 
 
 def _feeds(spans: Sequence[Span]) -> Iterator[list[Span]]:
-    """The pages of each feed, or of all that tell the same total."""
+    """The pages of each feed, or of all that say the same total."""
     groups: dict[int, list[Span]] = {}
     for span in spans:
         if not span.is_alone() and span.end() <= span.total:
@@ -294,7 +294,7 @@ def _feeds(spans: Sequence[Span]) -> Iterator[list[Span]]:
 
 
 def _times(spans: Sequence[Span], total: int) -> int:
-    """Of how many feeds of so many records each these are pages, at least."""
+    """Of how many feeds these are pages, at least, if each has this many records."""
     # (of one without an id isn't known whether it comes twice)
     return max(1, -(-len({id for span in spans for id in span.ids} - {None}) // max(total, 1)))
 

@@ -20,7 +20,7 @@ from test_portions import SMALL, advisory, limited, match
 
 from test_feeds import Heard
 
-from cpe_recipes import adding, feeds, fleet, made, scan, settling, store
+from cpe_recipes import adding, cve5, feeds, fleet, made, scan, store, stored
 from cpe_recipes.kept import FILE, VERSION, Kept
 from cpe_recipes.program import Program
 from cpe_recipes.said import Fatal
@@ -60,6 +60,19 @@ def killed(words, moment):
         finally:
             os._exit(0)
     return os.WIFSIGNALED(os.waitpid(process, 0)[1])
+
+
+@contextmanager
+def as_another():
+    """Whoever may write everywhere is another one meanwhile, who may not."""
+    is_root = os.geteuid() == 0
+    if is_root:
+        os.seteuid(65534)
+    try:
+        yield
+    finally:
+        if is_root:
+            os.seteuid(0)
 
 
 class Sequence:
@@ -213,6 +226,25 @@ class Stores(RecipeCase):
             connection.execute("DELETE FROM concerns")
         connection.close()
         self.assertEqual(self.verdicts(), before)
+        self.assertEqual(ran(store.run, ["check", "--store", self.store])[0], 0)
+
+    def test_a_cve_record_that_older_recipes_converted(self):
+        record = {"dataType": "CVE_RECORD", "dataVersion": "5.1", "cveMetadata": {"cveId": "CVE-2024-0005", "state": "PUBLISHED", "dateUpdated": "2024-01-01T00:00:00Z"}}
+        affected = {"cpes": [HERE], "defaultStatus": "affected", "versions": [{"version": "1.0", "status": "affected", "versionType": "semver"}]}
+        record["containers"] = {"cna": {"affected": [affected], "descriptions": [{"lang": "en", "value": "x"}]}}
+        real = cve5.vulnerability
+
+        def older(one):
+            found = real(one)
+            found["cve"].pop("configurations", None)
+            return found
+
+        path = self.file("record.json", json.dumps([record]))
+        with mock.patch.object(adding, "maker", lambda: "older"), mock.patch.object(cve5, "vulnerability", older):
+            self.filled()
+            self.add(path, page("vulnerabilities", cve(5)))
+        # (now it has names, so that it counts in place of NVD's, which isn't analysed)
+        self.assertEqual(self.verdicts()[0], {"1": "TRUE", "5": "TRUE"})
         self.assertEqual(ran(store.run, ["check", "--store", self.store])[0], 0)
 
     def test_two_ranges_under_one_id_of_a_match(self):
@@ -418,7 +450,7 @@ class Stores(RecipeCase):
             "match strings: 0", "of these rejected: 0, not analysed: 1",
         ])
 
-    def test_the_last_time_is_told_by_the_time(self):
+    def test_the_last_time_is_the_latest(self):
         times = ("2024-06-01T00:30:00+02:00", "2024-05-31T23:00:00Z", "zzz", 99, None)
         self.add(page("products", product(HERE, None)), page("vulnerabilities", *(cve(n, match(HERE), modified=time) for n, time in enumerate(times, 1))))
         lines = ran(store.run, ["status", "--store", self.store])[1].splitlines()
@@ -444,7 +476,7 @@ class Stores(RecipeCase):
         self.assertEqual(self.verdicts()[0], dict.fromkeys("145", "TRUE"))
 
     def left(self, count):
-        """What a scan leaves out; status tells as much."""
+        """What a scan leaves out; status says as much."""
         left = self.verdicts(status=1 if count else 0)[1]["leftOut"]
         status, _, said = ran(store.run, ["status", "--store", self.store])
         self.assertEqual((len(left), len(said), status), (count, count, 1 if count else 0), said)
@@ -490,6 +522,11 @@ class Stores(RecipeCase):
         for record, count, is_read in zip(of, (1, 1, 0, 0), (False, True, True, False)):
             self.add(page("matchStrings", record, {"matchString": {"matchCriteriaId": "M", "matches": []}}), status=0 if is_read else 1)
             self.assertEqual([one["id"] for one in self.left(count)], ["L"] * count)
+        # (nor is what its items have otherwise)
+        self.machines = self.file("machines", f"m {fs('y', 'y', '1.0')}\n")
+        self.add(page("matchStrings", {"matchString": one | {"matches": ["x"], "lastModified": "2024-06-01T00:00:00.000"}}), status=1)
+        self.assertEqual([one["id"] for one in self.left(1)], ["L"])
+        self.add(page("matchStrings", {"matchString": one | {"lastModified": "2024-06-01T00:00:00.000"}}))
         # (of one that isn't wanted nothing is said)
         self.add(page("matchStrings", {"matchString": {"matchCriteriaId": "M", "matches": 7}}), status=1)
         self.assertEqual(self.verdicts()[1]["leftOut"], [])
@@ -619,19 +656,48 @@ class Stores(RecipeCase):
     def test_a_page_that_another_run_adds_meanwhile(self):
         self.filled()
         late = self.file("late.json", page("vulnerabilities", cve(9, match(HERE)), start=1, total=2))
-        runs = []
 
-        def settle(*given):
-            settling.settle(*given)
-            runs.append(given)
-            if len(runs) == 1:
-                kept = Kept(self.store)
-                adding.Adding(kept, Heard()).put(next(feeds.pages([late], Heard(), adding.KINDS)))
-                kept.close()
+        def added(*given):
+            kept = Kept(self.store)
+            adding.Adding(kept, Heard()).put(next(feeds.pages([late], Heard(), adding.KINDS)))
+            kept.close()
 
-        with mock.patch("cpe_recipes.stored.settle", settle):
+        # (what the pages say together is worked out by the scan then)
+        with mock.patch.object(stored.Stored, "_make_again", added):
             self.assertIn("the feed has 2 advisories, 1 were given", self.scan_is_fatal())
-        self.assertEqual(len(runs), 2)
+
+    def test_a_scan_writes_nothing(self):
+        with mock.patch("cpe_recipes.store.settle", side_effect=KeyboardInterrupt), self.assertRaises(KeyboardInterrupt):
+            self.filled()
+        connection = sqlite3.connect(Path(self.store) / FILE, isolation_level=None)
+        self.addCleanup(connection.close)
+        # (another run writes meanwhile)
+        connection.execute("BEGIN IMMEDIATE")
+        with mock.patch("cpe_recipes.kept._SECONDS_TO_WAIT", 0.1):
+            self.assertEqual(self.verdicts(status=1)[0], {"1": "TRUE"})
+            connection.execute("UPDATE maker SET digest = 'other'")
+            connection.execute("COMMIT")
+            connection.execute("BEGIN IMMEDIATE")
+            self.assertIn("other recipes filled the store, so all that they derived must be derived again: run store.py add", self.scan_is_fatal())
+
+    def test_a_store_that_can_not_be_written(self):
+        self.filled()
+        for path, mode in ((self.folder, 0o755), (Path(self.store), 0o555), (Path(self.store) / FILE, 0o444)):
+            path.chmod(mode)
+        self.addCleanup(Path(self.store).chmod, 0o755)
+        before, program = self.verdicts(), Program().path
+        with as_another():
+            if shutil.which(program) is None:
+                self.skipTest("the program can't be run by another user")
+            self.assertEqual(self.verdicts(), before)
+        # (what a run that was killed left isn't passed over)
+        (Path(self.store) / f"{FILE}-wal").write_bytes(b"x" * 100)
+        with as_another():
+            self.assertIn("run store.py add --store FOLDER as one who can write there", self.scan_is_fatal())
+        # (nor what is written meanwhile)
+        (Path(self.store) / f"{FILE}-wal").unlink()
+        with as_another(), mock.patch.object(Kept, "_state", side_effect=[(1, 1), (2, 2)]):
+            self.assertIn("another run added pages meanwhile", self.scan_is_fatal())
 
     def test_two_runs_that_add_at_once(self):
         pages = [self.file(f"two-{k}.json", page("vulnerabilities", *(cve(10 * k + n, match(fs("v", f"p{k}{n}"))) for n in range(9)))) for k in range(12)]
@@ -664,11 +730,17 @@ class Stores(RecipeCase):
             "its state": "UPDATE advisories SET state = 'Rejected'", "its record": "UPDATE advisories SET data = x'00' WHERE place % 2",
             "its name": "UPDATE products SET product = product % 2 + 1", "its page": "DELETE FROM pages WHERE kind = 'products'",
             "what it becomes": "UPDATE made SET data = x'00'", "its id": "UPDATE advisories SET id = 'CVE-2024-0009'", "an advisory that isn't there": "DELETE FROM advisories",
+            "where it leads": "DELETE FROM leads", "that it counts": "UPDATE advisories SET is_passed = 1 WHERE id LIKE '%2'",
+            "that another one isn't later": "UPDATE advisories SET is_doubled = 1", "its words": "UPDATE names SET squeezed = 'other'",
+            "what is missing": "UPDATE told SET text = '{\"remark\":\"other\"}'", "how many its feed has": "UPDATE pages SET total = 99",
         }
         for what, edit in edits.items():
             with self.subTest(what):
                 shutil.rmtree(self.store, ignore_errors=True)
                 self.filled()
+                old = product(fs("o", "p"), deprecated=True, deprecatedBy=[{"cpeName": HERE}])
+                self.add(page("products", old), page("vulnerabilities", cve(5, match(HERE)), total=2))
+                self.assertEqual(ran(store.run, ["check", "--store", self.store])[0], 0)
                 with sqlite3.connect(Path(self.store) / FILE) as connection:
                     connection.execute(edit)
                 connection.close()
