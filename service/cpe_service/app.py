@@ -8,7 +8,7 @@ import json
 import os
 import time
 from collections import Counter
-from collections.abc import AsyncIterator, Callable, Mapping, Sequence
+from collections.abc import AsyncIterator, Callable, Iterable, Mapping, Sequence
 from dataclasses import dataclass, field
 from datetime import datetime, timezone
 from pathlib import Path
@@ -112,6 +112,9 @@ class Service:
         self._workers = [Worker(settings.folder, shard, settings.workers, self._notify) for shard in range(settings.workers)]
         self._rates = Rates(settings.rate, 2 * settings.rate)
         self._changed = asyncio.Event()
+        # (who waits for the verdicts of which list, and whether something happened since all of them were looked at)
+        self._unsettled: dict[asyncio.Future[None], tuple[str, int]] = {}
+        self._is_new, self._looking = False, None
         self._room = Room(4 * settings.most_feed)
         self._listeners: Counter[str] = Counter()
         self._tokens_fault = ""
@@ -150,6 +153,7 @@ class Service:
     def _notify(self) -> None:
         self._changed.set()
         self._changed = asyncio.Event()
+        self._look()
 
     def _wake(self) -> None:
         for worker in self._workers:
@@ -244,14 +248,32 @@ class Service:
 
     async def _wait(self, machine: str, edit: int) -> None:
         """Waits for the verdicts of a list. They may be there before anyone waits, or not come for long."""
-        loop = asyncio.get_running_loop()
-        end = loop.time() + self.settings.wait
-        while (left := end - loop.time()) > 0:
-            changed = self._changed
-            if await self.ask(queries.is_settled, machine, edit):
-                return
+        future: asyncio.Future[None] = asyncio.get_running_loop().create_future()
+        self._unsettled[future] = machine, edit
+        self._look()
+        try:
             with contextlib.suppress(asyncio.TimeoutError):
-                await asyncio.wait_for(changed.wait(), left)
+                await asyncio.wait_for(future, self.settings.wait)
+        finally:
+            del self._unsettled[future]
+
+    def _look(self) -> None:
+        """Has all lists that are waited for looked at, once more if that happens already."""
+        self._is_new = True
+        if self._unsettled and (self._looking is None or self._looking.done()):
+            self._looking = asyncio.get_running_loop().create_task(self._settle())
+
+    async def _settle(self) -> None:
+        """Answers those who wait and needn't any longer, by one question for all."""
+        while self._is_new and self._unsettled:
+            self._is_new = False
+            unsettled = dict(self._unsettled)
+            try:
+                settled = await self.ask(queries.settled, [*unsettled.values()])
+            except Exception as fault:  # noqa: BLE001 (it is the answer to each who waits)
+                _answer_all(unsettled, fault)
+            else:
+                _answer_all(future for future, one in unsettled.items() if one in settled)
 
     async def delete_machine(self, _request: Request, client: Client, machine: str) -> Response:
         found = await self._answer(self._lists, {"do": "delete", "name": machine, "client": client.name})
@@ -423,6 +445,15 @@ class Listening(StreamingResponse):
 def _who(client: Client | None, request: Request) -> str:
     """The client, by name or by address, of whom there are limits."""
     return client.name if client and client is not ANYONE else f"at {request.client.host if request.client else ''}"
+
+
+def _answer_all(futures: Iterable[asyncio.Future[None]], fault: Exception | None = None) -> None:
+    for future in futures:
+        if not future.done():
+            if fault is None:
+                future.set_result(None)
+            else:
+                future.set_exception(fault)
 
 
 def _shard(database: Any, name: str) -> int | None:

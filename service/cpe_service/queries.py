@@ -4,7 +4,7 @@ from __future__ import annotations
 import json
 import sqlite3
 from collections import Counter
-from collections.abc import Iterator
+from collections.abc import Iterator, Sequence
 from datetime import datetime, timezone
 
 from cpe_recipes.feeds import Json
@@ -127,14 +127,16 @@ def _fits(verdict: dict[str, Json], q: str, kind: str) -> bool:
     return (not kind or found == kind) and (not q or q in f"{verdict['id']} {verdict.get('title', '')}".lower())
 
 
-def is_settled(database: sqlite3.Connection, name: str, edit: int) -> bool:
-    """Whether a list of this edit has its verdicts, or has to wait for feeds, or is no longer there."""
-    row = database.execute("SELECT judged_put FROM machines WHERE name = ?", (name,)).fetchone()
-    if row is None or row["judged_put"] >= edit:
-        return True
-    # (what an older ground lacked may be there)
-    is_read = int(noted(database, "noted", "-1")) == ground_of(database)
-    return is_read and bool(json.loads(noted(database, "ground", "{}")).get("lacks"))
+def settled(database: sqlite3.Connection, lists: Sequence[tuple[str, int]]) -> set[tuple[str, int]]:
+    """Of lists, by their machines and edits, those that have their verdicts, or have to wait for feeds, or are no longer there."""
+    question = "SELECT name, judged_put FROM machines WHERE name IN (SELECT value FROM json_each(?))"
+    with reading(database):
+        # (what an older ground lacked may be there)
+        is_read = int(noted(database, "noted", "-1")) == ground_of(database)
+        if is_read and json.loads(noted(database, "ground", "{}")).get("lacks"):
+            return set(lists)
+        judged = dict(map(tuple, database.execute(question, (json.dumps([name for name, _ in lists]),))))
+    return {(name, edit) for name, edit in lists if name not in judged or judged[name] >= edit}
 
 
 def advisories(database: sqlite3.Connection, q: str, kind: str, limit: int, offset: int) -> tuple[list[Json], int]:

@@ -1,4 +1,5 @@
 """No machine is hidden: what wasn't read, known or decided is said, and keeps no machine waiting."""
+import asyncio
 import html
 import json
 import os
@@ -328,6 +329,62 @@ class ReadersTest(WorkerCase):
         service._readers = Taken([None])
         self.assertEqual(service._asked(queries.last_change, ()), 0)
         service._readers[1].close()
+
+
+class WaitTest(WorkerCase):
+    """Who waits for verdicts is asked for together with all others who wait."""
+
+    def setUp(self):
+        super().setUp()
+        self.service = app.Service(app.Settings(self.folder / "data", wait=20))
+        self.service.ask, self.asked = self.ask, []
+
+    async def ask(self, question, lists):
+        self.asked.append(list(lists))
+        return question(self.judges._database, lists)
+
+    def test_one_question_is_asked_for_all(self):
+        self.feed("products", product(NAME % "1"))
+        self.feed("vulnerabilities", advisory("CVE-2024-1", NAME % "1"))
+        for number in range(50):
+            self.put(f"m-{number}", NAME % "1")
+        lists = self.rows("name, put")
+
+        async def waits():
+            found = [asyncio.ensure_future(self.service._wait(*one)) for one in lists]
+            await asyncio.sleep(0.05)
+            self.assertEqual((self.asked, [one.done() for one in found]), ([lists], [False] * 50))
+            self.judges._step()
+            self.service._notify()
+            await asyncio.sleep(0.05)
+            self.assertEqual(sum(one.done() for one in found), 4)
+            self.judge()
+            self.service._notify()
+            await asyncio.wait_for(asyncio.gather(*found), 20)
+
+        asyncio.run(waits())
+        self.assertEqual(list(map(len, self.asked)), [50, 50, 46])
+        self.assertEqual(self.service._unsettled, {})
+
+    def test_what_ends_and_what_does_not(self):
+        lists = [("none", 1)]
+        self.assertEqual(queries.settled(self.judges._database, lists), set(lists))
+        self.put("m", NAME % "1")
+        (one,) = self.rows("name, put")
+        self.assertEqual(queries.settled(self.judges._database, [one]), set())
+        self.judge()
+        # (there is no feed for which it could wait)
+        self.assertEqual(queries.settled(self.judges._database, [one]), {one})
+
+    def test_a_fault_is_the_answer_to_each(self):
+        async def fails(question, lists):
+            raise OSError(28, "no space")
+
+        async def waits():
+            self.service.ask = fails
+            return await asyncio.gather(*(self.service._wait("m", number) for number in range(3)), return_exceptions=True)
+
+        self.assertEqual([type(one) for one in asyncio.run(waits())], [OSError] * 3)
 
 
 class ShownTest(ServiceCase):
