@@ -58,9 +58,20 @@ def cautions(database: sqlite3.Connection) -> dict[str, Json]:
         "total(instr(counts, '\"no items\"') > 0) noItems FROM machines",
         (ground_of(database),),
     ).fetchone()
-    about = json.loads(noted(database, "ground", "{}"))
+    about = _about_ground(database)
     lacks = {"lacks": about["lacks"]} if about.get("lacks") else {}
     return {key: int(row[key]) for key in row.keys()} | {"feedsLeftOut": len(about.get("leftOut", ())), **lacks}
+
+
+def _about_ground(database: sqlite3.Connection) -> dict[str, Json]:
+    """What is noted of the ground. What an older one lacks isn't said, since it may be there now."""
+    about = json.loads(noted(database, "ground", "{}"))
+    return about if is_read(database) else about | {"lacks": ""}
+
+
+def is_read(database: sqlite3.Connection) -> bool:
+    """Whether what is noted is of the ground as it is now."""
+    return int(noted(database, "noted", "-1")) == ground_of(database)
 
 
 def dictionary(database: sqlite3.Connection) -> dict[str, Json]:
@@ -69,8 +80,8 @@ def dictionary(database: sqlite3.Connection) -> dict[str, Json]:
     question = f"SELECT max(id) FROM edits WHERE kind IN ({marks}) AND what LIKE 'dictionary %'"
     with reading(database):
         edit = database.execute(question, GROUND).fetchone()[0]
-        is_read = edit is not None and int(noted(database, "names", "-1")) >= edit
-    return {"dictionary": "none" if edit is None else "current" if is_read else WAITING}
+        is_current = edit is not None and int(noted(database, "names", "-1")) >= edit
+    return {"dictionary": "none" if edit is None else "current" if is_current else WAITING}
 
 
 def _machine(row: sqlite3.Row, ground: int) -> dict[str, Json]:
@@ -131,9 +142,7 @@ def settled(database: sqlite3.Connection, lists: Sequence[tuple[str, int]]) -> s
     """Of lists, by their machines and edits, those that have their verdicts, or have to wait for feeds, or are no longer there."""
     question = "SELECT name, judged_put FROM machines WHERE name IN (SELECT value FROM json_each(?))"
     with reading(database):
-        # (what an older ground lacked may be there)
-        is_read = int(noted(database, "noted", "-1")) == ground_of(database)
-        if is_read and json.loads(noted(database, "ground", "{}")).get("lacks"):
+        if _about_ground(database).get("lacks"):
             return set(lists)
         judged = dict(map(tuple, database.execute(question, (json.dumps([name for name, _ in lists]),))))
     return {(name, edit) for name, edit in lists if name not in judged or judged[name] >= edit}
@@ -183,11 +192,10 @@ def advisory(database: sqlite3.Connection, id: str, kind: str, limit: int, offse
         ).fetchall()
         counts = Counter(dict(map(tuple, database.execute("SELECT kind, count(*) FROM verdicts WHERE advisory = ? GROUP BY kind", (id,)))))
         is_known = database.execute("SELECT 1 FROM advisories WHERE id = ?", (id,)).fetchone() is not None
-        is_read = int(noted(database, "noted", "-1")) == ground
+        if not is_known and not counts and not is_read(database):
+            raise Unread
     if not is_known and not counts:
-        if is_read:
-            return None
-        raise Unread
+        return None
     total = counts[kind] if kind else sum(counts.values())
     of = [{"name": row["name"], "verdict": row["kind"], "since": time_text(row["since"]), "state": state_of(row, ground)} for row in rows]
     return {"id": id, **details, "counts": dict(counts), "machines": of, "total": total}
@@ -227,9 +235,9 @@ def health(database: sqlite3.Connection) -> dict[str, Json]:
                 "SELECT kind, max(at) at FROM feeds WHERE state = 'counts' GROUP BY kind ORDER BY kind")],
         }
         found["trouble"] = [row["text"] for row in database.execute("SELECT text FROM notes WHERE name LIKE 'trouble %' ORDER BY name")]
-        is_read, about = int(noted(database, "noted", "-1")) == ground, json.loads(noted(database, "ground", "{}"))
+        found |= {"groundIsRead": is_read(database), **_about_ground(database)}
     found["feedsWaiting"] = [{**one, "at": time_text(one["at"])} for one in waiting(database)]
-    return found | {"groundIsRead": is_read, **about}
+    return found
 
 
 def _feed(row: sqlite3.Row) -> dict[str, Json]:

@@ -438,6 +438,16 @@ class ShownTest(ServiceCase):
 
 
 class UnjudgedTest(WorkerCase):
+    def test_what_an_older_ground_lacks_is_not_said_of_a_newer_one(self):
+        self.put("m", NAME % "1")
+        self.judge()
+        of_all = lambda: {queries.health(self.judges._database)["lacks"], queries.cautions(self.judges._database).get("lacks", "")}
+        self.assertEqual(of_all(), {"no dictionary was given yet"})
+        self.feed("products", product(NAME % "1"))
+        self.assertEqual(of_all(), {""})
+        self.judge()
+        self.assertEqual(of_all(), {"no advisory that can have a verdict was given yet"})
+
     def test_a_ground_that_can_not_be_read_again_is_no_fault_of_a_list(self):
         self.feed("products", product(NAME % "1"))
         self.feed("vulnerabilities", advisory("CVE-2024-1", NAME % "1"))
