@@ -156,9 +156,9 @@ def _missing(title: str, texts: Sequence[Json]) -> Iterator[str]:
 
 
 _UNJUDGED = (
-    ("waiting", "1 machine is", "machines are", "not judged yet by the newest list or feeds, so what is shown of them is older, or missing"),
-    ("faults", "1 machine has", "machines have", "no result of the newest list (their state is fault), so what is shown of them is older, or missing"),
-    ("noItems", "1 machine has", "machines have", "no items, so they have no verdicts"),
+    ("waiting", "1 machine is", "machines are", "not judged yet by the newest list or feeds, so what is shown is older, or missing"),
+    ("faults", "1 machine has", "machines have", "no result of the newest list (state fault), so what is shown is older, or missing"),
+    ("noItems", "1 machine has", "machines have", "no items, so there are no verdicts"),
 )
 
 

@@ -264,6 +264,9 @@ class CertificateTest(WorkerCase):
         self.put("m", OTHER)
         later = self.certificate("CVE-2024-9")
         self.assertEqual((later["state"], later["edit"]), ("waiting", found["edit"] + 1))
+        asked = {"machine": "m", "advisory": "CVE-2024-9"}
+        self.assertIn("The machine waits for its verdicts", pages.page("certificate", later | asked, asked))
+        self.assertNotIn("The machine waits", pages.page("certificate", found | asked, asked))
         self.judge()
         self.feed("vulnerabilities", advisory("CVE-2024-10", OTHER))
         self.assertEqual(self.certificate("CVE-2024-10")["state"], "waiting")
@@ -421,7 +424,7 @@ class ShownTest(ServiceCase):
         for path in ("/machines?kind=TRUE", "/advisories", "/advisories/CVE-2024-1", "/changes"):
             self.assertEqual(self.unjudged(server, path), (2, 0, 1), path)
             self.assertIn("2 machines are not judged yet", self.page(server, path))
-            self.assertIn("1 machine has no items", self.page(server, path))
+            self.assertIn("1 machine has no items, so there are no verdicts.", self.page(server, path))
         # (the dictionary is as it was)
         self.assertEqual(server.ask("GET", self.names)[1]["dictionary"], "current")
         server.feed(feed("products", product(OTHER)))
