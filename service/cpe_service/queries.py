@@ -53,12 +53,13 @@ def waiting_machines(database: sqlite3.Connection) -> int:
 def cautions(database: sqlite3.Connection) -> dict[str, Json]:
     """What has to be known beside a list of verdicts: how many machines wait for their verdicts, have no result of their list, or have no
     items, so that it is without these; and how much of the feeds was not read."""
-    row = database.execute(
+    question = (
         "SELECT total(put <> judged_put OR judged_ground <> ?) waiting, total(fault <> '') faults, "
-        "total(instr(counts, '\"no items\"') > 0) noItems FROM machines",
-        (ground_of(database),),
-    ).fetchone()
-    about = _about_ground(database)
+        "total(instr(counts, '\"no items\"') > 0) noItems FROM machines"
+    )
+    with reading(database):
+        row = database.execute(question, (ground_of(database),)).fetchone()
+        about = _about_ground(database)
     lacks = {"lacks": about["lacks"]} if about.get("lacks") else {}
     return {key: int(row[key]) for key in row.keys()} | {"feedsLeftOut": len(about.get("leftOut", ())), **lacks}
 
