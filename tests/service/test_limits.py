@@ -1,4 +1,4 @@
-"""Limits that no client passes, and what they see of it: files of tokens, connections, feeds whose pages are missing, and bodies that unpack to too much."""
+"""Limits that no client passes: files of tokens, connections, listeners, feeds whose pages are missing, and what takes too much memory."""
 import contextlib
 import dataclasses
 import io
@@ -70,8 +70,11 @@ class PathsTest(ServiceCase):
 
     def test_pathless(self):
         for text, wanted in (
-            ("/usr/lib/x/cpe resolve ended with status 3", "cpe resolve ended with status 3"), ("no such file: '/tmp/a/c'", "no such file: 'c'"),
-            ("there is no /opt/cpe/bin/cpe", "there is no cpe"), ("cpe:/a:x/y", "cpe:/a:x/y"), ("see https://a.example/b/c and /openapi.json", "see https://a.example/b/c and /openapi.json"),
+            ("/usr/lib/x/cpe resolve ended with status 3", "cpe resolve ended with status 3"),
+            ("no such file: '/tmp/a/c'", "no such file: 'c'"),
+            ("there is no /opt/cpe/bin/cpe", "there is no cpe"),
+            ("cpe:/a:x/y", "cpe:/a:x/y"),
+            ("https://a.example/b/c and /openapi.json", "https://a.example/b/c and /openapi.json"),
         ):
             self.assertEqual(pathless(text), wanted)
 
@@ -166,13 +169,24 @@ class EventsTest(ServiceCase):
                 last += 1
 
 
+# A list of eight million empty components is put where there are 300 MiB, and another one after it.
+BOMB = """
+import sys
+from pathlib import Path
+from cpe_service import database, keeper
+keeper.limit_memory(300 << 20)
+folder = Path(sys.argv[1])
+database.made(folder)
+keeps, put = keeper.Keeper(folder), {"do": "put", "name": "m", "client": "x"}
+answer = keeps.answer(put, b'{"bomFormat":"CycloneDX","components":[' + b"{}," * (8 << 20) + b"{}]}")
+print(answer, "edit" in keeps.answer(put, b"cpe:/a:ntp:ntp:4.2.8"))
+"""
+
+
 class MemoryTest(ServiceCase):
     def test_what_takes_more_memory_than_there_is_is_refused(self):
-        words = "from cpe_service import keeper, database; from pathlib import Path; keeper.limit_memory(300 << 20); folder = Path(sys.argv[1]); "
-        words += "database.made(folder); keeps = keeper.Keeper(folder); body = b'{\"bomFormat\":\"CycloneDX\",\"components\":[' + b'{},' * (8 << 20) + b'{}]}'; "
-        words += "put = {'do': 'put', 'name': 'm', 'client': 'x'}; print(keeps.answer(put, body), 'edit' in keeps.answer(put, b'cpe:/a:ntp:ntp:4.2.8'))"
         run = subprocess.run(
-            [sys.executable, "-B", "-c", "import sys; " + words, str(self.folder)], cwd=ROOT / "service", capture_output=True, text=True, timeout=PATIENCE
+            [sys.executable, "-B", "-c", BOMB, str(self.folder)], cwd=ROOT / "service", capture_output=True, text=True, timeout=PATIENCE
         )
         self.assertEqual(run.stdout, "{'refused': 'reading it takes more memory than the service gives'} True\n", run.stderr)
 
@@ -203,11 +217,14 @@ class AgainTest(ServiceCase):
         folder = self.folder / "data"
         folder.mkdir()
         database.made(folder)
-        page_ = json.dumps(page(0, "CVE-1", total=1)).encode()
-        part = json.dumps(page(0, "CVE-1", total=2)).encode()
+        all_of_it, part = (json.dumps(page(0, "CVE-1", total=total)).encode() for total in (1, 2))
         for number, (message, body) in enumerate((
-            ({"do": "put", "name": "m"}, b"cpe:/a:ntp:ntp:4.2.8"), ({"do": "table", "name": "suppress"}, b"CVE-1 * reason"), ({"do": "delete", "name": "m"}, b""),
-            ({"do": "feed", "name": "", "is_whole": False}, page_), ({"do": "feed", "name": "x", "is_whole": False}, part), ({"do": "drop", "feed": 2}, b""),
+            ({"do": "put", "name": "m"}, b"cpe:/a:ntp:ntp:4.2.8"),
+            ({"do": "table", "name": "suppress"}, b"CVE-1 * reason"),
+            ({"do": "delete", "name": "m"}, b""),
+            ({"do": "feed", "name": "", "is_whole": False}, all_of_it),
+            ({"do": "feed", "name": "x", "is_whole": False}, part),
+            ({"do": "drop", "feed": 2}, b""),
         )):
             with self.subTest(do=message["do"]):
                 message |= {"client": "x", "id": str(number), "keeper": "lists"}
@@ -281,7 +298,8 @@ class FeedsTest(ServiceCase):
         self.assertEqual(seen, [False] * 3)
 
     def test_which_record_counts_is_the_same_if_the_database_says_it_first(self):
-        times = ["", "no time", "0000-01-01T00:00:00.000", "2024-02-31T00:00:00.000", "2024-01-01", "2024-01-01T24:00:00.000", "2023-12-31T23:59:59.999"]
+        times = ["", "no time", "2024-01-01", "2023-12-31T23:59:59.999"]
+        times += ["0000-01-01T00:00:00.000", "2024-02-31T00:00:00.000", "2024-01-01T24:00:00.000"]
         times += [f"2024-01-0{day}T00:00:00{end}" for day in (1, 2) for end in ("", ".000", ".000Z", ".001", ".000+01:00", ".0000", "Z", ".000ZZ")]
         both = [(first, second, text) for first in times for second in times for text in "xy"]
         found = []
@@ -289,7 +307,9 @@ class FeedsTest(ServiceCase):
             keeps = self.keeper()
             with mock.patch.object(feeds, "_OLDER", older):
                 for turn in (0, 1):
-                    records = [{"cve": {"id": f"CVE-{k}", "lastModified": one[turn], "descriptions": [one[2] if turn else "x"]}} for k, one in enumerate(both)]
+                    texts = [one[2] if turn else "x" for one in both]
+                    cves = [{"id": f"CVE-{k}", "lastModified": one[turn], "text": texts[k]} for k, one in enumerate(both)]
+                    records = [{"cve": cve} for cve in cves]
                     self.assertEqual(self.keep(keeps, feed("vulnerabilities", *records))["state"], "counts")
             found.append([tuple(row) for row in keeps._database.execute("SELECT key, modified, body FROM records ORDER BY id")])
         self.assertEqual(found[0], found[1])
