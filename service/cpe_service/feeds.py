@@ -84,6 +84,8 @@ class Feeds:
                 raise Fatal(f"{missing[0]}: give the pages of a fetch a name (?feed=NAME), or put all of them into one file")
             with writing(self._database):
                 self._give_up_old()
+                if self._database.execute("SELECT 1 FROM feeds WHERE id = ?", (file.feed,)).fetchone() is None:
+                    raise Fatal("reading it took too long, and what was read is given up: send it again")
                 answer = self._put_part(file, offer) if missing else self._finished(file.feed, file.called, offer)
                 answer |= {"remarks": self.said.lines}
                 keep(answer)
@@ -100,24 +102,27 @@ class Feeds:
         It is packed before it is written, and written in pieces, so no other writer waits for long.
         """
         called = CALLED[page.kind]
-        if file.kind and called != file.called:
+        if file.called and called != file.called:
             raise Fatal(f"pages of {' and of '.join(sorted((called, file.called)))} are in it, and a feed has one kind")
-        if not file.kind:
-            file.kind, file.called = page.kind, called
+        if not file.called:
+            file.called = called
             with writing(self._database):
                 file.feed = self._new(called, offer)
         if "totalResults" in page.counts:
             span = whole.span_of(page)
             for one in whole.odd_of(page.kind, [span]):
                 raise Fatal(f"{one.words()}; {one.where}")
+            file.kind = page.kind
             file.spans.append(span)
         elif offer.is_whole:
             raise Fatal("whole=true needs pages with totalResults, since it isn't known otherwise whether this is all of the feed")
-        else:
+        elif page.kind != RECORDS:
+            # (CVE records are each one of its own)
             file.is_unsaid = True
         rows = _rows(file.feed, page)
         while some := list(itertools.islice(rows, _CHUNK)):
             with writing(self._database):
+                self._database.execute("UPDATE feeds SET at = ? WHERE id = ?", (time.time(), file.feed))
                 self._database.executemany("INSERT INTO records (feed, kind, key, modified, number, body) VALUES (?, ?, ?, ?, ?, ?)", some)
 
     def _put_part(self, file: Arriving, offer: Offer) -> dict[str, Json]:

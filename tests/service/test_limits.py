@@ -324,6 +324,23 @@ class FeedsTest(ServiceCase):
         self.assertEqual(self.keep(keeps, page(0, "CVE-1", total=1))["remarks"], [])
         self.assertEqual(keeps._database.execute("SELECT count(*) FROM feeds").fetchone()[0], 1)
 
+    def test_a_file_that_takes_too_long_never_counts_in_part(self):
+        keeps = self.keeper()
+        # (another process may remove it, as one that nobody writes any more)
+        with mock.patch.object(feeds, "_SECONDS_WAITING", -10):
+            answer = self.keep(keeps, page(0, "CVE-1", total=1))
+        self.assertEqual(answer, {"refused": "reading it took too long, and what was read is given up: send it again"})
+        self.assertEqual(keeps._database.execute("SELECT count(*) FROM edits").fetchone()[0], 0)
+
+    def test_pages_and_records_in_one_file(self):
+        keeps, record = self.keeper(), {"dataType": "CVE_RECORD", "dataVersion": "5.1", "cveMetadata": {"cveId": "CVE-9", "state": "PUBLISHED"}}
+        record["containers"] = {"cna": {"affected": []}}
+        data = json.dumps(record).encode()
+        answer = keeps.answer(FEED, data)
+        self.assertEqual((answer["state"], answer["remarks"]), ("counts", []))
+        self.assertIn("those of startIndex 1 to 1 are missing", keeps.answer(FEED, data + json.dumps(page(0, "CVE-1", total=2)).encode())["refused"])
+        self.assertIn("whole=true needs", keeps.answer(FEED | {"is_whole": True}, data)["refused"])
+
     def keeper(self):
         folder = Path(tempfile.mkdtemp(dir=self.folder))
         database.made(folder)
