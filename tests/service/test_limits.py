@@ -79,17 +79,6 @@ class PathsTest(ServiceCase):
             self.assertEqual(pathless(text), wanted)
 
 
-def received(connection, last):
-    """What a connection receives, up to these bytes."""
-    found = b""
-    while last not in found:
-        piece = connection.recv(4_096)
-        if not piece:
-            raise AssertionError(f"the connection ended behind {found!r}")
-        found += piece
-    return found
-
-
 class ConnectionsTest(ServiceCase):
     def test_a_request_that_never_ends_is_closed_behind_a_first_one_too(self):
         server = self.server()
@@ -98,19 +87,27 @@ class ConnectionsTest(ServiceCase):
             connection = socket.create_connection(("127.0.0.1", server.port), PATIENCE)
             self.addCleanup(connection.close)
             connection.sendall(b"GET /tables/letters HTTP/1.1\r\nHost: localhost\r\n\r\n")
-            self.assertTrue(received(connection, b"}").startswith(b"HTTP/1.1 404 "))
+            answer = connection.recv(4_096)
+            while not answer.endswith(b"}"):
+                answer += connection.recv(4_096)
+            self.assertTrue(answer.startswith(b"HTTP/1.1 404 "))
             connection.sendall(end)
             connections.append(connection)
         with socket.create_connection(("127.0.0.1", server.port), PATIENCE) as listener:
             listener.sendall(b"GET /events HTTP/1.1\r\nHost: localhost\r\n\r\n")
-            received(listener, b"listening")
+            heard = b""
+            while b"listening" not in heard:
+                heard += listener.recv(4_096)
             for connection in connections:
                 # (it is looked at each 30 seconds)
                 connection.settimeout(2 * PATIENCE)
                 self.assertEqual(connection.recv(1), b"")
             # (a request that runs is left alone)
             listener.settimeout(PATIENCE)
-            received(listener, b"still here")
+            while b"still here" not in heard:
+                part = listener.recv(4_096)
+                self.assertNotEqual(part, b"")
+                heard += part
 
 
 def page(start, *ids, total=4):
