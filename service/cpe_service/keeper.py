@@ -5,6 +5,7 @@ take is a `fault`. An answer without either was written to the disk before.
 """
 from __future__ import annotations
 
+import contextlib
 import json
 import resource
 import signal
@@ -151,7 +152,12 @@ def _unpacked(body: bytes) -> bytes:
 def limit_memory(most: int = _MOST_MEMORY) -> None:
     """Limits the memory of this process, so what would take more is refused, and ends nothing else."""
     hard = resource.getrlimit(resource.RLIMIT_AS)[1]
-    resource.setrlimit(resource.RLIMIT_AS, (most if hard == resource.RLIM_INFINITY else min(most, hard), hard))
+    try:
+        resource.setrlimit(resource.RLIMIT_AS, (most if hard == resource.RLIM_INFINITY else min(most, hard), hard))
+    except (OSError, ValueError) as fault:
+        # (some systems let no process limit itself, and it serves without)
+        with contextlib.suppress(OSError):
+            print(f"cpe_service: the memory of a keeper has no limit: {fault}", file=sys.stderr, flush=True)
 
 
 def main() -> None:

@@ -193,6 +193,12 @@ class MemoryTest(ServiceCase):
         for pid in server.children("cpe_service.keeper"):
             self.assertEqual(resource.prlimit(pid, resource.RLIMIT_AS)[0], 4 << 30)
 
+    def test_where_no_process_may_limit_itself_it_serves_without(self):
+        fault = PermissionError(1, "Operation not permitted")
+        with mock.patch.object(resource, "setrlimit", side_effect=fault), mock.patch("sys.stderr", io.StringIO()) as said:
+            keeper.limit_memory()
+        self.assertIn("the memory of a keeper has no limit: ", said.getvalue())
+
     def test_all_members_of_an_archive_have_a_limit_together(self):
         data = io.BytesIO()
         with zipfile.ZipFile(data, "w") as archive:
