@@ -4,13 +4,15 @@
 set -eu
 here=$(cd "$(dirname "$0")" && pwd)
 top=$(cd "$here/../.." && pwd)
-path=$top/build/conformance/go
+path=$top/build/conformance/$adapter
 program=$path/bin/$adapter
 if [ ! "$program" -nt "$here/$adapter/main.go" ] || { [ -n "${library:-}" ] && [ ! "$program" -nt "$library" ]; }; then
+    rm -rf "$path/src"
     mkdir -p "$path/src" "$path/bin"
     [ -n "${HOME:-}" ] || export GOCACHE="$path/cache"
-    ln -sfn "$here/$adapter" "$path/src/$adapter"
-    [ -z "${package:-}" ] || ln -sfn "$top/$folder" "$path/src/$package"
+    # (rt ci takes no tree that has links)
+    cp -R "$here/$adapter" "$path/src/$adapter"
+    [ -z "${package:-}" ] || cp -R "$top/$folder" "$path/src/$package"
     GOPATH=$path:/usr/share/gocode GO111MODULE=off GOFLAGS='' go build -o "$program.new" "$adapter" >&2
     mv -f "$program.new" "$program"
 fi
