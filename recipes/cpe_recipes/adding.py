@@ -73,6 +73,18 @@ class Adding:
             good = ((FILES, path) for path in ended - self._faulty)
             self._kept.put("DELETE FROM faults WHERE kind = ? AND key = ?", good)
 
+    def forget(self, paths: Iterable[str]) -> set[str]:
+        """Forgets that these files could not be read, or not be added to their end, and returns those of which that was known."""
+        gone = set(map(_path, paths))
+        with self._kept.writing():
+            known = gone.intersection(key for (key,) in self._kept.rows("SELECT key FROM faults WHERE kind = ?", (FILES,)))
+            self._kept.put("DELETE FROM faults WHERE kind = ? AND key = ?", ((FILES, path) for path in gone))
+            for number, text in self._kept.rows("SELECT number, paths FROM runs WHERE paths IS NOT NULL"):
+                left = [path for path in json.loads(text) if path not in gone]
+                known |= gone.intersection(json.loads(text))
+                self._kept.put("UPDATE runs SET paths = ? WHERE number = ?", [(json.dumps(left) if left else None, number)])
+        return known
+
     def is_passed(self, path: str | None, place: str, data: bytes) -> bool:
         """Whether a file or member of these bytes was added before, whole."""
         self._end_part()

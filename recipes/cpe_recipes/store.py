@@ -3,6 +3,7 @@
     python3 store.py add --store FOLDER [--large] [PAGES..]
     python3 store.py status --store FOLDER
     python3 store.py check --store FOLDER
+    python3 store.py forget --store FOLDER FILES..
 
 - add: adds pages of NVD's API 2.0 or its feeds, of products, advisories and matches, and CVE records of format 5, plain, packed or in
   archives. A folder that isn't there is made. If a record is there more than once, the one that was modified last counts. So pages of
@@ -13,6 +14,7 @@
   what could not be read.
 - check: reads all of it again, and compares what is derived of it with that. It doesn't see a product, a list, a title or a time that is
   another one than was added, or that a product or a list isn't there any more: of these nothing else is kept.
+- forget: of files that could not be read, or not be added to their end, and won't come any more, no scan says so after this.
 
 `scan.py --store FOLDER` scans from it (kept.py, adding.py and stored.py say how). The status is 0 if all was added, or nothing is missing or
 wrong; 1 if something was left out, is missing or wrong, which is reported; 2 if there is no store, or it can't be read or written.
@@ -36,17 +38,17 @@ from .unpack import LARGE, TOLD_LIMITS
 from .whole import CALLED, Missing
 from .words import FLAG, ONE, Words, read_words
 
-USAGE = "store.py add --store FOLDER [--large] [PAGES..] | store.py status --store FOLDER | store.py check --store FOLDER"
+USAGE = "store.py add --store FOLDER [--large] [PAGES..] | store.py status --store FOLDER | store.py check --store FOLDER | store.py forget --store FOLDER FILES.."
 OPTIONS = {"--store": ONE, "--large": FLAG}
 
 
 def run(words: Sequence[str]) -> int:
-    verbs: Mapping[str, Callable[[str, Words, Said, Output], None]] = {"add": _add, "status": _status, "check": _check}
+    verbs: Mapping[str, Callable[[str, Words, Said, Output], None]] = {"add": _add, "status": _status, "check": _check, "forget": _forget}
     if not words or words[0] not in verbs:
         raise Fatal(f"usage: {USAGE}")
     read = read_words(words[1:], OPTIONS, USAGE)
     folder = read.only("--store")
-    if folder is None or words[0] != "add" and (read.files or read.has("--large")):
+    if folder is None or words[0] != "add" and (bool(read.files) != (words[0] == "forget") or read.has("--large")):
         raise Fatal(f"usage: {USAGE}")
     said, output = Said(), Output()
     verbs[words[0]](folder, read, said, output)
@@ -132,3 +134,13 @@ def _check(folder: str, read: Words, said: Said, output: Output) -> None:
         count = checking.check(kept, Program(), said)
     kept.close()
     output.line(f"{counted(count, 'record')} read again, {said.left} wrong")
+
+
+def _forget(folder: str, read: Words, said: Said, output: Output) -> None:
+    kept = Kept(folder)
+    known = Adding(kept, said).forget(read.files)
+    kept.close()
+    for path in read.files:
+        if os.path.abspath(path) not in known:
+            said.left_out(path, "it is no file that could not be read, or not be added to its end")
+    output.line(f"forgot {counted(len(known), 'file')}")

@@ -503,6 +503,20 @@ class Stores(RecipeCase):
         self.add(archive)
         self.left(0)
 
+    def test_a_file_that_will_not_come_is_forgotten(self):
+        self.filled()
+        bad, years = self.file("bad.meta", "size: 7"), self.of_years()
+        self.add(years[0], bad, status=1)
+        with mock.patch.object(adding.Adding, "finish", side_effect=KeyboardInterrupt), self.assertRaises(KeyboardInterrupt):
+            self.add(*years)
+        self.left(2)
+        self.assertEqual(ran(store.run, ["forget", "--store", self.store, bad, *years[1:]])[:2], (0, "forgot 5 files\n"))
+        self.left(1)
+        self.assertEqual(ran(store.run, ["forget", "--store", self.store, years[0]])[:2], (0, "forgot 1 file\n"))
+        self.left(0)
+        status, written, said = ran(store.run, ["forget", "--store", self.store, bad])
+        self.assertEqual((status, written, len(said)), (1, "forgot 0 files\n", 1))
+
     def test_a_page_that_does_not_say_where_it_begins(self):
         self.filled()
         bad = page("vulnerabilities", cve(4, match(HERE)), total=2)
@@ -579,7 +593,7 @@ class Stores(RecipeCase):
 
     def test_words(self):
         self.filled()
-        for words in ([], ["more"], ["add"], ["status"], ["status", "--store", self.store, self.machines], ["check", "--store", self.store, "--large"]):
+        for words in ([], ["more"], ["add"], ["status"], ["status", "--store", self.store, self.machines], ["check", "--store", self.store, "--large"], ["forget", "--store", self.store]):
             with self.subTest(words):
                 self.assertIn("usage: store.py add", self.fatal(*words))
         for words in (["--dictionary", self.machines], ["--matches", self.machines], ["--advisories", self.machines]):
