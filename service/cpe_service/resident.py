@@ -10,6 +10,7 @@ import subprocess
 import threading
 import uuid
 from collections.abc import Iterable, Iterator, Sequence
+from pathlib import Path
 
 from cpe_recipes.program import Program, pieces
 from cpe_recipes.said import Fatal, why
@@ -23,7 +24,7 @@ class Resident(Program):
         try:
             self._run = subprocess.Popen([self.path, "resolve"], stdin=subprocess.PIPE, stdout=subprocess.PIPE)
         except OSError as fault:
-            raise Fatal(f"{self.path} can not be run: {why(fault)}") from fault
+            raise Fatal(f"{Path(self.path).name} can not be run: {why(fault)}") from fault
         assert self._run.stdin is not None and self._run.stdout is not None
         self._input, self._output, self._last = self._run.stdin, self._run.stdout, 0
         # (who writes to a pipe and doesn't read from the other one may wait for ever, so another thread writes)
@@ -42,7 +43,7 @@ class Resident(Program):
         self._waiting.put(self._numbered(records, f'{{"do":"verdict","id":"{id}"}}'))
         while (line := self._output.readline()) != end:
             if not line.endswith(b"\n"):
-                raise self._fault or Fatal(f"{self.path} resolve ended with status {self._run.wait()} before its last answer")
+                raise self._fault or Fatal(f"{Path(self.path).name} resolve ended with status {self._run.wait()} before its last answer")
             yield _renumbered(line[:-1].decode(errors="backslashreplace"), before)
 
     def _numbered(self, records: Iterable[str], barrier: str) -> Iterator[str]:

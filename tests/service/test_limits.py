@@ -19,8 +19,9 @@ from unittest import mock
 from service_case import CPE, PATIENCE, ROOT, ServiceCase, feed
 
 sys.path.insert(0, str(ROOT / "service"))
-from cpe_service import database, feeds, keeper, tokens  # noqa: E402
+from cpe_service import database, feeds, keeper, resident, tokens  # noqa: E402
 from cpe_service.quiet import pathless  # noqa: E402
+from cpe_recipes.said import Fatal  # noqa: E402
 
 FEED = {"do": "feed", "name": "", "is_whole": False, "client": "x"}
 
@@ -67,6 +68,14 @@ class PathsTest(ServiceCase):
         self.assertEqual(status, 503, value)
         self.assertTrue(value["detail"].startswith("cpe "), value)
         self.assertNotIn(str(self.folder), value["detail"])
+
+    def test_a_run_that_ends_shows_no_path(self):
+        """What it says is the fault of a machine."""
+        cpe = self.folder / "cpe"
+        for line, words in (("#!/none/sh", "^cpe can not be run: "), ("#!/bin/sh\nexit 3", "^cpe resolve ended with status 3 ")):
+            cpe.write_text(f"{line}\n")
+            cpe.chmod(0o755)
+            self.assertRaisesRegex(Fatal, words, resident.Resident, str(cpe), [])
 
     def test_pathless(self):
         for text, wanted in (
