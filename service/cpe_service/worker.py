@@ -29,6 +29,7 @@ from .database import connected, ground_of, note, noted, packed, reading, writin
 from .frames import Message
 from .ground import Ground, read_ground
 from .judge import Judge, Judged
+from .quiet import pathless
 from .texts import whole
 from .waiting import Waiting
 
@@ -178,7 +179,7 @@ class Worker:
     def _write_fault(self, one: Waiting, fault: str, ground: int) -> None:
         """Writes why there is no result. What was known before stays, and the fault is beside it."""
         columns = "judged_put = ?, judged_ground = ?, judged_at = ?, fault = ?"
-        self._database.execute(f"UPDATE machines SET {columns} WHERE id = ?", (one.put, ground, time.time(), whole(fault), one.id))
+        self._database.execute(f"UPDATE machines SET {columns} WHERE id = ?", (one.put, ground, time.time(), whole(pathless(fault)), one.id))
 
     def _write(self, one: Waiting, judged: Judged) -> None:
         """Writes the result of a machine, if it is still there."""
@@ -267,7 +268,7 @@ class Worker:
             found = certificates.made(judge, one.machine(), message["id"])
         except Exception as fault:  # noqa: BLE001 (who asks gets an answer)
             self._end()
-            return {"fault": str(fault) or type(fault).__name__}
+            return {"fault": pathless(str(fault)) or type(fault).__name__}
         return found | {"edit": one.put, "ground": judge.ground.edit, "state": queries.state_of(row, judge.ground.edit)}
 
 

@@ -475,6 +475,10 @@ class UnjudgedTest(WorkerCase):
         self.assertIn("1 machine has no result of the newest list", page)
         self.judge()
         self.put("m", NAME % "1")
+        with mock.patch.object(worker.Judge, "judge", side_effect=KeyError("/usr/lib/odd")):
+            self.judge()
+        self.assertEqual(self.rows("fault"), [("the recipes have a fault: KeyError 'odd'",)])
+        self.put("m", NAME % "1")
         self.judge()
         self.assertEqual(set(queries.cautions(self.judges._database).values()), {0})
 
