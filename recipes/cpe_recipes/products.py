@@ -1,6 +1,6 @@
 """Advisories of the products that the machines have.
 
-    sh products.sh --machines FILE [--records FILE] [--names FILE] [--partial] [--large] [FILE..] > page
+    sh products.sh --machines FILE [--records FILE] [--matches FILE].. [--names FILE] [--partial] [--large] [FILE..] > page
 
 `cpe` takes 100,000 statements; NVD has more advisories. This cuts its feeds (the JSON of /rest/json/cves/2.0) down to the
 advisories that could be other than FALSE on some machine, as one page of the same form, for `advisories.sh` or `scan.py`. An
@@ -10,7 +10,8 @@ advisory goes on where a vulnerable match of it, or any match beside a vulnerabl
 - has a vendor or product that isn't plain, or a name that is none; or, if an item has a pattern in its vendor, the product of that, and
   if it has one in its product, the vendor of that;
 
-and where there is something in it that `advisories.sh` has to tell, such as that it isn't analysed. The others name products that
+and where a match of it lists such an item by the match feed (--matches), since the item has the name of the match too; and where there
+is something in it that `advisories.sh` has to tell, such as that it isn't analysed. The others name products that
 aren't here: they are FALSE on every machine, and how many they are is remarked. A feed of which pages are missing, as they say
 themselves, is refused; --partial lets it pass, and what is missing is said.
 """
@@ -20,7 +21,7 @@ from collections import Counter
 from collections.abc import Collection, Iterable, Sequence
 from dataclasses import dataclass
 
-from . import hints, latest, names, whole
+from . import hints, latest, matches, names, whole
 from .advisories import KINDS
 from .concern import Concern, Named, concern_of, named_of
 from .decide import Leads, leads_of, read_entries
@@ -35,11 +36,11 @@ from .unanalysed import States, id_of, is_rejected
 from .unlisted import deprecated_names, say_items, successors
 from .words import ONE, read_words
 
-USAGE = "products.sh --machines FILE [--records FILE] [--names FILE] [--partial] [--large] [FILE..]"
+USAGE = "products.sh --machines FILE [--records FILE] [--matches FILE].. [--names FILE] [--partial] [--large] [FILE..]"
 
 
 def run(words: Sequence[str]) -> int:
-    read = read_words(words, {"--machines": ONE, "--records": ONE, "--names": ONE, **whole.OPTIONS}, USAGE)
+    read = read_words(words, {"--machines": ONE, "--records": ONE, "--matches": ONE, "--names": ONE, **whole.OPTIONS}, USAGE)
     machines_path = read.one("--machines")
     if machines_path is None:
         raise Fatal(f"usage: {USAGE}")
@@ -58,7 +59,10 @@ def run(words: Sequence[str]) -> int:
     if not wanted:
         raise Fatal("no machine has an item")
     feed = latest.advisories(whole.pages(read.files, said, KINDS, reading=whole.Reading.of(read)), said)
-    kept = [record for page in Cut.of(feed, wanted).pages for record in page.records if not is_rejected(record)]
+    matched = read.many("--matches")
+    pages = whole.pages(matched, said, matches.KINDS, strict=True, reading=whole.Reading.of(read)) if matched else ()
+    cut = Cut.of(feed, wanted, matches.listing(pages, wanted))
+    kept = [record for page in cut.pages for record in page.records if not is_rejected(record)]
     # (what isn't analysed stays in the page, so that who reads it tells that)
     states = States()
     states.sort([Page("", KINDS[0], kept)])

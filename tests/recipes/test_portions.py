@@ -328,6 +328,20 @@ class Recipes(RecipeCase):
         self.assertIn("remark not analysed: 9 advisories", said)
         self.assertIn("1 TRUE", written)
 
+    def test_products_keeps_what_may_not_be_false(self):
+        system = {"criteria": fs("v", "fw").replace(":a:", ":o:"), "vulnerable": True, "matchCriteriaId": "S"}
+        beside = advisory(system, id="CVE-2024-0002")
+        beside["cve"]["configurations"][0]["operator"] = "AND"
+        beside["cve"]["configurations"][0]["nodes"].append({"cpeMatch": [match(fs("w", "app")) | {"vulnerable": False}]})
+        listing = advisory(match(fs("x", "old")) | {"versionEndIncluding": "2"}, id="CVE-2024-0003")
+        feed = self.file("a.json", {"vulnerabilities": [advisory(match(fs("y", "z"))), beside, listing]})
+        listed = {"matchString": {"matchCriteriaId": "K", "matches": [{"cpeName": fs("w", "app", "1")}]}}
+        words = ["--machines", self.file("m", f"m {fs('w', 'app', '1')}\n"), "--matches", self.file("k.json", {"matchStrings": [listed]}), feed]
+        ids = [one.split('"id":"')[1][:13] for one in self.recipe("products", *words)[1] if '"id":"' in one]
+        self.assertEqual(ids, ["CVE-2024-0002", "CVE-2024-0003"])
+        ids = [one.split('"id":"')[1][:13] for one in self.recipe("products", *words[:2], feed)[1] if '"id":"' in one]
+        self.assertEqual(ids, ["CVE-2024-0002"])
+
 
 if __name__ == "__main__":
     unittest.main()
