@@ -38,7 +38,10 @@ from .unpack import LARGE, TOLD_LIMITS
 from .whole import CALLED, Missing
 from .words import FLAG, ONE, Words, read_words
 
-USAGE = "store.py add --store FOLDER [--large] [PAGES..] | store.py status --store FOLDER | store.py check --store FOLDER | store.py forget --store FOLDER FILES.."
+USAGE = (
+    "store.py add --store FOLDER [--large] [PAGES..] | store.py status --store FOLDER | store.py check --store FOLDER | "
+    "store.py forget --store FOLDER FILES.."
+)
 OPTIONS = {"--store": ONE, "--large": FLAG}
 
 
@@ -75,7 +78,8 @@ def _add(folder: str, read: Words, said: Said, output: Output) -> None:
         if read.files:
             adding.finish(read.files)
         kept.close()
-    output.line(f"added {counted(count, 'page')}: {counted(changed, 'record')} new or later" + (f"; {adding.there} were there" if adding.there else ""))
+    were = f"; {adding.there} were there" if adding.there else ""
+    output.line(f"added {counted(count, 'page')}: {counted(changed, 'record')} new or later{were}")
 
 
 def _put(adding: Adding, read: Words, said: Said, progress: Progress) -> tuple[int, int]:
