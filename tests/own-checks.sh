@@ -1577,7 +1577,7 @@ names_failed_measurements() {
     PATH="$room/measuring:$PATH" limited sh bench/all.sh "$program" "$room/results" > "$room/said" 2> "$room/error"
     status=$?
     grep -e '^ran ' -e '^FAILED' "$room/results" > "$room/out"
-    for name in run index convert explain advise scan snapshot openscap; do
+    for name in run index convert explain advise scan full snapshot openscap; do
         echo "ran $name.py"
     done > "$room/wanted"
     echo 'FAILED: cover near' >> "$room/wanted"
