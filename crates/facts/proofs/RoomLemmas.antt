@@ -43,7 +43,7 @@ no_users new fact its_ends (Ok x) ok err = ap users_or_none ok
 no_users new fact its_ends (Err x) ok err = ap users_or_none err
 
 module _ {Done Fault : Type 0} (old new : FactTable) (fact : ℕ) (its_ends : List NameId) (result : Result Done Fault) (none : fact_at old fact ≡ None) (a : FactAdded old new fact its_ends result) where
-  same_users : (q : ℕ) → users_of new q ≡ users_of old q
+  pub same_users : (q : ℕ) → users_of new q ≡ users_of old q
   same_users q = elim (cases_eq q fact) [
     | inl e ↦ subst (λ (n : ℕ). users_of new n ≡ users_of old n) (sym e) (no_users new fact its_ends result a.here a.none ∙ sym (ap users_or_none none))
     | inr ne ↦ ap users_or_none (a.others q ne)

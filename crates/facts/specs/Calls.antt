@@ -87,8 +87,8 @@ pub record IsNewStatement (f : FactsNow) (table : Names) (rows : Rows) (tickets 
   pub leads_there : (q : ℕ) → has_end fresh q ≡ true → LeadsTo table rows.entries mode q (leads_of mode (table_of f mode) q)
   pub asked_for : SameElements (names_at table asked) (flat_map (leads rows.entries mode) (fresh_facts mode rows.statements s))
 
--- The statement may be added.
-pub record MayAddStatement (f : FactsNow) (table : Names) (mode : Mode) (ids fresh asked : List NameId) (ticket : ℕ) : Type 0 where
+-- There is room for a statement with these facts, of which the fresh ones are not in use yet and lead to the names asked.
+pub record HasStatementRoom (f : FactsNow) (table : Names) (mode : Mode) (ids fresh asked : List NameId) (ticket : ℕ) : Type 0 where
   -- the names that are asked have numbers, and there is room for them
   pub live_asked : AreLive table asked
   pub wide : IsWide (board_of f.boards mode) table
@@ -97,6 +97,10 @@ pub record MayAddStatement (f : FactsNow) (table : Names) (mode : Mode) (ids fre
   -- the fresh facts are among those to which the statement refers, and each of these has room for one more user
   pub own : (q : ℕ) → has_end fresh q ≡ true → has_end ids q ≡ true
   pub room_users : (q : ℕ) → has_end ids q ≡ true → (has_room (table_of f mode) q || ends_with ticket (users_of (table_of f mode) q)) ≡ true
+
+-- The statement may be added.
+pub record MayAddStatement (f : FactsNow) (table : Names) (mode : Mode) (ids fresh asked : List NameId) (ticket : ℕ) : Type 0 where
+  pub room : HasStatementRoom f table mode ids fresh asked ticket
   pub stood : (rows : Rows) × (tickets : List ℕ) × IsLawful rows × HasFacts table f rows tickets
 
 -- The statement was added.

@@ -2,7 +2,8 @@
 ghost use Rattle.std.specs.Prelude.{◌≡◌};
 
 use crate::row::NumberedStatement;
-use cpe_rows::Text;
+use cpe_rows::{Mode, Text};
+use name_index::NameId;
 
 /// A statement for which all memory is taken. It has to be added or given up, since it is no `Drop`.
 pub struct ReadyStatement {
@@ -13,6 +14,20 @@ pub struct ReadyStatement {
 }
 
 impl ReadyStatement {
+    /// The mode of the statement.
+    pub fn mode(&self) -> Mode
+        ensures { result ≡ self.now.numbered.value.statement.mode }
+    {
+        self.numbered.statement.mode
+    }
+
+    /// The numbers of its fact references, in the order of its test.
+    pub fn ids(&self) -> &[NameId]
+        ensures { result.now ≡ self.now.numbered.value.ids.items }
+    {
+        &self.numbered.ids
+    }
+
     /// The ticket that the statement will have.
     pub fn ticket(&self) -> u64
         ensures { result ≡ self.now.ticket }

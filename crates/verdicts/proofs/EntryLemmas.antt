@@ -49,7 +49,7 @@ entry_verdicts names v rows next h statements checks same truths shows = record 
     settled = h.facts.settled;
     numbered = record { each = h.facts.numbered.each ∙ sym (ap length statements); rising = h.facts.numbered.rising };
   };
-  used = h.used;
+  needed = h.needed;
   sound = h.sound;
   judged = h.judged;
 }
@@ -86,7 +86,7 @@ alone_verdicts names v was now h = record {
     settled = h.facts.settled;
     numbered = h.facts.numbered;
   };
-  used = h.used;
+  needed = h.needed;
   sound = h.sound;
   judged = h.judged;
 }

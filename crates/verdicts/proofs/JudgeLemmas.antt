@@ -16,6 +16,7 @@ use Rattle.fact_rows.specs.Facts.{differs, FactTable, is_fact, truth_of}
 use Rattle.facts.specs.Facts.{AreChanges, AreUsed, FactsNow, HasFacts, is_used, table_of}
 use Rattle.facts.specs.Room.{KeepsFacts}
 use Rattle.facts.proofs.ChangeLemmas.{differs_is}
+use Rattle.statement_rows.specs.Askers.{AreAsked}
 use Rattle.statement_rows.specs.Readings.{FactTruths, has_fact}
 use Rattle.statement_rows.specs.State.{AreJudged, at_tickets, judge, SameRoom, State, StatementRow, statements_of}
 use Rattle.statement_rows.specs.Tickets.{among}
@@ -75,10 +76,10 @@ module _ (same : SameTruths) (names : Names) (old new : FactsNow) (rows : Rows) 
 
 -- ---- verdicts after facts changed
 
-pub refreshed : SameTruths → Refreshes → (names : Names) (v : VerdictsNow) (new : FactsNow) (after : State) (rows next : Rows) → HasVerdicts names v rows → HasFacts names new next (tickets_in v.statements.rows) → AreUsed new → AreSound new.boards
+pub refreshed : SameTruths → Refreshes → (names : Names) (v : VerdictsNow) (new : FactsNow) (after : State) (rows next : Rows) → HasVerdicts names v rows → HasFacts names new next (tickets_in v.statements.rows) → AreUsed new → AreSound new.boards → after.askers ≡ v.statements.askers
     → next.statements ≡ rows.statements → next.checks ≡ rows.checks → ((m : Mode) → AreChanges (table_of v.facts m) (table_of new m)) → after.rows ≡ at_tickets (users_of_all new) (judge (truths_in new) v.statements.checks) v.statements.rows → after.checks ≡ v.statements.checks
     → HasVerdicts names (record { facts = new; statements = after }) next
-refreshed same judged names v new after rows next h facts used sound statements checks changes is kept =
+refreshed same judged names v new after rows next h facts used sound askers statements checks changes is kept =
     let old_rows = v.statements.rows in
     let cs = v.statements.checks in
     let truth = truths_in new in
@@ -88,7 +89,7 @@ refreshed same judged names v new after rows next h facts used sound statements 
       checks = kept ∙ h.checks ∙ sym checks;
       numbered = subst (AllByRecursion (IsNumbered names)) (sym is) (at_numbered truth cs ts names old_rows h.numbered);
       facts = subst (HasFacts names new next) (sym (ap tickets_in is ∙ at_map truth cs ts (λ (j : StatementRow). j.ticket) (λ j. refl) old_rows)) facts;
-      used = used;
+      needed = record { facts = used; askers = subst AreAsked (sym askers) h.needed.askers };
       sound = sound;
       judged = judged (truths_in v.facts) truth ts v.statements after is kept h.judged (rows_same same names v.facts new next old_rows facts (h.statements ∙ sym statements) changes cs h.numbered);
     }
@@ -129,7 +130,7 @@ roomier names v new rows keeps plain follow sound h =
       checks = h.checks;
       numbered = h.numbered;
       facts = keeps names rows (tickets_in v.statements.rows) h.facts;
-      used = λ mode id. subst (λ (t : FactTable). is_fact t id ≡ true → is_used t id ≡ true) (sym (same mode)) (h.used mode id);
+      needed = record { facts = λ mode id. subst (λ (t : FactTable). is_fact t id ≡ true → is_used t id ≡ true) (sym (same mode)) (h.needed.facts mode id); askers = h.needed.askers };
       sound = sound;
       judged = subst (λ (truth : FactTruths). AreJudged v.statements truth) (λ i mode q. truth_of (sym (same mode) i) q) h.judged;
     }

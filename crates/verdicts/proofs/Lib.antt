@@ -4,3 +4,7 @@ pub mod VerdictLemmas
 pub mod ResultLemmas
 pub mod TableLemmas
 pub mod EntryLemmas
+pub mod FreshLemmas
+pub mod BesideLemmas
+pub mod AdditionLemmas
+pub mod ReadyLemmas

@@ -15,6 +15,7 @@ use Rattle.cpe_rows.specs.FactNames.{fact_names}
 use Rattle.fact_laws.specs.Shown.{names_at}
 use Rattle.kept_facts.specs.Kept.{AreLive, AreSound}
 use Rattle.facts.specs.Facts.{AreUsed, FactsNow, FactsOf, HasFacts}
+use Rattle.statement_rows.specs.Askers.{AreAsked}
 use Rattle.statement_rows.specs.State.{AreJudged, State, StatementRow, without_verdict}
 use Rattle.verdicts.specs.Verdicts.{HasVerdicts, IsNumbered, statements_in, tickets_in, truths_in, VerdictsNow}
 
@@ -74,14 +75,14 @@ facts_over names f rows checks tickets s = record {
 }
 
 -- verdicts once a result changed, by which they were judged
-pub with_results : (names : Names) (v : VerdictsNow) (new : State) (next : Rows) → AllByRecursion (IsNumbered names) v.statements.rows → HasFacts names v.facts next (tickets_in v.statements.rows) → AreUsed v.facts → AreSound v.facts.boards → statements_in v ≡ next.statements
+pub with_results : (names : Names) (v : VerdictsNow) (new : State) (next : Rows) → AllByRecursion (IsNumbered names) v.statements.rows → HasFacts names v.facts next (tickets_in v.statements.rows) → AreUsed v.facts → AreAsked new.askers → AreSound v.facts.boards → statements_in v ≡ next.statements
     → map without_verdict new.rows ≡ map without_verdict v.statements.rows → new.checks ≡ next.checks → AreJudged new (truths_in v.facts) → HasVerdicts names (record { facts = v.facts; statements = new }) next
-with_results names v new next numbered facts used sound statements same checks judged = record {
+with_results names v new next numbered facts used askers sound statements same checks judged = record {
   statements = same_statements new.rows v.statements.rows same ∙ statements;
   checks = checks;
   numbered = numbered_still names v.statements.rows new.rows same numbered;
   facts = subst (HasFacts names v.facts next) (sym (same_tickets new.rows v.statements.rows same)) facts;
-  used = used;
+  needed = record { facts = used; askers = askers };
   sound = sound;
   judged = judged;
 }

@@ -153,7 +153,7 @@ module _ (old new : Names) (id : ℕ) (name : Values) (h : Holds old new id name
 
     held_mode : (mode : Mode) → ShowsRows new (board_of v.facts.boards mode) rows mode → FitsBoard (board_of v.facts.boards mode) new → FactsOf new (board_of v.facts.boards mode) (table_of v.facts mode) rows tickets mode
     held_mode mode =
-        over_table old new (board_of v.facts.boards mode) (table_of v.facts mode) rows tickets mode (facts_at mode) (k.used mode) held_same
+        over_table old new (board_of v.facts.boards mode) (table_of v.facts mode) rows tickets mode (facts_at mode) (k.needed.facts mode) held_same
         (λ q used. held_live q ((facts_at mode).live q (used_fact (table_of v.facts mode) q used)))
         (λ q used. held_all (leads_of mode (table_of v.facts mode) q) ((facts_at mode).leads_there q used).live) (users_new mode)
 
@@ -167,7 +167,7 @@ module _ (old new : Names) (id : ℕ) (name : Values) (h : Holds old new id name
       checks = k.checks;
       numbered = held_numbered v.statements.rows k.numbered;
       facts = record { plain = held_mode Plain shows.plain fits.plain; follow = held_mode Follow shows.follow fits.follow; settled = k.facts.settled; numbered = k.facts.numbered };
-      used = k.used;
+      needed = k.needed;
       sound = k.sound;
       judged = k.judged;
     }
@@ -249,7 +249,7 @@ module _ (old new : Names) (id : ℕ) (are : AreNames old) (r : Releases old new
       (facts_then mode).users q was ∙ ap (λ (n : Values). users_in mode n tickets_now rows.statements) (sym (released_same q was live))
 
   released_mode : (mode : Mode) → ShowsRows new (board_of v.facts.boards mode) rows mode → FitsBoard (board_of v.facts.boards mode) new → FactsOf new (board_of v.facts.boards mode) (table_of v.facts mode) rows tickets_now mode
-  released_mode mode = over_table old new (board_of v.facts.boards mode) (table_of v.facts mode) rows tickets_now mode (facts_then mode) (k.used mode) released_same (live_in_use mode) (ends_in_use mode) (users_then mode)
+  released_mode mode = over_table old new (board_of v.facts.boards mode) (table_of v.facts mode) rows tickets_now mode (facts_then mode) (k.needed.facts mode) released_same (live_in_use mode) (ends_in_use mode) (users_then mode)
 
   ids_live : (j : StatementRow) → IsNumbered old j → ((mode : Mode) (n : Values) → refers_to mode n j.statement ≡ true → is_referred mode (statements_of v.statements.rows) n ≡ true) → (ids : List NameId) → AreLive old ids → ((q : ℕ) → has_end ids q ≡ true → has_end j.ids q ≡ true) → AreLive new ids
   ids_live j numbered refers [] all within = tt
@@ -271,7 +271,7 @@ module _ (old new : Names) (id : ℕ) (are : AreNames old) (r : Releases old new
     checks = k.checks;
     numbered = released_numbered v.statements.rows (all_referred v.statements.rows) k.numbered;
     facts = record { plain = released_mode Plain shows.plain fits.plain; follow = released_mode Follow shows.follow fits.follow; settled = k.facts.settled; numbered = k.facts.numbered };
-    used = k.used;
+    needed = k.needed;
     sound = k.sound;
     judged = k.judged;
   }

@@ -31,7 +31,7 @@ abbrev pub VerdictsAreTruths : Type 0
 VerdictsAreTruths = (truth : FactTruths) (checks : List (CheckKey × Truth)) (s : Statement) (ids : List NameId) (fact : Values → Truth) → map fact (fact_names s.test) ≡ truths_of truth s.mode ids → verdict_by truth checks s ids ≡ test_truth fact (kept_truth checks) s.test
 
 -- a fact in use has the truth of its name
-fact_right : (names : Names) (f : FactsNow) (rows : Rows) (tickets : List ℕ) → HasFacts names f rows tickets → (mode : Mode) (q : ℕ) → is_used (table_of f mode) q ≡ true → truth_of (table_of f mode) q ≡ fact_truth rows mode (kept_at names q).name
+pub fact_right : (names : Names) (f : FactsNow) (rows : Rows) (tickets : List ℕ) → HasFacts names f rows tickets → (mode : Mode) (q : ℕ) → is_used (table_of f mode) q ≡ true → truth_of (table_of f mode) q ≡ fact_truth rows mode (kept_at names q).name
 fact_right names f rows tickets s Plain q used = s.plain.truths q used refl
 fact_right names f rows tickets s Follow q used = s.follow.truths q used refl
 

@@ -14,6 +14,7 @@ use Rattle.fact_laws.specs.Shown.{names_at}
 use Rattle.kept_facts.specs.Kept.{AreLive, AreSound}
 use Rattle.fact_rows.specs.Facts.{truth_of, users_of}
 use Rattle.facts.specs.Facts.{AreUsed, FactsNow, HasFacts, table_of}
+use Rattle.statement_rows.specs.Askers.{AreAsked}
 use Rattle.statement_rows.specs.Readings.{FactTruths}
 use Rattle.statement_rows.specs.State.{AreJudged, State, StatementRow}
 
@@ -49,16 +50,26 @@ pub record IsNumbered (names : Names) (j : StatementRow) : Type 0 where
   pub live : AreLive names j.ids
   pub named : names_at names j.ids ≡ fact_names j.statement.test
 
--- Statements and results are those of the rows, and each verdict is that of the rows.
-pub record HasVerdicts (names : Names) (v : VerdictsNow) (rows : Rows) : Type 0 where
+-- Nothing is kept that no statement needs: no fact, and no list of the statements that ask for a check.
+pub record AreNeeded (v : VerdictsNow) : Type 0 where
+  pub facts : AreUsed v.facts
+  pub askers : AreAsked v.statements.askers
+
+-- Statements and results are those of the rows, and each verdict is that of the rows. `only` says which facts and lists of checks
+-- are kept.
+pub record HasVerdictsBy (only : Type 0) (names : Names) (v : VerdictsNow) (rows : Rows) : Type 0 where
   pub statements : statements_in v ≡ rows.statements
   pub checks : checks_in v ≡ rows.checks
   pub numbered : AllByRecursion (IsNumbered names) v.statements.rows
   pub facts : HasFacts names v.facts rows (tickets_in v.statements.rows)
-  pub used : AreUsed v.facts
   -- the boards are right
   pub sound : AreSound v.facts.boards
   pub judged : AreJudged v.statements (truths_in v.facts)
+  pub needed : only
+
+-- The same, and nothing else is kept.
+abbrev pub HasVerdicts : Names → VerdictsNow → Rows → Type 0
+HasVerdicts names v rows = HasVerdictsBy (AreNeeded v) names v rows
 
 -- rows that are these entries alone
 abbrev pub only_entries : List Entry → Rows

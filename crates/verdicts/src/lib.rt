@@ -5,6 +5,8 @@
 //! replaced, and no others. After each call every verdict is that of the rows.
 #![tactic(auto)]
 
+mod addition;
+mod fresh;
 mod items;
 pub mod law;
 mod lead;
@@ -13,4 +15,5 @@ mod results;
 mod truths;
 mod verdicts;
 
+pub use addition::Addition;
 pub use verdicts::Verdicts;

@@ -23,7 +23,7 @@ ask-requires-clause-few g c p =
     let names = c.args.table.now in
     let m = subst (λ (f : FactsNow). MayAddStatement f names c.args.mode c.args.ids.now c.args.fresh.now c.args.asked.now c.args.ticket) (sym c.self.view_is) c.requires in
     let inside : FactsNow = record { boards = c.self.inside.boards; plain = c.self.inside.plain; follow = c.self.inside.follow } in
-    omega (arith, m.few, c.few_stand.ensures.probes names (board_of c.self.inside.boards c.args.mode) m.stood.0 c.args.mode p (shows_of names inside m.stood.0 m.stood.1 c.args.mode m.stood.3) m.stood.2)
+    omega (arith, m.room.few, c.few_stand.ensures.probes names (board_of c.self.inside.boards c.args.mode) m.stood.0 c.args.mode p (shows_of names inside m.stood.0 m.stood.1 c.args.mode m.stood.3) m.stood.2)
 
 pub returns-in-Plain : goal.returns-in-Plain
 returns-in-Plain g c =
@@ -59,7 +59,7 @@ returns-in-Plain g c =
           follow_cleared (cleared_facts follow follow_cleared c.clear_changed-2.ensures.stay c.clear_changed-2.ensures.links names Follow boards.follow rows tickets (λ q. false) stood.follow) shows.follow was_asked.fits.follow (ap (same_mode Follow) put.moded) in
           record { plain = here; follow = there; settled = settled; numbered = tickets_more ticket tickets s rows.statements stood.numbered put.below };
       changed = both_changed inside new (all_changed plain plain_cleared c.clear_changed.ensures.stay c.clear_changed.ensures.links c.add_statement_users.new.facts c.clear_changed.ensures.cleared (used_changed used_mid.0 c.add_statement_users.new.facts plain_cleared ids fresh ticket Plain mid.plain used_mid.1 used_mid.2 refreshed)) (none_changed follow follow_cleared c.clear_changed-2.ensures.stay c.clear_changed-2.ensures.cleared);
-      used = λ (used : AreUsedBut inside Plain fresh). all_used new (added_used Plain mid.plain plain used_mid.0 c.add_statement_users.new.facts ids fresh ticket (added_to plain plain_cleared used_mid.0 (has_end ids) ticket c.clear_changed.ensures.stay c.clear_changed.ensures.links used_mid.1) refreshed m.own (used Plain))
+      used = λ (used : AreUsedBut inside Plain fresh). all_used new (added_used Plain mid.plain plain used_mid.0 c.add_statement_users.new.facts ids fresh ticket (added_to plain plain_cleared used_mid.0 (has_end ids) ticket c.clear_changed.ensures.stay c.clear_changed.ensures.links used_mid.1) refreshed m.room.own (used Plain))
           (same_used follow follow_cleared c.clear_changed-2.ensures.stay (but_none follow (used Follow)));
       steps = λ rows tickets s stood put. (
         was_asked.rise,
@@ -103,7 +103,7 @@ returns-in-Follow g c =
           record { plain = there; follow = here; settled = settled; numbered = tickets_more ticket tickets s rows.statements stood.numbered put.below };
       changed = both_changed inside new (none_changed plain plain_cleared c.clear_changed.ensures.stay c.clear_changed.ensures.cleared) (all_changed follow follow_cleared c.clear_changed-2.ensures.stay c.clear_changed-2.ensures.links c.add_statement_users-in-Follow.new.facts c.clear_changed-2.ensures.cleared (used_changed used_mid.0 c.add_statement_users-in-Follow.new.facts follow_cleared ids fresh ticket Follow mid.follow used_mid.1 used_mid.2 refreshed));
       used = λ (used : AreUsedBut inside Follow fresh). all_used new (same_used plain plain_cleared c.clear_changed.ensures.stay (but_none plain (used Plain)))
-          (added_used Follow mid.follow follow used_mid.0 c.add_statement_users-in-Follow.new.facts ids fresh ticket (added_to follow follow_cleared used_mid.0 (has_end ids) ticket c.clear_changed-2.ensures.stay c.clear_changed-2.ensures.links used_mid.1) refreshed m.own (used Follow));
+          (added_used Follow mid.follow follow used_mid.0 c.add_statement_users-in-Follow.new.facts ids fresh ticket (added_to follow follow_cleared used_mid.0 (has_end ids) ticket c.clear_changed-2.ensures.stay c.clear_changed-2.ensures.links used_mid.1) refreshed m.room.own (used Follow));
       steps = λ rows tickets s stood put. (
         was_asked.rise,
         omega (arith, was_asked.steps, c.looks_are_by_names.ensures.there names boards.follow rows Follow asked are (c.lawful-2.ensures.on Follow) stood.follow.shows, looks_within names rows s Follow asked put.moded put.asked_for),

@@ -33,7 +33,7 @@ returns-clause-verdicts g c rows stood leads =
     let next : Rows = after rows (edit.Item (name_at table c.args.item)) in
     let new = c.add_item.new.self in
     let moved = c.add_item.ensures in
-    refreshed c.same_truths_judge_the_same.ensures c.refreshes_judge.ensures table v new c.refresh.new.statements rows next h (moved.facts rows (tickets_in v.statements.rows) h.facts leads) (moved.used h.used) c.lawful.ensures refl refl
+    refreshed c.same_truths_judge_the_same.ensures c.refreshes_judge.ensures table v new c.refresh.new.statements rows next h (moved.facts rows (tickets_in v.statements.rows) h.facts leads) (moved.used h.needed.facts) c.lawful.ensures c.refresh.ensures.room.askers refl refl
     (both_changed v.facts new moved.changed moved.changed_follow) c.refresh.ensures.rows c.refresh.ensures.checks
 
 pub returns-clause-same : goal.returns-clause-same

@@ -4,6 +4,7 @@ use Rattle.cpe_rows.specs.Verdict.{verdict}
 use Rattle.cpe_rows.specs.declared.test.CheckKey.{CheckKey}
 use Rattle.cpe_rows.specs.declared.truth.Truth.{Truth}
 use Rattle.facts.specs.Facts.{HasFacts}
+use Rattle.statement_rows.specs.Askers.{AreAsked}
 use Rattle.statement_rows.specs.State.{judge, StatementRow}
 use Rattle.verdicts.specs.Verdicts.{HasVerdicts, IsNumbered, statements_in, tickets_in, truths_in, VerdictsNow}
 use Rattle.verdicts.proofs.VerdictLemmas.{all_verdicts, forget_judged, forget_known, forget_map, forget_numbered, verdicts_map}
@@ -22,7 +23,7 @@ returns-clause-verdicts c names rows stood =
       checks = kept ∙ h.checks;
       numbered = subst (AllByRecursion (IsNumbered names)) (sym is) (forget_numbered names js h.numbered);
       facts = subst (HasFacts names v.facts rows) (sym (ap tickets_in is ∙ forget_map (λ (j : StatementRow). j.ticket) (λ j. refl) js)) h.facts;
-      used = h.used;
+      needed = record { facts = h.needed.facts; askers = subst AreAsked (sym c.forget_changes.ensures.room.askers) h.needed.askers };
       sound = h.sound;
       judged = subst (λ (xs : List (CheckKey × Truth)). AllByRecursion (λ j. judge truth xs j ≡ j) c.forget_changes.new.self.rows) (sym kept)
           (subst (AllByRecursion (λ j. judge truth v.statements.checks j ≡ j)) (sym is) (forget_judged truth v.statements.checks js h.judged));

@@ -17,7 +17,7 @@ returns-clause-verdicts g c rows e n touches stood lead =
     let moved = c.lead.ensures in
     let tickets = tickets_in v.statements.rows in
     let touch = c.deprecations_touch.ensures in
-    refreshed c.same_truths_judge_the_same.ensures c.refreshes_judge.ensures table v new c.refresh.new.statements rows next h (moved.facts rows tickets e n touches h.facts l) (moved.used h.used) c.lawful.ensures
+    refreshed c.same_truths_judge_the_same.ensures c.refreshes_judge.ensures table v new c.refresh.new.statements rows next h (moved.facts rows tickets e n touches h.facts l) (moved.used h.needed.facts) c.lawful.ensures c.refresh.ensures.room.askers
     (touch.statements rows e n touches) (touch.checks rows e n touches) (moved.changed rows tickets e n touches h.facts l) c.refresh.ensures.rows c.refresh.ensures.checks
 
 pub returns-clause-same : goal.returns-clause-same

@@ -14,7 +14,7 @@ returns c names =
       checks = c.new.ensures.checks;
       numbered = subst (AllByRecursion (IsNumbered names)) (sym none) tt;
       facts = subst (HasFacts names c.new-facts.result no_rows) (sym (ap tickets_in none)) (c.new-facts.ensures.facts names);
-      used = c.new-facts.ensures.used;
+      needed = record { facts = c.new-facts.ensures.used; askers = c.new.ensures.asked };
       sound = c.lawful.ensures;
       judged = subst (AllByRecursion (λ (j : StatementRow). judge (truths_in c.new-facts.result) c.new.result.checks j ≡ j)) (sym none) tt;
     }
