@@ -32,7 +32,7 @@ use Rattle.cpe_dictionary.proofs.GivenLemmas.{any_given, length_given, names_giv
 use Rattle.name_index.specs.Table.{Names}
 use Rattle.fact_laws.specs.Shown.{holds_in, Shows}
 use Rattle.cpe_registry.specs.Registered.{Registered}
-use Rattle.kept_verdicts.specs.Kept.{Stands, Verdicts}
+use Rattle.verdicts.specs.Verdicts.{HasVerdicts, VerdictsNow}
 use Rattle.cpe_engine.specs.Adopting.{given_weight, IsBare, with_deprecations}
 use Rattle.engine_parts.specs.Parts.{AreKept, AreOf, rows_in}
 use Rattle.engine_parts.specs.declared.parts.Parts.{Parts}
@@ -154,13 +154,13 @@ module _ (rows : Rows) (bare : IsBare rows) where
   only_given : (ds : List (Option Deprecation)) → with_deprecations rows ds ≡ rows_of (each_deprecated rows.entries ds)
   only_given ds = λ k. record { entries = each_deprecated rows.entries ds; items = bare.items k; statements = bare.statements k; checks = bare.checks k }
 
-  pub are_given : (old new : Registered) (v : Verdicts) (ds : List (Option Deprecation))
-      → ((names : Names) (w : Verdicts) (was now : List Entry) → Stands names w (rows_of was) → Stands names w (rows_of now))
+  pub are_given : (old new : Registered) (v : VerdictsNow) (ds : List (Option Deprecation))
+      → ((names : Names) (w : VerdictsNow) (was now : List Entry) → HasVerdicts names w (rows_of was) → HasVerdicts names w (rows_of now))
       → new.table ≡ old.table → new.entries ≡ each_deprecated rows.entries ds → new.items ≡ rows.items → AreOf old v rows [] → AreOf new v (with_deprecations rows ds) []
   are_given old new v ds stay table entries items are =
       by_lists old new v (with_deprecations rows ds) [] table entries items
       (subst (λ (ns : List Values). Shows old.table (holds_in old.table) ns) (sym (names_stay rows ds)) are.held)
-      (subst (Stands old.table v) (sym (only_given ds)) (stay old.table v rows.entries (each_deprecated rows.entries ds) (subst (Stands old.table v) only are.stands)))
+      (subst (HasVerdicts old.table v) (sym (only_given ds)) (stay old.table v rows.entries (each_deprecated rows.entries ds) (subst (HasVerdicts old.table v) only are.verdicts)))
 
 -- ---- an engine's parts
 
@@ -174,7 +174,7 @@ module _ (p : Parts) (kept : AreKept p) (bare : IsBare (rows_in p)) (ds : List (
   pub too_heavy : MOST_WEIGHT < n → IsLawful next → ⊥
   too_heavy above lawful = too_much next n by_weight above lawful
 
-  module _ (new : Registered) (stay : (names : Names) (w : Verdicts) (was now : List Entry) → Stands names w (rows_of was) → Stands names w (rows_of now))
+  module _ (new : Registered) (stay : (names : Names) (w : VerdictsNow) (was now : List Entry) → HasVerdicts names w (rows_of was) → HasVerdicts names w (rows_of now))
       (table : new.table ≡ p.registry.table) (entries : new.entries ≡ each_deprecated p.registry.entries ds) (items : new.items ≡ p.registry.items) where
     pub adopted : AreOf new p.verdicts next []
     adopted = are_given (rows_in p) bare p.registry new p.verdicts ds stay table entries items kept.are
@@ -184,4 +184,4 @@ module _ (p : Parts) (kept : AreKept p) (bare : IsBare (rows_in p)) (ds : List (
     kept_adopted made registry verdicts weighed below d =
         let exact = exact_given next n by_weight below in
         stay_kept made next n (lawful_given (rows_in p) ds kept.lawful (omega (arith, exact, below)) (subst IsDictionary entries d)) weighed exact
-        (subst (λ (r : Registered). AreOf r made.verdicts next []) (sym registry) (subst (λ (v : Verdicts). AreOf new v next []) (sym verdicts) adopted))
+        (subst (λ (r : Registered). AreOf r made.verdicts next []) (sym registry) (subst (λ (v : VerdictsNow). AreOf new v next []) (sym verdicts) adopted))

@@ -67,7 +67,7 @@ fn deprecate_all(
     ensures ok { OnOk result (rows_in parts.new ≡ with_deprecations (rows_in parts.old) deprecations) }
     ensures unlawful { IfErr result (λ f. f ≡ AdoptFault.Unlawful → IsLawful (with_deprecations (rows_in parts.old) deprecations) → ⊥) }
 {
-    kept_verdicts::law::entries_alone_say_nothing();
+    verdicts::law::entries_alone_have_no_verdict();
     let weight = with_all(parts.weight, deprecations.as_slice());
     if weight > MOST_WEIGHT {
         drop(deprecations);

@@ -85,7 +85,7 @@ impl Engine {
             items: self.parts.registry.items().len() as u64,
             statements: self.parts.verdicts.len() as u64,
             facts: self.parts.verdicts.facts() as u64,
-            checks: self.parts.verdicts.checks_len() as u64,
+            checks: self.parts.verdicts.results().len() as u64,
             weight: self.parts.weight,
         }
     }
@@ -148,21 +148,21 @@ impl Engine {
     pub fn checks_len(&self) -> usize
         ensures { result ≡ length self.now.checks }
     {
-        self.parts.verdicts.checks_len()
+        self.parts.verdicts.results().len()
     }
 
     /// The check at a place from 0 for which a result is kept, with it. There is none exactly where the place is their number or more.
     pub fn check_at(&self, k: usize) -> Option<(&CheckKey, Truth)>
         ensures { option_map (λ p. (p.0.now, p.1)) result ≡ slice_get self.now.checks k }
     {
-        self.parts.verdicts.check_at(k)
+        self.parts.verdicts.results().at(k)
     }
 
     /// Whether a result is kept for a check.
     pub fn has_check(&self, key: &CheckKey) -> bool
         ensures { result ≡ list_any (has_key key.now) self.now.checks }
     {
-        self.parts.verdicts.has_check(key)
+        self.parts.verdicts.results().has(key)
     }
 
     /// How many statements there are.

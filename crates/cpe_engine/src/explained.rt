@@ -176,10 +176,7 @@ impl PlainRows for Engine {
     }
 
     fn result_of(&self, key: &CheckKey) -> Truth {
-        match self.parts.verdicts.check(key) {
-            Some(truth) => truth,
-            None => Truth::Unknown,
-        }
+        self.parts.verdicts.results().truth(key)
     }
 
     fn has_item(&self, name: &Wfn) -> bool {

@@ -5,7 +5,7 @@ ghost use Rattle.cpe_rows.specs.Prelude.{ends, is_followed, IsLower, Rows};
 ghost use Rattle.name_index.specs.Table.{IsLive};
 ghost use Rattle.fact_laws.specs.Shown.{names_at};
 ghost use Rattle.cpe_registry.specs.Registered.{AreLive, name_in};
-ghost use Rattle.kept_verdicts.specs.Leading.{AreItemsTo, AreOfRows};
+ghost use Rattle.verdicts.specs.Leading.{AreItemsTo, AreOfRows};
 ghost use Rattle.checked_certificates.specs.Relates.{related};
 ghost use Rattle.cpe_engine.specs.Shown.{AreShown};
 
@@ -14,7 +14,7 @@ use cpe_inventory::ItemSlots;
 use cpe_name::Wfn;
 use cpe_registry::Registry;
 use cpe_values::Memory;
-use kept_verdicts::KeptVerdicts;
+use verdicts::Verdicts;
 use name_index::NameId;
 use std::alloc::Global;
 
@@ -126,7 +126,7 @@ pub(crate) fn first_followed<'t>(
 // The items to an end of which a name in lower case stands so.
 fn items_shown(
     registry: &Registry,
-    verdicts: &KeptVerdicts,
+    verdicts: &Verdicts,
     alloc: Global,
     relates: Relates,
     name: &Wfn,
@@ -145,7 +145,7 @@ fn items_shown(
 // The items to an end of which one of these names stands so.
 fn all_shown(
     registry: &Registry,
-    verdicts: &KeptVerdicts,
+    verdicts: &Verdicts,
     alloc: Global,
     relates: Relates,
     names: &[&Wfn],
@@ -169,7 +169,7 @@ fn all_shown(
 /// Only that memory ran out.
 pub(crate) fn first_shown<'a>(
     registry: &'a Registry,
-    verdicts: &KeptVerdicts,
+    verdicts: &Verdicts,
     alloc: Global,
     relates: Relates,
     name: &Wfn,

@@ -28,7 +28,7 @@ use Rattle.cpe_rows.specs.declared.test.Test.TheOpen.{Test-F}
 use Rattle.cpe_rows.specs.declared.test.Test.TheVariants.{rolls-Logic}
 use Rattle.fact_laws.specs.Asked.{entry_names, names_kept}
 use Rattle.cpe_registry.specs.Registered.{AreHeld, AreLive, Registered}
-use Rattle.kept_verdicts.specs.Kept.{Stands, Verdicts}
+use Rattle.verdicts.specs.Verdicts.{HasVerdicts, VerdictsNow}
 use Rattle.engine_parts.specs.Holding.{AreFew, Grows}
 use Rattle.engine_parts.specs.Parts.{AreOf}
 
@@ -102,7 +102,7 @@ module _ (old new : Registered) (id : NameId) (name : Values) (ids : List NameId
     (entries : new.entries ≡ old.entries) (items : new.items ≡ old.items) (live : AreLive old.table ids)
     (order : (list other : List Values) → SameElements list other → Shows new.table (holds_in new.table) list → Shows new.table (holds_in new.table) other)
     (held : (list : List Values) → Shows old.table (holds_in old.table) list → Shows new.table (holds_in new.table) (name ∷ list))
-    (stands : (v : Verdicts) (rows : Rows) → Stands old.table v rows → Stands new.table v rows) where
+    (stands : (v : VerdictsNow) (rows : Rows) → HasVerdicts old.table v rows → HasVerdicts new.table v rows) where
   pub grows_one : Grows old new ids (ids ++ id ∷ [])
   grows_one = record {
     entries = entries;
@@ -111,7 +111,7 @@ module _ (old new : Registered) (id : NameId) (name : Values) (ids : List NameId
     are = are;
   }
     where
-      are : (v : Verdicts) (rows : Rows) (others : List Values) → AreOf old v rows (names_at old.table ids ++ others) → AreOf new v rows (names_at new.table (ids ++ id ∷ []) ++ others)
+      are : (v : VerdictsNow) (rows : Rows) (others : List Values) → AreOf old v rows (names_at old.table ids ++ others) → AreOf new v rows (names_at new.table (ids ++ id ∷ []) ++ others)
       are v rows others a =
           let more = names_more old.table new.table id name ids holds named live in
           record {
@@ -120,13 +120,13 @@ module _ (old new : Registered) (id : NameId) (name : Values) (ids : List NameId
             held = subst (λ (ns : List Values). Shows new.table (holds_in new.table) ((ns ++ others) ++ names_kept rows)) (sym more)
                 (order (name ∷ ((names_at old.table ids ++ others) ++ names_kept rows)) (((names_at old.table ids ++ name ∷ []) ++ others) ++ names_kept rows)
                 (last_in_first name (names_at old.table ids) others (names_kept rows)) (held ((names_at old.table ids ++ others) ++ names_kept rows) a.held));
-            stands = stands v rows a.stands;
+            verdicts = stands v rows a.verdicts;
           }
 
 -- ---- a name that is released
 
 -- what the registry is asked: its entries and items come last
-pub are_held : (r : Registered) (v : Verdicts) (rows : Rows) (name : Values) (others : List Values)
+pub are_held : (r : Registered) (v : VerdictsNow) (rows : Rows) (name : Values) (others : List Values)
     → ((list other : List Values) → SameElements list other → Shows r.table (holds_in r.table) list → Shows r.table (holds_in r.table) other)
     → AreOf r v rows (name ∷ others) → (ns : List Values) × AreHeld r (name ∷ ns)
 are_held r v rows name others order a =
@@ -163,8 +163,8 @@ module _ (old new : Names) (id : ℕ) (are : AreNames old) (r : Releases old new
 -- those that are left
 module _ (old new : Registered) (id : NameId) (are : AreNames old.table) (live : IsLive old.table id.0) (r : Releases old.table new.table id.0) (entries : new.entries ≡ old.entries) (items : new.items ≡ old.items)
     (released : (list : List Values) → Shows old.table (holds_in old.table) (name_at old.table id ∷ list) → Shows new.table (holds_in new.table) list)
-    (stands : (v : Verdicts) (rows : Rows) → ((n : Values) → 1 ≤ times_named n (names_kept rows) → IsKnown new.table n) → Stands old.table v rows → Stands new.table v rows) where
-  pub left : (v : Verdicts) (rows : Rows) (others : List Values) (rest : List NameId) → AreLive old.table rest → AreOf old v rows (name_at old.table id ∷ (names_at old.table rest ++ others))
+    (stands : (v : VerdictsNow) (rows : Rows) → ((n : Values) → 1 ≤ times_named n (names_kept rows) → IsKnown new.table n) → HasVerdicts old.table v rows → HasVerdicts new.table v rows) where
+  pub left : (v : VerdictsNow) (rows : Rows) (others : List Values) (rest : List NameId) → AreLive old.table rest → AreOf old v rows (name_at old.table id ∷ (names_at old.table rest ++ others))
       → AreLive new.table rest × AreOf new v rows (names_at new.table rest ++ others)
   left v rows others rest lives a =
       let ns = names_at old.table rest in
@@ -176,7 +176,7 @@ module _ (old new : Registered) (id : NameId) (are : AreNames old.table) (live :
           entries = entries ∙ a.entries;
           items = items ∙ a.items;
           held = shows;
-          stands = stands v rows (λ n some. shows.known n (omega (arith, some, named_both n (ns ++ others) (names_kept rows)))) a.stands;
+          verdicts = stands v rows (λ n some. shows.known n (omega (arith, some, named_both n (ns ++ others) (names_kept rows)))) a.verdicts;
         }),
       )
 

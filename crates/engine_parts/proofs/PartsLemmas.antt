@@ -27,7 +27,7 @@ use Rattle.name_index.specs.declared.table.NameId.{NameId}
 use Rattle.fact_laws.specs.Shown.{holds_in, name_at, names_at, Shows}
 use Rattle.fact_laws.specs.Asked.{names_kept}
 use Rattle.cpe_registry.specs.Registered.{Registered}
-use Rattle.kept_verdicts.specs.Kept.{checks_in, Stands, statements_in, Verdicts}
+use Rattle.verdicts.specs.Verdicts.{checks_in, HasVerdicts, statements_in, VerdictsNow}
 use Rattle.engine_parts.specs.Parts.{AreKept, AreOf, rows_in}
 use Rattle.engine_parts.specs.declared.parts.Parts.{Parts}
 
@@ -73,7 +73,7 @@ is_light next n counted below =
 -- ---- registry and verdicts of rows
 
 pub rows_are : (p : Parts) (rows : Rows) (others : List Values) → AreOf p.registry p.verdicts rows others → rows_in p ≡ rows
-rows_are p rows others a = λ k. record { entries = a.entries k; items = a.items k; statements = a.stands.statements k; checks = a.stands.checks k }
+rows_are p rows others a = λ k. record { entries = a.entries k; items = a.items k; statements = a.verdicts.statements k; checks = a.verdicts.checks k }
 
 -- lawful rows, and the weight that they were found to have
 pub stay_kept : (made : Parts) (rows : Rows) (n : ℕ) → IsLawful rows → made.weight ≡ n → n ≡ weight rows → AreOf made.registry made.verdicts rows [] → AreKept made
@@ -86,27 +86,27 @@ stay_kept made rows n lawful weighed weighs are =
     }
 
 -- other verdicts of the same rows
-pub by_verdicts : (r : Registered) (v w : Verdicts) (rows : Rows) (others : List Values) → Stands r.table w rows → AreOf r v rows others → AreOf r w rows others
-by_verdicts r v w rows others stands a = record { entries = a.entries; items = a.items; held = a.held; stands = stands }
+pub by_verdicts : (r : Registered) (v w : VerdictsNow) (rows : Rows) (others : List Values) → HasVerdicts r.table w rows → AreOf r v rows others → AreOf r w rows others
+by_verdicts r v w rows others stands a = record { entries = a.entries; items = a.items; held = a.held; verdicts = stands }
 
 -- the same table, of which other rows have these names
-pub by_lists : (old new : Registered) (v : Verdicts) (rows : Rows) (others : List Values) → new.table ≡ old.table → new.entries ≡ rows.entries → new.items ≡ rows.items
-    → Shows old.table (holds_in old.table) (others ++ names_kept rows) → Stands old.table v rows → AreOf new v rows others
-by_lists old new v rows others table entries items held stands = record {
+pub by_lists : (old new : Registered) (v : VerdictsNow) (rows : Rows) (others : List Values) → new.table ≡ old.table → new.entries ≡ rows.entries → new.items ≡ rows.items
+    → Shows old.table (holds_in old.table) (others ++ names_kept rows) → HasVerdicts old.table v rows → AreOf new v rows others
+by_lists old new v rows others table entries items held verdicts = record {
   entries = entries;
   items = items;
   held = subst (λ (t : Names). Shows t (holds_in t) (others ++ names_kept rows)) (sym table) held;
-  stands = subst (λ (t : Names). Stands t v rows) (sym table) stands;
+  verdicts = subst (λ (t : Names). HasVerdicts t v rows) (sym table) stands;
 }
 
 -- one name is held beside the rows
-pub by_hold : (old new : Registered) (v : Verdicts) (rows : Rows) (id : NameId) (name : Values) → name_at new.table id ≡ name → new.entries ≡ old.entries → new.items ≡ old.items
-    → Shows new.table (holds_in new.table) (name ∷ names_kept rows) → Stands new.table v rows → AreOf old v rows [] → AreOf new v rows (name_at new.table id ∷ [])
+pub by_hold : (old new : Registered) (v : VerdictsNow) (rows : Rows) (id : NameId) (name : Values) → name_at new.table id ≡ name → new.entries ≡ old.entries → new.items ≡ old.items
+    → Shows new.table (holds_in new.table) (name ∷ names_kept rows) → HasVerdicts new.table v rows → AreOf old v rows [] → AreOf new v rows (name_at new.table id ∷ [])
 by_hold old new v rows id name named entries items held stands a =
-    subst (λ (n : Values). AreOf new v rows (n ∷ [])) (sym named) (record { entries = entries ∙ a.entries; items = items ∙ a.items; held = held; stands = stands })
+    subst (λ (n : Values). AreOf new v rows (n ∷ [])) (sym named) (record { entries = entries ∙ a.entries; items = items ∙ a.items; held = held; verdicts = stands })
 
 -- no others but those of the numbers that are lent
-pub no_others : (r : Registered) (v : Verdicts) (rows : Rows) (ids lent : List NameId) → lent ≡ ids → AreOf r v rows (names_at r.table ids) → AreOf r v rows (names_at r.table lent ++ [])
+pub no_others : (r : Registered) (v : VerdictsNow) (rows : Rows) (ids lent : List NameId) → lent ≡ ids → AreOf r v rows (names_at r.table ids) → AreOf r v rows (names_at r.table lent ++ [])
 no_others r v rows ids lent same a = subst (λ (ns : List Values). AreOf r v rows ns) (sym (ap (λ (xs : List NameId). names_at r.table xs ++ []) same ∙ append-nil (names_at r.table ids))) a
 
 -- ---- holds are few
@@ -115,7 +115,7 @@ pub few_holds : (table : Names) (rows : Rows) → length (names_kept rows) ≤ 4
 few_holds table rows kept few id = omega (arith, few id, kept)
 
 -- rows list by list, of which two lists are the same
-pub same_rows : (r : Registered) (v w : Verdicts) → statements_in w ≡ statements_in v → checks_in w ≡ checks_in v
+pub same_rows : (r : Registered) (v w : VerdictsNow) → statements_in w ≡ statements_in v → checks_in w ≡ checks_in v
     → ◌≡◌ {A = Rows} (record { entries = r.entries; items = r.items; statements = statements_in v; checks = checks_in v }) (record { entries = r.entries; items = r.items; statements = statements_in w; checks = checks_in w })
 same_rows r v w statements checks = λ k. record { entries = r.entries; items = r.items; statements = sym statements k; checks = sym checks k }
 

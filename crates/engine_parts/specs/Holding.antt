@@ -6,7 +6,7 @@ use Rattle.name_index.specs.declared.table.NameId.{NameId}
 use Rattle.name_index.specs.Table.{Names}
 use Rattle.fact_laws.specs.Shown.{holds_in, names_at, Shows}
 use Rattle.cpe_registry.specs.Registered.{AreLive, Registered}
-use Rattle.kept_verdicts.specs.Kept.{Verdicts}
+use Rattle.verdicts.specs.Verdicts.{VerdictsNow}
 use Rattle.engine_parts.specs.Parts.{AreOf}
 
 -- so few are held that so many more can be
@@ -18,4 +18,4 @@ pub record Grows (old new : Registered) (before now : List NameId) : Type 0 wher
   pub entries : new.entries ≡ old.entries
   pub items : new.items ≡ old.items
   pub live : AreLive new.table now
-  pub are : (v : Verdicts) (rows : Rows) (others : List Values) → AreOf old v rows (names_at old.table before ++ others) → AreOf new v rows (names_at new.table now ++ others)
+  pub are : (v : VerdictsNow) (rows : Rows) (others : List Values) → AreOf old v rows (names_at old.table before ++ others) → AreOf new v rows (names_at new.table now ++ others)

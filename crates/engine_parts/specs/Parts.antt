@@ -10,7 +10,7 @@ use Rattle.cpe_rows.specs.declared.edit.Edit.{Edit}
 use Rattle.fact_laws.specs.Shown.{holds_in, Shows}
 use Rattle.fact_laws.specs.Asked.{names_kept}
 use Rattle.cpe_registry.specs.Registered.{Registered}
-use Rattle.kept_verdicts.specs.Kept.{Stands, Verdicts, checks_in, statements_in}
+use Rattle.verdicts.specs.Verdicts.{checks_in, HasVerdicts, statements_in, VerdictsNow}
 use Rattle.engine_parts.specs.Numbered.{edit_of, IsFound, names_coming}
 use Rattle.engine_parts.specs.declared.numbered.Numbered.{Numbered}
 use Rattle.engine_parts.specs.declared.parts.Parts.{Parts}
@@ -20,11 +20,11 @@ rows_in p = record { entries = p.registry.entries; items = p.registry.items; sta
 
 -- Registry and verdicts are those of these rows: the table holds the names of entries, items and fact references, these others besides, each
 -- as often as it is one, and no more; and each verdict is that of the rows.
-pub record AreOf (r : Registered) (v : Verdicts) (rows : Rows) (others : List Values) : Type 0 where
+pub record AreOf (r : Registered) (v : VerdictsNow) (rows : Rows) (others : List Values) : Type 0 where
   pub entries : r.entries ≡ rows.entries
   pub items : r.items ≡ rows.items
   pub held : Shows r.table (holds_in r.table) (others ++ names_kept rows)
-  pub stands : Stands r.table v rows
+  pub verdicts : HasVerdicts r.table v rows
 
 -- lawful rows, and their weight; the table holds their names and no other
 pub record AreKept (p : Parts) : Type 0 where

@@ -17,6 +17,7 @@ use crate::holds::release_coming;
 use crate::numbered::{Change, Numbered, Turn};
 use crate::parts::Parts;
 use cpe_dictionary::Plan;
+use cpe_inventory::check_fault;
 use cpe_rows::{Edit, EditFault, MOST_WEIGHT, Which};
 use cpe_weight::{
     with_active_entry, with_deprecation, with_key, with_name, with_note, with_statement,
@@ -144,8 +145,8 @@ impl Parts {
                 unplanned(self.verdicts.statement_fault(statement))
             }
             Numbered::DropStatement(id) => known(self.has_statement(id)),
-            Numbered::SetCheck { key, .. } => unplanned(self.verdicts.check_fault(key)),
-            Numbered::DropCheck(key) => known(self.verdicts.has_check(key)),
+            Numbered::SetCheck { key, .. } => unplanned(check_fault(self.verdicts.results(), key)),
+            Numbered::DropCheck(key) => known(self.verdicts.results().has(key)),
         }
     }
 }
@@ -198,7 +199,7 @@ impl Parts {
             Numbered::Item(id) => with_name(weight, self.registry.name(*id)),
             Numbered::Change(change) => with_change(weight, change),
             Numbered::PutStatement { statement, .. } => with_statement(weight, statement),
-            Numbered::SetCheck { key, .. } if !self.verdicts.has_check(key) => with_key(
+            Numbered::SetCheck { key, .. } if !self.verdicts.results().has(key) => with_key(
                 weight, key,
             ),
             _ => weight,

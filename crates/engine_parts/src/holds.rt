@@ -5,7 +5,7 @@ ghost use Rattle.cpe_rows.specs.Shape.{is_sound};
 ghost use Rattle.name_index.specs.Table.{IsLive};
 ghost use Rattle.fact_laws.specs.Shown.{names_at};
 ghost use Rattle.cpe_registry.specs.Registered.{AreLive, name_in};
-ghost use Rattle.kept_verdicts.specs.Kept.{Verdicts};
+ghost use Rattle.verdicts.specs.Verdicts.{VerdictsNow};
 ghost use Rattle.engine_parts.specs.Holding.{AreFew, Grows};
 ghost use Rattle.engine_parts.specs.Numbered.{numbers_of};
 ghost use Rattle.engine_parts.specs.Parts.{AreOf};
@@ -57,7 +57,7 @@ fn hold_fact(registry: &mut Registry, name: &Wfn, ids: &mut Vec<NameId>) -> Resu
     cpe_rows::law::names_are_equal();
     fact_laws::law::lists_are_shown();
     fact_laws::law::tables_are_lists();
-    kept_verdicts::law::verdicts_stand();
+    verdicts::law::held_names_keep_verdicts();
     reserve_one(ids)?;
     let id = registry.hold(name)?;
     put_last(ids, id);
@@ -89,8 +89,8 @@ fn put_last(ids: &mut Vec<NameId>, id: NameId)
 /// Lets go the names that were held for an edit.
 pub(crate) fn release_coming(registry: &mut Registry, coming: Coming)
     requires live { AreLive registry.old.table (numbers_of coming) }
-    requires are { (v : Verdicts) × (rows : Rows) × (others : List Values) × AreOf registry.old v rows (names_at registry.old.table (numbers_of coming) ++ others) }
-    ensures { (v : Verdicts) (rows : Rows) (others : List Values) → AreOf registry.old v rows (names_at registry.old.table (numbers_of coming) ++ others) → AreOf registry.new v rows others }
+    requires are { (v : VerdictsNow) × (rows : Rows) × (others : List Values) × AreOf registry.old v rows (names_at registry.old.table (numbers_of coming) ++ others) }
+    ensures { (v : VerdictsNow) (rows : Rows) (others : List Values) → AreOf registry.old v rows (names_at registry.old.table (numbers_of coming) ++ others) → AreOf registry.new v rows others }
 {
     match coming {
         Coming::Nothing => {}
@@ -102,8 +102,8 @@ pub(crate) fn release_coming(registry: &mut Registry, coming: Coming)
 /// Lets go the names of these numbers, each of which is held besides the rows.
 pub fn release_all(registry: &mut Registry, ids: &[NameId])
     requires live { AreLive registry.old.table ids.now }
-    requires are { (v : Verdicts) × (rows : Rows) × (others : List Values) × AreOf registry.old v rows (names_at registry.old.table ids.now ++ others) }
-    ensures { (v : Verdicts) (rows : Rows) (others : List Values) → AreOf registry.old v rows (names_at registry.old.table ids.now ++ others) → AreOf registry.new v rows others }
+    requires are { (v : VerdictsNow) × (rows : Rows) × (others : List Values) × AreOf registry.old v rows (names_at registry.old.table ids.now ++ others) }
+    ensures { (v : VerdictsNow) (rows : Rows) (others : List Values) → AreOf registry.old v rows (names_at registry.old.table ids.now ++ others) → AreOf registry.new v rows others }
 {
     for id in ids {
         release_one(registry, *id);
@@ -113,14 +113,14 @@ pub fn release_all(registry: &mut Registry, ids: &[NameId])
 // Lets go one name. The numbers of those that are held besides keep theirs.
 fn release_one(registry: &mut Registry, id: NameId)
     requires live { IsLive registry.old.table id.0 }
-    requires are { (v : Verdicts) × (rows : Rows) × (others : List Values) × AreOf registry.old v rows (name_in registry.old.table id ∷ others) }
-    ensures { (v : Verdicts) (rows : Rows) (others : List Values) (rest : List NameId) → AreLive registry.old.table rest
+    requires are { (v : VerdictsNow) × (rows : Rows) × (others : List Values) × AreOf registry.old v rows (name_in registry.old.table id ∷ others) }
+    ensures { (v : VerdictsNow) (rows : Rows) (others : List Values) (rest : List NameId) → AreLive registry.old.table rest
         → AreOf registry.old v rows (name_in registry.old.table id ∷ (names_at registry.old.table rest ++ others))
         → AreLive registry.new.table rest × AreOf registry.new v rows (names_at registry.new.table rest ++ others) }
 {
     fact_laws::law::lists_are_shown();
     fact_laws::law::tables_are_lists();
-    kept_verdicts::law::verdicts_stand();
+    verdicts::law::released_names_keep_verdicts();
     registry.lawful();
     registry.release(id);
 }

@@ -33,7 +33,7 @@ impl Parts {
         cpe_rows::law::names_are_equal();
         fact_laws::law::lists_are_shown();
         fact_laws::law::tables_are_lists();
-        kept_verdicts::law::verdicts_stand();
+        verdicts::law::held_names_keep_verdicts();
         fact_laws::law::lawful_rows_ask_few();
         let id = self.registry.hold_moved(name)?;
         Ok(id)

@@ -1,11 +1,11 @@
 // The parts of an engine: the lists of rows that it keeps.
 ghost use Rattle.std.specs.Prelude.{◌≡◌, [], map};
 ghost use Rattle.cpe_rows.specs.Prelude.{no_rows, verdict};
-ghost use Rattle.kept_verdicts.specs.Kept.{known_in};
+ghost use Rattle.verdicts.specs.Verdicts.{known_in};
 ghost use Rattle.engine_parts.specs.Parts.{AreKept, AreOf, rows_in};
 
 use cpe_registry::Registry;
-use kept_verdicts::KeptVerdicts;
+use verdicts::Verdicts;
 use std::alloc::Global;
 
 /// The lists of rows that an engine keeps, and their weight.
@@ -14,7 +14,7 @@ pub struct Parts {
     /// The names of entries, items and fact references, and the first two lists.
     pub registry: Registry,
     /// The other two, and the verdict of each statement.
-    pub verdicts: KeptVerdicts,
+    pub verdicts: Verdicts,
     /// The weight of all rows.
     pub weight: u64,
 }
@@ -29,7 +29,7 @@ impl Parts {
         cpe_rows::law::rows_stay_lawful();
         Parts {
             registry: Registry::new(alloc),
-            verdicts: KeptVerdicts::new(alloc),
+            verdicts: Verdicts::new(alloc),
             weight: 0,
         }
     }

@@ -18,8 +18,9 @@ use Rattle.name_index.specs.declared.table.NameId.{NameId}
 use Rattle.fact_laws.specs.Shown.{holds_in, name_at, names_at, Shows}
 use Rattle.fact_laws.specs.Asked.{names_kept}
 use Rattle.cpe_registry.specs.Registered.{AreLive, Registered}
-use Rattle.told_facts.specs.Facts.{AreEnds}
-use Rattle.kept_verdicts.specs.Kept.{known_in, Stands, Verdicts}
+use Rattle.facts.specs.Facts.{LeadsTo}
+use Rattle.cpe_rows.specs.declared.statement.Mode.TheVariants.{Follow}
+use Rattle.verdicts.specs.Verdicts.{HasVerdicts, known_in, VerdictsNow}
 use Rattle.engine_parts.specs.Parts.{AreOf}
 use Rattle.engine_parts.proofs.PartsLemmas.{by_lists}
 
@@ -28,17 +29,17 @@ at_err (Ok x) p = tt
 at_err (Err e) p = p
 
 -- other rows with the same entries, items and names, and their verdicts
-pub by_moved : (r : Registered) (v w : Verdicts) (rows next : Rows) (others : List Values) → next.entries ≡ rows.entries → next.items ≡ rows.items → names_kept next ≡ names_kept rows
-    → Stands r.table w next → AreOf r v rows others → AreOf r w next others
+pub by_moved : (r : Registered) (v w : VerdictsNow) (rows next : Rows) (others : List Values) → next.entries ≡ rows.entries → next.items ≡ rows.items → names_kept next ≡ names_kept rows
+    → HasVerdicts r.table w next → AreOf r v rows others → AreOf r w next others
 by_moved r v w rows next others entries items names stands a = record {
   entries = a.entries ∙ sym entries;
   items = a.items ∙ sym items;
   held = subst (λ (ns : List Values). Shows r.table (holds_in r.table) (others ++ ns)) (sym names) a.held;
-  stands = stands;
+  verdicts = stands;
 }
 
 -- the changes are told by what was known, where the statements are the same
-pub told : (rows next : Rows) (v : Verdicts) (cs : List Changed) → cs ≡ differing 0 (known_in v) (map (verdict next) next.statements) → known_in v ≡ map (verdict rows) rows.statements
+pub told : (rows next : Rows) (v : VerdictsNow) (cs : List Changed) → cs ≡ differing 0 (known_in v) (map (verdict next) next.statements) → known_in v ≡ map (verdict rows) rows.statements
     → next.statements ≡ rows.statements → cs ≡ others rows next rows.statements
 told rows next v cs is known same = is ∙ (λ k. differing 0 (known k) (map (verdict next) (same k)))
 
@@ -55,15 +56,15 @@ found_some {A = A} p (x ∷ xs) h = by (p x) refl (found_some p xs)
 
 -- the ends of a name, of the names as they are lent
 pub are_ends : (table lent : Names) (es : List Entry) (id : ℕ) (ids numbers : List NameId) → lent ≡ table → numbers ≡ ids → AreLive table ids → names_at table ids ≡ ends es (kept_at table id).name
-    → AreEnds lent es id numbers
-are_ends table lent es id ids numbers at same live names = subst (λ (t : Names). AreEnds t es id numbers) (sym at) (subst (AreEnds table es id) (sym same) (record { live = live; names = names }))
+    → LeadsTo lent es Follow id numbers
+are_ends table lent es id ids numbers at same live names = subst (λ (t : Names). LeadsTo t es Follow id numbers) (sym at) (subst (LeadsTo table es Follow id) (sym same) (record { live = live; names = names }))
 
 -- an item that was dropped, whose name is held still
-pub item_dropped : (old new : Registered) (w : Verdicts) (rows : Rows) (id : NameId) (t : Names) → new.table ≡ old.table → new.entries ≡ rows.entries → new.items ≡ without_first (is_same (name_at old.table id)) rows.items
-    → Shows old.table (holds_in old.table) (name_at old.table id ∷ names_kept (after rows (edit.DropItem (name_at old.table id)))) → t ≡ old.table → Stands t w (after rows (edit.DropItem (name_at t id)))
+pub item_dropped : (old new : Registered) (w : VerdictsNow) (rows : Rows) (id : NameId) (t : Names) → new.table ≡ old.table → new.entries ≡ rows.entries → new.items ≡ without_first (is_same (name_at old.table id)) rows.items
+    → Shows old.table (holds_in old.table) (name_at old.table id ∷ names_kept (after rows (edit.DropItem (name_at old.table id)))) → t ≡ old.table → HasVerdicts t w (after rows (edit.DropItem (name_at t id)))
     → AreOf new w (after rows (edit.DropItem (name_at old.table id))) (name_at new.table id ∷ [])
 item_dropped old new w rows id t table entries items held at stands =
     let n = name_at old.table id in
     let next = after rows (edit.DropItem n) in
     subst (λ (x : Names). AreOf new w next (name_at x id ∷ [])) (sym table)
-    (by_lists old new w next (n ∷ []) table entries items held (subst (λ (x : Names). Stands x w (after rows (edit.DropItem (name_at x id)))) at stands))
+    (by_lists old new w next (n ∷ []) table entries items held (subst (λ (x : Names). HasVerdicts x w (after rows (edit.DropItem (name_at x id)))) at stands))

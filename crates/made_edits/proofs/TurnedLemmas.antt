@@ -8,7 +8,7 @@ use Rattle.cpe_rows.specs.declared.entry.Deprecation.{Deprecation}
 use Rattle.cpe_rows.specs.declared.entry.Note.{Note}
 use Rattle.cpe_changes.specs.Touching.{deprecation_changed}
 use Rattle.cpe_dictionary.specs.Kept.{rewritten, with_entries, written}
-use Rattle.told_facts.specs.Looks.{lead_looks}
+use Rattle.facts.specs.Looks.{lead_looks}
 use Rattle.made_edits.specs.Looks.{made_looks}
 use Rattle.engine_parts.specs.Numbered.{given, note_of, turned}
 use Rattle.engine_parts.specs.declared.numbered.Turn.{Turn}

@@ -9,7 +9,7 @@ use Rattle.cpe_rows.specs.Step.{first_some}
 use Rattle.cpe_rows.specs.Verdict.{verdict}
 use Rattle.cpe_rows.specs.declared.reply.Changed.{Changed}
 use Rattle.cpe_dictionary.specs.declared.plans.Plan.{Plan}
-use Rattle.kept_verdicts.specs.Kept.{known_in}
+use Rattle.verdicts.specs.Verdicts.{known_in}
 use Rattle.engine_parts.specs.Parts.{AreBeside, edit_in, rows_in}
 use Rattle.engine_parts.specs.declared.numbered.Numbered.{Numbered}
 use Rattle.engine_parts.specs.declared.numbered.Numbered.TheVariants as numbered

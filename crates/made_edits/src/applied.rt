@@ -2,7 +2,7 @@
 ghost use Rattle.std.specs.Prelude.{◌≡◌, ◌≤◌, [], IfErr, IfOk, OnErr, OnOk, map};
 ghost use Rattle.cpe_steps.specs.Within.{StepsWithin};
 ghost use Rattle.cpe_rows.specs.Prelude.{after, Applied, changes, Refuses, step, verdict};
-ghost use Rattle.kept_verdicts.specs.Kept.{known_in};
+ghost use Rattle.verdicts.specs.Verdicts.{known_in};
 ghost use Rattle.engine_parts.specs.Checked.{IsChecked};
 ghost use Rattle.engine_parts.specs.Parts.{AreBeside, AreKept, edit_in, rows_in};
 ghost use Rattle.made_edits.specs.Looks.{edit_looks, made_looks};

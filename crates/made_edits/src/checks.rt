@@ -24,7 +24,7 @@ pub(crate) fn set_check(
     ensures weight { parts.new.weight ≡ parts.old.weight }
     ensures changes { IfOk result (λ cs. cs ≡ changes (rows_in parts.old) (edit_in parts.old (Numbered.SetCheck key truth))) }
 {
-    match parts.verdicts.set_check(key, truth) {
+    match parts.verdicts.set_result(key, truth) {
         Ok(()) => Ok(parts.verdicts.changes(room)),
         Err(memory) => {
             drop(room);
@@ -48,6 +48,6 @@ pub(crate) fn drop_check(
     ensures weight { parts.new.weight ≡ parts.old.weight }
     ensures changes { IfOk result (λ cs. cs ≡ changes (rows_in parts.old) (edit_in parts.old (Numbered.DropCheck key))) }
 {
-    parts.verdicts.drop_check(&key);
+    parts.verdicts.remove_result(&key);
     Ok(parts.verdicts.changes(room))
 }

@@ -12,7 +12,7 @@ use cpe_rows::{Changed, List, Provenance, Room, Text};
 use cpe_steps::Steps;
 use cpe_values::Memory;
 use engine_parts::{Change, Numbered, Parts, release_all};
-use kept_verdicts::Lead;
+use verdicts::Lead;
 use name_index::NameId;
 use std::alloc::Global;
 use std::sync::ledger::Ledger;
@@ -38,7 +38,7 @@ pub(crate) fn add_entry(
     fact_laws::law::entries_lead_to_themselves();
     fact_laws::law::lists_are_shown();
     cpe_rows::law::rows_stay_lawful();
-    kept_verdicts::law::verdicts_stand();
+    verdicts::law::new_entries_change_no_verdict();
     match parts.registry.add_entry(id, title, provenance) {
         Ok(()) => Ok(room.into_list()),
         Err(memory) => {

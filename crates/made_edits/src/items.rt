@@ -5,7 +5,7 @@ ghost use Rattle.cpe_steps.specs.Within.{StepsWithin};
 ghost use Rattle.cpe_rows.specs.Prelude.{after, changes, is_same, IsLawful};
 ghost use Rattle.cpe_rows.specs.declared.edit.Edit.TheVariants as edit;
 ghost use Rattle.engine_parts.specs.Prelude.{AreOf, edit_in, IsLive, known_in, name_in, rows_in};
-ghost use Rattle.told_facts.specs.Looks.{item_looks};
+ghost use Rattle.facts.specs.Looks.{item_looks};
 ghost use Rattle.made_edits.specs.Looks.{made_looks};
 ghost use Rattle.made_edits.specs.Ready.{IsReady};
 
@@ -71,7 +71,7 @@ fn bring_item<L: Ledger>(
     parts.registry.add_item(id)?;
     parts
         .verdicts
-        .item_comes(parts.registry.table(), id, &ends, steps);
+        .add_item(parts.registry.table(), id, &ends, steps);
     Ok(())
 }
 
@@ -123,7 +123,7 @@ fn take_item<L: Ledger>(
     let ends = parts.registry.ends_of(alloc, id)?;
     parts
         .verdicts
-        .item_goes(parts.registry.table(), id, &ends, steps);
+        .remove_item(parts.registry.table(), id, &ends, steps);
     parts.registry.drop_item(id);
     release_all(&mut parts.registry, &[id]);
     Ok(())

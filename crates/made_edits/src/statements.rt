@@ -4,7 +4,7 @@ ghost use Rattle.std.specs.List.{list_any};
 ghost use Rattle.name_index.specs.Prelude.{Names, StepsWithin};
 ghost use Rattle.cpe_rows.specs.Prelude.{after, change, changes, has_id, IsLawful, Rows, verdict};
 ghost use Rattle.cpe_rows.specs.declared.edit.Edit.TheVariants as edit;
-ghost use Rattle.kept_verdicts.specs.Kept.{Stands};
+ghost use Rattle.verdicts.specs.Verdicts.{HasVerdicts};
 ghost use Rattle.engine_parts.specs.Parts.{AreOf, edit_in, rows_in};
 ghost use Rattle.made_edits.specs.Looks.{made_looks};
 ghost use Rattle.made_edits.specs.Ready.{IsReady};
@@ -14,7 +14,7 @@ use cpe_rows::{Changed, List, Room, Statement, Text, Truth};
 use cpe_steps::Steps;
 use cpe_values::Memory;
 use engine_parts::{Numbered, Parts, release_all};
-use kept_verdicts::KeptVerdicts;
+use verdicts::Verdicts;
 use name_index::NameId;
 use std::alloc::Global;
 use std::sync::ledger::Ledger;
@@ -113,8 +113,8 @@ fn take_statement<L: Ledger>(
 }
 
 // The verdict of the statement at a place, if there is one.
-fn truth_at(verdicts: &KeptVerdicts, place: usize) -> Option<Truth>
-    ensures { (names : Names) (rows : Rows) → Stands names verdicts.now rows → result ≡ option_map (verdict rows) (slice_get rows.statements place) }
+fn truth_at(verdicts: &Verdicts, place: usize) -> Option<Truth>
+    ensures { (names : Names) (rows : Rows) → HasVerdicts names verdicts.now rows → result ≡ option_map (verdict rows) (slice_get rows.statements place) }
 {
     match verdicts.at(place) {
         Some((_, truth)) => Some(truth),

@@ -118,7 +118,7 @@ room_again a b c u v = record { askers = v.askers ∙ u.askers; next = v.next �
 
 -- ---- the same facts with more room
 
-tables_same : (f new : FactsNow) → new.plain ≡ f.plain → new.follow ≡ f.follow → (mode : Mode) → table_of new mode ≡ table_of f mode
+pub tables_same : (f new : FactsNow) → new.plain ≡ f.plain → new.follow ≡ f.follow → (mode : Mode) → table_of new mode ≡ table_of f mode
 tables_same f new plain follow Plain = plain
 tables_same f new plain follow Follow = follow
 

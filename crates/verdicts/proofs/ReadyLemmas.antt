@@ -65,7 +65,7 @@ module _ (table : Names) (are : AreNames table) (v new : VerdictsNow) (rows : Ro
     (beside : FreshBeside v.facts new.facts table s.mode a.fresh.items) (ready : AreReady new.facts table entries s.mode ids a.fresh.items a.asked.items)
     (same : SameRows v.statements new.statements) (row : IsReadyRow new.statements s ids a.statement) (below : AllByRecursion (λ j. j.ticket < v.statements.next) v.statements.rows)
     (listed : (q : ℕ) → has_end (table_of v.facts s.mode).changed q ≡ true → is_fact (table_of v.facts s.mode) q ≡ true) where
-  fresh : List NameId
+  abbrev fresh : List NameId
   fresh = a.fresh.items
 
   led : AreLive table (flat_map (λ (x : NameId). leads_of s.mode (table_of new.facts s.mode) x.0) fresh) × (names_at table (flat_map (λ (x : NameId). leads_of s.mode (table_of new.facts s.mode) x.0) fresh) ≡ flat_map (leads entries s.mode) (names_at table fresh))

@@ -1,5 +1,5 @@
 // Verdicts: what is read of them, and which of them changed.
-ghost use Rattle.std.specs.Prelude.{◌≡◌, ◌<◌, ◌≤◌, ◌^◌, true, [], length, map, option_copied, option_map, position, slice_get, find};
+ghost use Rattle.std.specs.Prelude.{◌≡◌, ◌<◌, ◌≤◌, ◌^◌, [], IfSome, is_some, length, map, option_copied, option_map, position, slice_get, find};
 ghost use Rattle.name_index.specs.Table.{Names};
 ghost use Rattle.cpe_rows.specs.Prelude.{fact_truth, first_some, has_id, no_rows, number_of_facts, Rows, verdict};
 ghost use Rattle.cpe_rows.specs.Causes.{statement_causes};
@@ -76,6 +76,13 @@ impl Verdicts {
         self.statements.find(id)
     }
 
+    /// The place of the statement of this id, from 0.
+    pub fn place_of(&self, id: &Text) -> Option<usize>
+        ensures { result ≡ position (has_id id.now) (statements_in self.now) }
+    {
+        self.statements.place_of(id)
+    }
+
     /// The first cause to refuse a statement, without the weight.
     pub fn statement_fault(&self, statement: &Statement) -> Option<EditFault>
         ensures { result ≡ first_some (statement_causes (statements_in self.now) statement.now) }
@@ -100,11 +107,15 @@ impl Verdicts {
         self.statements.verdict(id)
     }
 
-    /// The truth of a fact of a mode that a statement uses.
-    pub fn truth_of(&self, mode: Mode, fact: NameId) -> Truth
-        ensures { (names : Names) (rows : Rows) → HasVerdicts names self.now rows → is_used (table_of self.now.facts mode) fact.0 ≡ true → result ≡ fact_truth rows mode (name_at names fact) }
+    /// The truth of a fact of a mode, if a statement uses it.
+    pub fn truth_of(&self, mode: Mode, fact: NameId) -> Option<Truth>
+        ensures used { is_some result ≡ is_used (table_of self.now.facts mode) fact.0 }
+        ensures truth { (names : Names) (rows : Rows) → HasVerdicts names self.now rows → IfSome result (λ truth. truth ≡ fact_truth rows mode (name_at names fact)) }
     {
-        self.facts.truth(mode, fact)
+        if self.facts.users(mode, fact).is_empty() {
+            return None;
+        }
+        Some(self.facts.truth(mode, fact))
     }
 
     /// Makes each verdict the one that callers know. Allocates: no.

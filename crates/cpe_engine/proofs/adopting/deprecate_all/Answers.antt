@@ -21,7 +21,7 @@ returns-in-Ok-clause-kept c =
     let p = c.args.parts.now in
     let made = c.in-Ok.ensures in
     let counted = c.with_all-weight.ensures ∙ ap (λ (xs : List (Option Deprecation)). capped (p.weight + total (map given_weight xs))) c.as_slice.ensures in
-    kept_adopted p c.requires.kept c.requires.bare c.args.deprecations c.requires.even c.with_all-weight.result counted c.deprecate_all.new.self c.entries_alone_say_nothing.ensures made.table made.ok made.items
+    kept_adopted p c.requires.kept c.requires.bare c.args.deprecations c.requires.even c.with_all-weight.result counted c.deprecate_all.new.self c.entries_alone_have_no_verdict.ensures made.table made.ok made.items
     _ refl refl refl c.if-weight-gt-MOST_WEIGHT.false (subst IsDictionary c.dictionary.ensures c.lawful.ensures.lawful)
 
 pub returns-in-Ok-clause-ok : goal.returns-in-Ok-clause-ok
@@ -30,7 +30,7 @@ returns-in-Ok-clause-ok c =
     let made = c.in-Ok.ensures in
     let counted = c.with_all-weight.ensures ∙ ap (λ (xs : List (Option Deprecation)). capped (p.weight + total (map given_weight xs))) c.as_slice.ensures in
     rows_are (record p { registry = c.deprecate_all.new.self; weight = c.with_all-weight.result }) (with_deprecations (rows_in p) c.args.deprecations) []
-    (adopted p c.requires.kept c.requires.bare c.args.deprecations c.requires.even c.with_all-weight.result counted c.deprecate_all.new.self c.entries_alone_say_nothing.ensures made.table made.ok made.items)
+    (adopted p c.requires.kept c.requires.bare c.args.deprecations c.requires.even c.with_all-weight.result counted c.deprecate_all.new.self c.entries_alone_have_no_verdict.ensures made.table made.ok made.items)
 
 pub returns-in-Err-Unlawful-clause-unlawful : goal.returns-in-Err-Unlawful-clause-unlawful
 returns-in-Err-Unlawful-clause-unlawful c is lawful = c.in-Err-Unlawful.ensures.unlawful c.in-Err-Unlawful.field-0-is lawful.dictionary

@@ -25,7 +25,7 @@ returns-clause-grows c =
     let h = c.in_ok-id.ensures in
     subst (λ (xs : List NameId). Grows old new c.args.ids.now.items xs) (sym (last (goal.at.returns-clause-grows c).After-put_last))
     (grows_one old new id name c.args.ids.now.items h.held h.named h.live h.entries h.items c.requires.live (λ l o. c.lists_are_shown.ensures.order new.table (holds_in new.table) l o)
-    (λ l s. c.tables_are_lists.ensures.held old.table new.table id.0 name l h.held s) (λ v rows s. c.verdicts_stand.ensures.held old.table new.table id.0 name v rows h.held s))
+    (λ l s. c.tables_are_lists.ensures.held old.table new.table id.0 name l h.held s) (λ v rows s. c.held_names_keep_verdicts.ensures old.table new.table id.0 name v rows h.held s))
 
 pub returns-clause-names : goal.returns-clause-names
 returns-clause-names c =

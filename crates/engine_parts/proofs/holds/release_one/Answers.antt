@@ -19,4 +19,4 @@ returns c =
     let gone = c.release.ensures.released in
     left old new id c.lawful.ensures c.requires.live gone c.release.ensures.entries c.release.ensures.items
     (λ l s. c.tables_are_lists.ensures.released old.table new.table id.0 name l c.lawful.ensures (own_name old.table id.0 c.requires.live) gone s)
-    (λ v rows known s. c.verdicts_stand.ensures.released old.table new.table id.0 v rows c.lawful.ensures gone known s)
+    (λ v rows known s. c.released_names_keep_verdicts.ensures old.table new.table id.0 v rows c.lawful.ensures gone known s)

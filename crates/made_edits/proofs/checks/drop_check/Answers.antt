@@ -9,11 +9,11 @@ pub returns-clause-ok : goal.returns-clause-ok
 returns-clause-ok c =
     let p = c.args.parts.now in
     let rows = rows_in p in
-    by_moved p.registry p.verdicts c.drop_check.new.self rows (after rows (edit.DropCheck c.args.key)) [] refl refl refl (c.drop_check.ensures.stands p.registry.table rows c.requires.beside.are.stands) c.requires.beside.are
+    by_moved p.registry p.verdicts c.remove_result.new.self rows (after rows (edit.DropCheck c.args.key)) [] refl refl refl (c.remove_result.ensures.verdicts p.registry.table rows c.requires.beside.are.verdicts) c.requires.beside.are
 
 pub returns-clause-changes : goal.returns-clause-changes
 returns-clause-changes c =
     let p = c.args.parts.now in
     let rows = rows_in p in
     let next = after rows (edit.DropCheck c.args.key) in
-    told rows next c.drop_check.new.self c.changes.result (c.changes.ensures p.registry.table next (c.drop_check.ensures.stands p.registry.table rows c.requires.beside.are.stands)) (c.drop_check.ensures.known ∙ c.requires.known) refl
+    told rows next c.remove_result.new.self c.changes.result (c.changes.ensures p.registry.table next (c.remove_result.ensures.verdicts p.registry.table rows c.requires.beside.are.verdicts)) (c.remove_result.ensures.known ∙ c.requires.known) refl

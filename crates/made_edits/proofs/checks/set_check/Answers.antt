@@ -9,11 +9,11 @@ pub returns-in-Ok-clause-ok : goal.returns-in-Ok-clause-ok
 returns-in-Ok-clause-ok c =
     let p = c.args.parts.now in
     let rows = rows_in p in
-    by_moved p.registry p.verdicts c.set_check.new.self rows (after rows (edit.SetCheck c.args.key c.args.truth)) [] refl refl refl (c.in-Ok.ensures.ok p.registry.table rows c.requires.beside.are.stands) c.requires.beside.are
+    by_moved p.registry p.verdicts c.set_result.new.self rows (after rows (edit.SetCheck c.args.key c.args.truth)) [] refl refl refl (c.in-Ok.ensures.ok p.registry.table rows c.requires.beside.are.verdicts) c.requires.beside.are
 
 pub returns-in-Ok-clause-changes : goal.returns-in-Ok-clause-changes
 returns-in-Ok-clause-changes c =
     let p = c.args.parts.now in
     let rows = rows_in p in
     let next = after rows (edit.SetCheck c.args.key c.args.truth) in
-    told rows next c.set_check.new.self c.changes.result (c.changes.ensures p.registry.table next (c.in-Ok.ensures.ok p.registry.table rows c.requires.beside.are.stands)) (c.set_check.ensures.known ∙ c.requires.known) refl
+    told rows next c.set_result.new.self c.changes.result (c.changes.ensures p.registry.table next (c.in-Ok.ensures.ok p.registry.table rows c.requires.beside.are.verdicts)) (c.set_result.ensures.known ∙ c.requires.known) refl

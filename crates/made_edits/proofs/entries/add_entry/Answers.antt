@@ -25,7 +25,7 @@ returns-in-Ok-clause-ok c =
     let are = c.requires.beside.are in
     by_lists p.registry c.add_entry.new.self p.verdicts next [] c.in-Ok.ensures.table c.in-Ok.ensures.ok c.in-Ok.ensures.items
     (c.lists_are_shown.ensures.order p.registry.table (holds_in p.registry.table) (entry.name ∷ names_kept rows) (names_kept next) (c.entries_lead_to_themselves.ensures.kept rows next entry c.requires.accepted) are.held)
-    (c.verdicts_stand.ensures.entries p.registry.table p.verdicts rows next entry c.requires.accepted are.stands)
+    (c.new_entries_change_no_verdict.ensures p.registry.table p.verdicts rows next entry c.requires.accepted are.verdicts)
 
 pub returns-in-Ok-clause-changes : goal.returns-in-Ok-clause-changes
 returns-in-Ok-clause-changes c =

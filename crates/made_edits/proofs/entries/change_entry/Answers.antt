@@ -24,6 +24,6 @@ returns-in-Ok-clause-changes g c =
     let n = name_in p.registry.table change.id in
     let next = after rows (turned n change.turn change.date change.comment) in
     let new = c.make_change.new.parts in
-    told rows next new.verdicts c.changes.result (c.changes.ensures new.registry.table next c.in-Ok.ensures.ok.stands) (c.in-Ok.ensures.known ∙ c.requires.ready.known)
+    told rows next new.verdicts c.changes.result (c.changes.ensures new.registry.table next c.in-Ok.ensures.ok.verdicts) (c.in-Ok.ensures.known ∙ c.requires.ready.known)
     (ap (λ (r : Rows). r.statements) (after_turned rows n change.date change.comment change.turn))
     ∙ sym (changes_turned rows n change.date change.comment change.turn)

@@ -9,7 +9,7 @@ use Rattle.cpe_dictionary.proofs.DictionaryLemmas.{written_changed}
 use Rattle.name_index.specs.Table.{Names}
 use Rattle.fact_laws.specs.Shown.{holds_in, Shows}
 use Rattle.cpe_registry.specs.Registered.{name_in}
-use Rattle.kept_verdicts.specs.Kept.{IsLead, Stands}
+use Rattle.verdicts.specs.Verdicts.{HasVerdicts, IsLead}
 use Rattle.engine_parts.specs.Numbered.{given, note_of}
 use Rattle.engine_parts.specs.Parts.{edit_in, rows_in}
 use Rattle.engine_parts.specs.declared.numbered.Numbered.TheVariants as numbered
@@ -39,8 +39,8 @@ module _ (g : Over) (c : After-table g) where
       let change = c.args.change in
       changed_turned (rows_in c.args.parts.now) (name_in c.args.parts.now.registry.table change.id) change.date change.comment change.turn
 
-  stood : Stands c.table.result.now c.args.parts.now.verdicts (rows_in c.args.parts.now)
-  stood = subst (λ (t : Names). Stands t c.args.parts.now.verdicts (rows_in c.args.parts.now)) (sym (c.table.ensures ∙ c.in-Ok.ensures.table)) c.requires.are.stands
+  stood : HasVerdicts c.table.result.now c.args.parts.now.verdicts (rows_in c.args.parts.now)
+  stood = subst (λ (t : Names). HasVerdicts t c.args.parts.now.verdicts (rows_in c.args.parts.now)) (sym (c.table.ensures ∙ c.in-Ok.ensures.table)) c.requires.are.verdicts
 
   lead : IsLead c.table.result.now c.args.parts.now.verdicts (rows_in c.args.parts.now) (after (rows_in c.args.parts.now) (edit_in c.args.parts.now (numbered.Change c.args.change))).entries
       (name_in c.args.parts.now.registry.table c.args.change.id) c.args.lead
@@ -69,7 +69,7 @@ returns-in-Ok-clause-ok g c =
     let at = (goal.at.returns-in-Ok-clause-ok g c).After-table in
     by_lists p.registry c.change.new.self c.lead.new.self next [] c.in-Ok.ensures.table (c.in-Ok.ensures.ok ∙ left g ready) (c.in-Ok.ensures.items ∙ sym (c.deprecations_touch.ensures.items rows e n (touches g at)))
     (subst (λ (ns : List Values). Shows p.registry.table (holds_in p.registry.table) ns) (sym (c.deprecations_lead_elsewhere.ensures.kept rows e n (touches g at))) c.requires.are.held)
-    (subst (λ (t : Names). Stands t c.lead.new.self next) (c.table.ensures ∙ c.in-Ok.ensures.table) (c.lead.ensures.stands rows e n (touches g at) (stood g at) (lead g at)))
+    (subst (λ (t : Names). HasVerdicts t c.lead.new.self next) (c.table.ensures ∙ c.in-Ok.ensures.table) (c.lead.ensures.verdicts rows e n (touches g at) (stood g at) (lead g at)))
 
 pub returns-in-Ok-clause-steps : goal.returns-in-Ok-clause-steps
 returns-in-Ok-clause-steps g c =

@@ -2,7 +2,7 @@ use Rattle.std.proofs.Common.{[], Some, refl, ap, subst}
 use Rattle.cpe_rows.specs.After.{after}
 use Rattle.cpe_rows.specs.Rows.{Rows}
 use Rattle.cpe_registry.specs.Registered.{name_in}
-use Rattle.kept_verdicts.specs.Kept.{IsLead}
+use Rattle.verdicts.specs.Verdicts.{IsLead}
 use Rattle.engine_parts.specs.Numbered.{given, note_of, turned}
 use Rattle.engine_parts.specs.Parts.{AreOf, rows_in}
 use Rattle.made_edits.proofs.ChangeLemmas.{by_plan}
@@ -15,7 +15,7 @@ foresee-requires g c = record {
   live = c.requires.live;
   number = c.requires.plan.place;
   allowed = c.requires.plan.allowed;
-  stood = (rows_in c.args.parts.now, c.requires.lawful, c.requires.are.stands, refl, refl);
+  stood = (rows_in c.args.parts.now, c.requires.lawful, c.requires.are.verdicts, refl, refl);
 }
 
 pub lead_change-requires-clause-lead : goal.lead_change-requires-clause-lead
@@ -29,7 +29,7 @@ lead_change-requires-clause-lead g c =
     let left = by_plan rows.entries c.edits_by_number.ensures.writes n (given change.turn) (Some (note_of change.turn change.date change.comment)) c.args.plan.now (after rows e).entries c.requires.plan
     (ap (λ (r : Rows). r.entries) (after_turned rows n change.date change.comment change.turn)) in
     subst (λ (r : Rows). IsLead p.registry.table v r (after r e).entries n c.in-Ok.lead) (same_rows p.registry p.verdicts v c.foresee.ensures.same.statements c.foresee.ensures.same.checks)
-    (c.in-Ok.ensures.lead rows (after rows e).entries c.requires.lawful c.requires.are.stands refl refl left)
+    (c.in-Ok.ensures.lead rows (after rows e).entries c.requires.lawful c.requires.are.verdicts refl refl left)
 
 pub lead_change-requires-clause-are : goal.lead_change-requires-clause-are
 lead_change-requires-clause-are g c =
@@ -37,9 +37,9 @@ lead_change-requires-clause-are g c =
     let rows = rows_in p in
     let v = c.foresee.new.self in
     subst (λ (r : Rows). AreOf p.registry v r []) (same_rows p.registry p.verdicts v c.foresee.ensures.same.statements c.foresee.ensures.same.checks)
-    (by_verdicts p.registry p.verdicts v rows [] (c.foresee.ensures.stands p.registry.table rows c.requires.are.stands) c.requires.are)
+    (by_verdicts p.registry p.verdicts v rows [] (c.foresee.ensures.verdicts p.registry.table rows c.requires.are.verdicts) c.requires.are)
 
 pub returns-in-Err-clause-err : goal.returns-in-Err-clause-err
 returns-in-Err-clause-err g c =
     let p = c.args.parts.now in
-    by_verdicts p.registry p.verdicts c.foresee.new.self (rows_in p) [] (c.foresee.ensures.stands p.registry.table (rows_in p) c.requires.are.stands) c.requires.are
+    by_verdicts p.registry p.verdicts c.foresee.new.self (rows_in p) [] (c.foresee.ensures.verdicts p.registry.table (rows_in p) c.requires.are.verdicts) c.requires.are

@@ -11,7 +11,7 @@ pub returns-in-Ok-clause-changes : goal.returns-in-Ok-clause-changes
 returns-in-Ok-clause-changes g c =
     let next = after (rows_in c.args.parts.now) (edit.Item (name_in c.args.parts.now.registry.table c.args.id)) in
     let new = c.bring_item.new.parts in
-    told (rows_in c.args.parts.now) next new.verdicts c.changes.result (c.changes.ensures new.registry.table next c.in-Ok.ensures.ok.stands) (c.in-Ok.ensures.known ∙ c.requires.known) refl
+    told (rows_in c.args.parts.now) next new.verdicts c.changes.result (c.changes.ensures new.registry.table next c.in-Ok.ensures.ok.verdicts) (c.in-Ok.ensures.known ∙ c.requires.known) refl
 
 pub returns-in-Err-clause-err : goal.returns-in-Err-clause-err
 returns-in-Err-clause-err g c =

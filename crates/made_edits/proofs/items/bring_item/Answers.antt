@@ -7,9 +7,9 @@ use Rattle.fact_laws.specs.Shown.{holds_in, name_at}
 use Rattle.fact_laws.specs.Asked.{names_kept}
 use Rattle.cpe_steps.specs.Within.{StepsWithin}
 use Rattle.cpe_registry.specs.Registered.{name_in, Registered}
-use Rattle.told_facts.specs.Facts.{AreEnds}
-use Rattle.told_facts.specs.Looks.{item_looks}
-use Rattle.kept_verdicts.specs.Kept.{Stands}
+use Rattle.facts.specs.Facts.{LeadsTo}
+use Rattle.facts.specs.Looks.{item_looks}
+use Rattle.verdicts.specs.Verdicts.{HasVerdicts}
 use Rattle.engine_parts.specs.Parts.{AreOf, rows_in}
 use Rattle.cpe_rows.specs.declared.statement.Mode.TheVariants.{Follow}
 use Rattle.cpe_rows.specs.Chains.{ends as ends_of_name}
@@ -21,16 +21,16 @@ use Rattle.made_edits.proofs.items.bring_item.Goals.{After-deref-2}
 
 -- what the verdicts are asked, of the names that the registry lends
 module _ (g : Over) (c : After-deref-2 g) where
-  there : AreEnds c.table-2.result.now (rows_in c.args.parts.now).entries c.args.id.0 c.deref-2.result.now
+  there : LeadsTo c.table-2.result.now (rows_in c.args.parts.now).entries Follow c.args.id.0 c.deref-2.result.now
   there =
       let p = c.args.parts.now in
       let ends = c.in_ok-ends.ensures in
       are_ends p.registry.table c.table-2.result.now (rows_in p).entries c.args.id.0 c.in_ok-ends.ends.items c.deref-2.result.now (c.table-2.ensures ∙ c.in_ok-add_item.ensures.table) c.deref-2.ensures.value ends.live ends.names
 
-  stood : Stands c.table-2.result.now c.reserve_item.new.self (rows_in c.args.parts.now)
+  stood : HasVerdicts c.table-2.result.now c.reserve_item.new.self (rows_in c.args.parts.now)
   stood =
       let p = c.args.parts.now in
-      subst (λ (t : Names). Stands t c.reserve_item.new.self (rows_in p)) (sym (c.table-2.ensures ∙ c.in_ok-add_item.ensures.table)) (c.in_ok-reserve_item.ensures.stands p.registry.table (rows_in p) c.requires.are.stands)
+      subst (λ (t : Names). HasVerdicts t c.reserve_item.new.self (rows_in p)) (sym (c.table-2.ensures ∙ c.in_ok-add_item.ensures.table)) (c.in_ok-reserve_item.ensures.verdicts p.registry.table (rows_in p) c.requires.are.verdicts)
 
 pub reserve_item-requires-clause-few : goal.reserve_item-requires-clause-few
 reserve_item-requires-clause-few g c =
@@ -51,20 +51,20 @@ returns-clause-ok g c =
     let next = after rows (edit.Item n) in
     let add = c.in_ok-add_item.ensures in
     let at = (goal.at.returns-clause-ok g c).After-deref-2 in
-    by_lists p.registry c.add_item.new.self c.item_comes.new.self next [] add.table add.entries add.ok
+    by_lists p.registry c.add_item.new.self c.add_item-2.new.self next [] add.table add.entries add.ok
     (c.lists_are_shown.ensures.order old (holds_in old) (n ∷ names_kept rows) (names_kept next) (c.items_arrive.ensures.kept rows n) c.requires.are.held)
-    (subst (λ (t : Names). Stands t c.item_comes.new.self (after rows (edit.Item (name_at t id)))) (c.table-2.ensures ∙ add.table) (c.item_comes.ensures.stands rows (stood g at) (there g at)))
+    (subst (λ (t : Names). HasVerdicts t c.add_item-2.new.self (after rows (edit.Item (name_at t id)))) (c.table-2.ensures ∙ add.table) (c.add_item-2.ensures.verdicts rows (stood g at) (there g at)))
 
 pub returns-clause-steps : goal.returns-clause-steps
 returns-clause-steps g c =
     let rows = rows_in c.args.parts.now in
     let at = (goal.at.returns-clause-steps g c).After-deref-2 in
-    subst (λ (t : Names). StepsWithin c.args.steps.now c.item_comes.new.steps (item_looks rows (name_at t c.args.id))) (c.table-2.ensures ∙ c.in_ok-add_item.ensures.table)
-    (c.item_comes.ensures.steps rows (stood g at) (there g at))
+    subst (λ (t : Names). StepsWithin c.args.steps.now c.add_item-2.new.steps (item_looks rows (name_at t c.args.id))) (c.table-2.ensures ∙ c.in_ok-add_item.ensures.table)
+    (c.add_item-2.ensures.steps rows (stood g at) (there g at))
 
-pub item_comes-requires-clause-stood : goal.item_comes-requires-clause-stood
-item_comes-requires-clause-stood g c =
-    let at = (goal.at.item_comes-requires-clause-stood g c).After-deref-2 in
+pub add_item-2-requires-clause-stood : goal.add_item-2-requires-clause-stood
+add_item-2-requires-clause-stood g c =
+    let at = (goal.at.add_item-2-requires-clause-stood g c).After-deref-2 in
     (rows_in c.args.parts.now, c.requires.lawful, stood g at, there g at)
 
 pub returns-in_err-reserve_item-clause-err : goal.returns-in_err-reserve_item-clause-err
@@ -72,7 +72,7 @@ returns-in_err-reserve_item-clause-err g c =
     let p = c.args.parts.now in
     let rows = rows_in p in
     let others = name_in p.registry.table c.args.id ∷ [] in
-    at_err c.from_residual-in_err-reserve_item.result (by_verdicts p.registry p.verdicts c.reserve_item.new.self rows others (c.in_err-reserve_item.ensures.stands p.registry.table rows c.requires.are.stands) c.requires.are)
+    at_err c.from_residual-in_err-reserve_item.result (by_verdicts p.registry p.verdicts c.reserve_item.new.self rows others (c.in_err-reserve_item.ensures.verdicts p.registry.table rows c.requires.are.verdicts) c.requires.are)
 
 pub returns-in_err-add_item-clause-err : goal.returns-in_err-add_item-clause-err
 returns-in_err-add_item-clause-err g c =
@@ -81,4 +81,4 @@ returns-in_err-add_item-clause-err g c =
     let others = name_in p.registry.table c.args.id ∷ [] in
     let w = c.reserve_item.new.self in
     at_err c.from_residual-in_err-add_item.result
-    (subst (λ (r : Registered). AreOf r w rows others) (sym c.in_err-add_item.ensures.err) (by_verdicts p.registry p.verdicts w rows others (c.in_ok-reserve_item.ensures.stands p.registry.table rows c.requires.are.stands) c.requires.are))
+    (subst (λ (r : Registered). AreOf r w rows others) (sym c.in_err-add_item.ensures.err) (by_verdicts p.registry p.verdicts w rows others (c.in_ok-reserve_item.ensures.verdicts p.registry.table rows c.requires.are.verdicts) c.requires.are))

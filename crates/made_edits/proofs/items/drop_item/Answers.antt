@@ -10,4 +10,4 @@ pub returns-in-Ok-clause-changes : goal.returns-in-Ok-clause-changes
 returns-in-Ok-clause-changes g c =
     let next = after (rows_in c.args.parts.now) (edit.DropItem (name_in c.args.parts.now.registry.table c.args.id)) in
     let new = c.take_item.new.parts in
-    told (rows_in c.args.parts.now) next new.verdicts c.changes.result (c.changes.ensures new.registry.table next c.in-Ok.ensures.ok.stands) (c.in-Ok.ensures.known ∙ c.requires.known) refl
+    told (rows_in c.args.parts.now) next new.verdicts c.changes.result (c.changes.ensures new.registry.table next c.in-Ok.ensures.ok.verdicts) (c.in-Ok.ensures.known ∙ c.requires.known) refl

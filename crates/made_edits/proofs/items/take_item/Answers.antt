@@ -6,9 +6,10 @@ use Rattle.fact_laws.specs.Shown.{holds_in, name_at}
 use Rattle.fact_laws.specs.Asked.{names_kept}
 use Rattle.cpe_steps.specs.Within.{StepsWithin}
 use Rattle.cpe_registry.specs.Registered.{name_in}
-use Rattle.told_facts.specs.Facts.{AreEnds}
-use Rattle.told_facts.specs.Looks.{item_looks}
-use Rattle.kept_verdicts.specs.Kept.{Stands}
+use Rattle.facts.specs.Facts.{LeadsTo}
+use Rattle.cpe_rows.specs.declared.statement.Mode.TheVariants.{Follow}
+use Rattle.facts.specs.Looks.{item_looks}
+use Rattle.verdicts.specs.Verdicts.{HasVerdicts}
 use Rattle.engine_parts.specs.Parts.{AreOf, rows_in}
 use Rattle.std.specs.List.{list_any}
 use Rattle.cpe_rows.specs.Names.{is_same}
@@ -19,38 +20,38 @@ use Rattle.made_edits.proofs.items.take_item.Goals.{After-drop_item}
 
 -- what the verdicts are asked, of the names that the registry lends
 module _ (g : Over) (c : After-drop_item g) where
-  there : AreEnds c.table.result.now (rows_in c.args.parts.now).entries c.args.id.0 c.deref.result.now
+  there : LeadsTo c.table.result.now (rows_in c.args.parts.now).entries Follow c.args.id.0 c.deref.result.now
   there =
       let p = c.args.parts.now in
       let ends = c.in_ok-ends.ensures in
       are_ends p.registry.table c.table.result.now (rows_in p).entries c.args.id.0 c.in_ok-ends.ends.items c.deref.result.now c.table.ensures c.deref.ensures.value ends.live ends.names
 
-  stood : Stands c.table.result.now c.args.parts.now.verdicts (rows_in c.args.parts.now)
-  stood = subst (λ (t : Names). Stands t c.args.parts.now.verdicts (rows_in c.args.parts.now)) (sym c.table.ensures) c.requires.are.stands
+  stood : HasVerdicts c.table.result.now c.args.parts.now.verdicts (rows_in c.args.parts.now)
+  stood = subst (λ (t : Names). HasVerdicts t c.args.parts.now.verdicts (rows_in c.args.parts.now)) (sym c.table.ensures) c.requires.are.verdicts
 
   -- without the item, whose name is held still
-  dropped : AreOf c.drop_item.new.self c.item_goes.new.self (after (rows_in c.args.parts.now) (edit.DropItem (name_in c.args.parts.now.registry.table c.args.id))) (name_in c.drop_item.new.self.table c.args.id ∷ [])
+  dropped : AreOf c.drop_item.new.self c.remove_item.new.self (after (rows_in c.args.parts.now) (edit.DropItem (name_in c.args.parts.now.registry.table c.args.id))) (name_in c.drop_item.new.self.table c.args.id ∷ [])
   dropped =
       let rows = rows_in c.args.parts.now in
       let old = c.args.parts.now.registry.table in
       let n = name_in old c.args.id in
       let has = subst (λ (t : Names). list_any (is_same (name_at t c.args.id)) rows.items ≡ true) (sym c.table.ensures) c.requires.has in
-      item_dropped c.args.parts.now.registry c.drop_item.new.self c.item_goes.new.self rows c.args.id c.table.result.now c.drop_item.ensures.table c.drop_item.ensures.entries c.drop_item.ensures.items
+      item_dropped c.args.parts.now.registry c.drop_item.new.self c.remove_item.new.self rows c.args.id c.table.result.now c.drop_item.ensures.table c.drop_item.ensures.entries c.drop_item.ensures.items
       (c.lists_are_shown.ensures.order old (holds_in old) (names_kept rows) (n ∷ names_kept (after rows (edit.DropItem n))) (c.items_arrive.ensures.kept_without rows n c.requires.has) c.requires.are.held) c.table.ensures
-      (c.item_goes.ensures.stands rows stood there has)
+      (c.remove_item.ensures.verdicts rows stood there has)
 
 pub release_all-requires-clause-are : goal.release_all-requires-clause-are
 release_all-requires-clause-are g c =
     let p = c.args.parts.now in
-    (c.item_goes.new.self, after (rows_in p) (edit.DropItem (name_in p.registry.table c.args.id)), [], dropped g (goal.at.release_all-requires-clause-are g c).After-drop_item)
+    (c.remove_item.new.self, after (rows_in p) (edit.DropItem (name_in p.registry.table c.args.id)), [], dropped g (goal.at.release_all-requires-clause-are g c).After-drop_item)
 
 pub returns-clause-ok : goal.returns-clause-ok
 returns-clause-ok g c =
     let p = c.args.parts.now in
-    c.release_all.ensures c.item_goes.new.self (after (rows_in p) (edit.DropItem (name_in p.registry.table c.args.id))) [] (dropped g (goal.at.returns-clause-ok g c).After-drop_item)
+    c.release_all.ensures c.remove_item.new.self (after (rows_in p) (edit.DropItem (name_in p.registry.table c.args.id))) [] (dropped g (goal.at.returns-clause-ok g c).After-drop_item)
 
 pub returns-clause-steps : goal.returns-clause-steps
 returns-clause-steps g c =
     let rows = rows_in c.args.parts.now in
     let at = (goal.at.returns-clause-steps g c).After-drop_item in
-    subst (λ (t : Names). StepsWithin c.args.steps.now c.item_goes.new.steps (item_looks rows (name_at t c.args.id))) c.table.ensures (c.item_goes.ensures.steps rows (stood g at) (there g at))
+    subst (λ (t : Names). StepsWithin c.args.steps.now c.remove_item.new.steps (item_looks rows (name_at t c.args.id))) c.table.ensures (c.remove_item.ensures.steps rows (stood g at) (there g at))

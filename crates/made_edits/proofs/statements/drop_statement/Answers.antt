@@ -11,7 +11,7 @@ returns-in-Ok-clause-changes g c =
     let p = c.args.parts.now in
     let rows = rows_in p in
     let id = c.args.id in
-    let truth = c.verdict-truth.ensures p.registry.table rows c.requires.beside.are.stands in
+    let truth = c.verdict-truth.ensures p.registry.table rows c.requires.beside.are.verdicts in
     c.dropped_change-changes.ensures
     ∙ (λ k. dropped_by (c.place_of-place.ensures k) (truth k))
     ∙ sym (dropped_told rows (position (has_id id) rows.statements) (find (has_id id) rows.statements))

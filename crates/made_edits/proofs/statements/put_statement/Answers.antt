@@ -24,7 +24,7 @@ returns-in-Ok-clause-ok g c =
       items = refl;
       held = c.lists_are_shown.ensures.order table (holds_in table) (names_at table c.args.ids.items ++ names_kept rows) (names_kept next)
           (subst (λ (ns : List Values). SameElements (ns ++ names_kept rows) (names_kept next)) (sym c.requires.beside.found.names) (c.statements_ask.ensures.kept rows s)) are.held;
-      stands = c.in-Ok.ensures.ok rows are.stands refl;
+      verdicts = c.in-Ok.ensures.ok rows are.verdicts refl;
     }
 
 pub returns-in-Ok-clause-changes : goal.returns-in-Ok-clause-changes
@@ -32,14 +32,14 @@ returns-in-Ok-clause-changes g c =
     let rows = rows_in c.args.parts.now in
     let s = c.args.statement in
     let next = after rows (edit.PutStatement s) in
-    let truth = c.truth_at.ensures c.args.parts.now.registry.table next (c.in-Ok.ensures.ok rows c.requires.beside.are.stands refl) in
+    let truth = c.truth_at.ensures c.args.parts.now.registry.table next (c.in-Ok.ensures.ok rows c.requires.beside.are.verdicts refl) in
     c.put_change.ensures
     ∙ put_told rows next s c.len-place.result c.truth_at.result c.len-place.ensures refl truth
     ∙ (λ k. change (length rows.statements) None (Some (c.statements_stand_alone.ensures.put rows s s k)) ∷ [])
     ∙ sym (c.statements_stand_alone.ensures.put_changes rows s)
 
 pub returns-in-Ok-clause-steps : goal.returns-in-Ok-clause-steps
-returns-in-Ok-clause-steps g c = c.in-Ok.ensures.steps (rows_in c.args.parts.now) c.requires.beside.are.stands refl
+returns-in-Ok-clause-steps g c = c.in-Ok.ensures.steps (rows_in c.args.parts.now) c.requires.beside.are.verdicts refl
 
 pub returns-clause-err : goal.returns-clause-err
 returns-clause-err g c =
@@ -47,8 +47,8 @@ returns-clause-err g c =
     let rows = rows_in p in
     let are = c.requires.beside.are in
     let w = c.put.new.self in
-    let here = by_verdicts p.registry p.verdicts w rows (names_at p.registry.table c.args.ids.items) (c.in-Err.ensures.err rows are.stands refl) are in
+    let here = by_verdicts p.registry p.verdicts w rows (names_at p.registry.table c.args.ids.items) (c.in-Err.ensures.err rows are.verdicts refl) are in
     c.release_all.ensures w rows [] (no_others p.registry w rows c.args.ids.items c.deref-in-Err.result.now c.deref-in-Err.ensures.value here)
 
 pub returns-clause-steps : goal.returns-clause-steps
-returns-clause-steps g c = c.in-Err.ensures.steps (rows_in c.args.parts.now) c.requires.beside.are.stands refl
+returns-clause-steps g c = c.in-Err.ensures.steps (rows_in c.args.parts.now) c.requires.beside.are.verdicts refl

@@ -8,7 +8,7 @@ use Rattle.product_orders.specs.Elements.{SameElements}
 use Rattle.name_index.specs.Table.{Names}
 use Rattle.fact_laws.specs.Shown.{holds_in, names_at}
 use Rattle.fact_laws.specs.Asked.{names_kept}
-use Rattle.kept_verdicts.specs.Kept.{Stands}
+use Rattle.verdicts.specs.Verdicts.{HasVerdicts}
 use Rattle.engine_parts.specs.Parts.{AreOf, rows_in}
 use Rattle.engine_parts.proofs.PartsLemmas.{no_others}
 use Rattle.made_edits.proofs.MadeLemmas.{found_some}
@@ -27,7 +27,7 @@ held g c =
     let next = after rows (edit.DropStatement id) in
     let found = found_some (has_id id) rows.statements c.requires.has in
     let at = c.table.ensures in
-    let stood = subst (λ (t : Names). Stands t p.verdicts rows) (sym at) are.stands in
+    let stood = subst (λ (t : Names). HasVerdicts t p.verdicts rows) (sym at) are.verdicts in
     let w = c.drop_statement.new.self in
     let names = subst (λ (t : Names). names_at t c.in_ok-ids.ids.items ≡ fact_names found.0.test) at (c.in_ok-ids.ensures.named found.0 found.1) in
     let here : AreOf p.registry w next (names_at table c.in_ok-ids.ids.items) = record {
@@ -35,7 +35,7 @@ held g c =
       items = refl;
       held = c.lists_are_shown.ensures.order table (holds_in table) (names_kept rows) (names_at table c.in_ok-ids.ids.items ++ names_kept next)
           (subst (λ (ns : List Values). SameElements (names_kept rows) (ns ++ names_kept next)) (sym names) (c.statements_ask.ensures.kept_without rows id found.0 found.1)) are.held;
-      stands = subst (λ (t : Names). Stands t w next) at (c.in_ok-ids.ensures.ok rows stood);
+      verdicts = subst (λ (t : Names). HasVerdicts t w next) at (c.in_ok-ids.ensures.ok rows stood);
     } in
     no_others p.registry w next c.in_ok-ids.ids.items c.deref.result.now c.deref.ensures.value here
 

@@ -3,6 +3,8 @@ use Rattle.cpe_rows.specs.Lawful.{IsLawful}
 use Rattle.cpe_rows.specs.Rows.{Rows}
 use Rattle.name_index.specs.Table.{Names}
 use Rattle.facts.specs.Facts.{HasFacts}
+use Rattle.name_index.specs.declared.table.NameId.{NameId}
+use Rattle.verdicts.specs.Addition.{HasAskedRoom}
 use Rattle.verdicts.proofs.BesideLemmas.{beside_room, beside_users, is_there, made_ready}
 use Rattle.verdicts.proofs.JudgeLemmas.{tables_same}
 use Rattle.verdicts.proofs.fresh.ready_facts.Goals as goal
@@ -45,4 +47,5 @@ returns-clause-ready c =
     let room = c.reserve_users.new.self in
     let new = c.reserve_asked.new.facts in
     made_ready c.add_all_fresh.new.facts room new c.args.registry.now.table c.args.registry.now.entries c.args.mode c.args.ids.now c.args.fresh.now c.in_ok-asked.asked.items c.reserve_users.ensures.table.same c.in_ok-reserve_users.ensures.table.room
-    c.in_ok-add_all_fresh.ensures.added c.in_ok-asked.ensures (tables_same room new c.reserve_asked.ensures.plain c.reserve_asked.ensures.follow c.args.mode) c.in_ok-reserve_asked.ensures.room
+    c.in_ok-add_all_fresh.ensures.added c.in_ok-asked.ensures (tables_same room new c.reserve_asked.ensures.plain c.reserve_asked.ensures.follow c.args.mode)
+    (subst (λ (n : Names). HasAskedRoom new n c.args.mode c.in_ok-asked.asked.items) c.table.ensures (subst (λ (ns : List NameId). HasAskedRoom new c.table.result.now c.args.mode ns) c.deref.ensures.value c.in_ok-reserve_asked.ensures.room))

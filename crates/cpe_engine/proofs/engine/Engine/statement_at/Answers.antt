@@ -9,4 +9,4 @@ use Rattle.cpe_engine.proofs.engine.Engine.statement_at.Goals as goal
 pub returns-clause-verdict : goal.returns-clause-verdict
 returns-clause-verdict c =
     let p = c.self.inside.parts in
-    c.at.ensures.verdict p.registry.table (rows_in p) c.self.invariant.are.stands ∙ ap (λ (rows : Rows). option_map (verdict rows) (slice_get rows.statements c.args.k)) c.self.view_is
+    c.at.ensures.verdict p.registry.table (rows_in p) c.self.invariant.are.verdicts ∙ ap (λ (rows : Rows). option_map (verdict rows) (slice_get rows.statements c.args.k)) c.self.view_is

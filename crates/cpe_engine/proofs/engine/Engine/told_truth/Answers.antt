@@ -8,4 +8,4 @@ pub returns : goal.returns
 returns c =
     let p = c.self.inside.parts in
     subst (λ (rows : Rows). IfSome c.kept_truth.result (λ truth. truth ≡ fact_truth rows c.args.mode c.args.name.now)) c.self.view_is
-    (c.kept_truth.ensures (rows_in p) c.self.invariant.are.stands)
+    (c.kept_truth.ensures (rows_in p) c.self.invariant.are.verdicts)

@@ -11,5 +11,5 @@ use Rattle.cpe_engine.proofs.engine.Engine.verdict_of.Goals as goal
 pub returns : goal.returns
 returns c =
     let p = c.self.inside.parts in
-    let truth = c.verdict-truth.ensures p.registry.table (rows_in p) c.self.invariant.are.stands ∙ ap (λ (rows : Rows). option_map (verdict rows) (find (has_id c.args.id) rows.statements)) c.self.view_is in
+    let truth = c.verdict-truth.ensures p.registry.table (rows_in p) c.self.invariant.are.verdicts ∙ ap (λ (rows : Rows). option_map (verdict rows) (find (has_id c.args.id) rows.statements)) c.self.view_is in
     ap (λ (t : Option Truth). reply.Verdict c.args.id t) truth

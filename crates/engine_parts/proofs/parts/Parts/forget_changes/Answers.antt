@@ -3,7 +3,7 @@ use Rattle.cpe_rows.specs.Lawful.{IsLawful}
 use Rattle.cpe_rows.specs.Rows.{Rows}
 use Rattle.cpe_rows.specs.Verdict.{verdict}
 use Rattle.cpe_rows.specs.Weight.{weight}
-use Rattle.kept_verdicts.specs.Kept.{known_in}
+use Rattle.verdicts.specs.Verdicts.{known_in}
 use Rattle.engine_parts.specs.Parts.{AreOf, rows_in}
 use Rattle.engine_parts.proofs.PartsLemmas.{by_verdicts, same_rows}
 use Rattle.engine_parts.proofs.parts.Parts.forget_changes.Goals as goal
@@ -14,7 +14,7 @@ returns-clause-kept c =
     let rows = rows_in p in
     let w = c.forget_changes.new.self in
     let e = same_rows p.registry p.verdicts w c.forget_changes.ensures.statements c.forget_changes.ensures.checks in
-    let are = by_verdicts p.registry p.verdicts w rows [] (c.forget_changes.ensures.stands p.registry.table rows c.requires.are.stands) c.requires.are in
+    let are = by_verdicts p.registry p.verdicts w rows [] (c.forget_changes.ensures.verdicts p.registry.table rows c.requires.are.verdicts) c.requires.are in
     record {
       lawful = subst IsLawful e c.requires.lawful;
       weight = c.requires.weight ∙ ap weight e;
@@ -26,4 +26,4 @@ returns-clause-known c =
     let p = c.args.self.now in
     let w = c.forget_changes.new.self in
     subst (λ (r : Rows). known_in w ≡ map (verdict r) r.statements) (same_rows p.registry p.verdicts w c.forget_changes.ensures.statements c.forget_changes.ensures.checks)
-    (c.forget_changes.ensures.known p.registry.table (rows_in p) c.requires.are.stands)
+    (c.forget_changes.ensures.known p.registry.table (rows_in p) c.requires.are.verdicts)

@@ -19,4 +19,4 @@ returns-clause-are c =
     let id = c.in_ok-id.id in
     let are = c.requires.kept.are in
     by_hold p.registry r p.verdicts rows id c.args.name h.named h.entries h.items (c.tables_are_lists.ensures.held p.registry.table r.table id.0 c.args.name (names_kept rows) h.held are.held)
-    (c.verdicts_stand.ensures.held p.registry.table r.table id.0 c.args.name p.verdicts rows h.held are.stands) are
+    (c.held_names_keep_verdicts.ensures p.registry.table r.table id.0 c.args.name p.verdicts rows h.held are.verdicts) are

@@ -7,7 +7,7 @@ use Rattle.engine_parts.proofs.parts.Parts.new.Goals as goal
 pub returns-clause-rows : goal.returns-clause-rows
 returns-clause-rows c =
     let none = c.new.ensures.rows in
-    let stands = c.new-2.ensures c.new.result.table in
+    let verdicts = c.new-2.ensures c.new.result.table in
     λ k. record { entries = (none k).entries; items = (none k).items; statements = stands.statements k; checks = stands.checks k }
 
 pub returns-clause-are : goal.returns-clause-are
@@ -18,5 +18,5 @@ returns-clause-are c =
       entries = ap (λ (x : Registered). x.entries) none;
       items = ap (λ (x : Registered). x.items) none;
       held = subst (λ (x : Registered). Shows r.table (holds_in r.table) (names_of x.entries ++ x.items)) none c.new.ensures.held;
-      stands = c.new-2.ensures r.table;
+      verdicts = c.new-2.ensures r.table;
     }

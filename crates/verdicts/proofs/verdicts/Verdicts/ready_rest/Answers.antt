@@ -1,7 +1,9 @@
 use Rattle.std.proofs.Common.{◌≡◌, ℕ, true, false, None, sym, subst}
 use Rattle.fact_rows.specs.Facts.{fact_at, has_end}
 use Rattle.facts.specs.Facts.{is_used, table_of}
-use Rattle.verdicts.specs.Verdicts.{HasVerdicts, tickets_in, VerdictsNow}
+use Rattle.cpe_rows.specs.Causes.{statement_causes}
+use Rattle.cpe_rows.specs.Step.{first_some}
+use Rattle.verdicts.specs.Verdicts.{HasVerdicts, statements_in, tickets_in, VerdictsNow}
 use Rattle.verdicts.proofs.AdditionLemmas.{without_cause}
 use Rattle.verdicts.proofs.verdicts.Verdicts.ready_rest.Goals as goal
 
@@ -17,3 +19,11 @@ ready_facts-requires-clause-stood c =
     let s = c.requires.stood in
     let h = subst (λ (w : VerdictsNow). HasVerdicts c.args.registry.now.table w s.0) (sym c.self.view_is) s.2 in
     (s.0, tickets_in c.self.inside.statements.rows, s.1, h.facts)
+
+pub ready_statement-requires-clause-new : goal.ready_statement-requires-clause-new
+ready_statement-requires-clause-new c =
+    (without_cause c.self.inside.statements.rows c.args.statement (subst (λ (w : VerdictsNow). first_some (statement_causes (statements_in w) c.args.statement) ≡ None) (sym c.self.view_is) c.requires.none)).0
+
+pub ready_statement-requires-clause-few : goal.ready_statement-requires-clause-few
+ready_statement-requires-clause-few c =
+    (without_cause c.self.inside.statements.rows c.args.statement (subst (λ (w : VerdictsNow). first_some (statement_causes (statements_in w) c.args.statement) ≡ None) (sym c.self.view_is) c.requires.none)).1
