@@ -4,7 +4,7 @@ ghost use Rattle.cpe_rows.specs.Prelude.{fact_truth, no_rows, Rows};
 ghost use Rattle.name_index.specs.Table.{Names};
 ghost use Rattle.fact_laws.specs.Shown.{name_at};
 ghost use Rattle.kept_facts.specs.Kept.{AreSound};
-ghost use Rattle.fact_rows.specs.Facts.{truth_of, users_of};
+ghost use Rattle.fact_rows.specs.Facts.{leads_of, truth_of, users_of};
 ghost use Rattle.facts.specs.Facts.{AreUsed, HasFacts, is_used, table_of};
 ghost use Rattle.facts.specs.LeadCalls.{EndsChanged, MayChangeEnds};
 ghost use Rattle.facts.specs.Calls.{ItemAdded, ItemRemoved, MayAddItem, MayAddStatement, MayRemoveItem, MayRemoveStatement, StatementAdded, StatementRemoved};
@@ -19,6 +19,7 @@ use kept_facts::KeptFacts;
 use name_index::{NameId, NameTable};
 use std::alloc::Global;
 use std::marker::Model;
+use std::slice::from_ref;
 use std::sync::ledger::Ledger;
 
 /// The facts to which statements refer, for each mode. See the crate's page.
@@ -73,6 +74,17 @@ impl Facts {
         }
     }
 
+    /// The numbers of the names to which a fact leads: its own in mode plain, and those of its ends in mode follow. A name that is no
+    /// fact leads nowhere in mode follow.
+    pub fn leads<'f>(&'f self, mode: Mode, fact: &'f NameId) -> &'f [NameId]
+        ensures { result.now ≡ leads_of mode (table_of self.now mode) fact.now.0 }
+    {
+        match mode {
+            Mode::Plain => from_ref(fact),
+            Mode::Follow => self.follow.ends_of(*fact),
+        }
+    }
+
     /// The facts of a mode whose truth the last edit replaced, each once.
     pub fn changed(&self, mode: Mode) -> &[NameId]
         ensures { result.now ≡ (table_of self.now mode).changed }
@@ -81,6 +93,13 @@ impl Facts {
             Mode::Plain => self.plain.changed(),
             Mode::Follow => self.follow.changed(),
         }
+    }
+
+    /// The boards of both modes.
+    pub fn boards(&self) -> &KeptFacts
+        ensures { result.now ≡ self.now.boards }
+    {
+        &self.boards
     }
 
     /// The boards are right: each level is that of its name. No-op, for proofs.
