@@ -34,19 +34,25 @@ pub record IsLead (f : FactsNow) (table : Names) (rows : Rows) (left : List Entr
   pub led_there : AllByRecursion (IsLed table f.follow left) led
   pub whole : (id : ℕ) → is_used f.follow id ≡ true → leads_to rows.entries (kept_at table id).name n ≡ true → is_led led id ≡ true
 
--- The ends may change.
-pub record MayChangeEnds (f : FactsNow) (table : Names) (items_from items_to facts_from facts_to : List NameId) (led : List Led) : Type 0 where
-  -- the ends are names
+-- There is room for this many new ends of items, and of facts.
+pub record HasRoomForEnds (f : FactsNow) (table : Names) (of_items of_facts : ℕ) : Type 0 where
+  pub wide : IsWide f.boards.follow table
+  pub room_items : of_items ≤ f.boards.follow.target_room
+  pub room_facts : of_facts ≤ f.boards.follow.probe_room
+  pub few_items : of_items ≤ 268435456
+  pub few_facts : of_facts ≤ 268435456
+
+-- The ends are names, and there is room for the new ones.
+pub record AreReadyEnds (f : FactsNow) (table : Names) (items_from items_to facts_from facts_to : List NameId) : Type 0 where
   pub live_items_from : AreLive table items_from
   pub live_items_to : AreLive table items_to
   pub live_facts_from : AreLive table facts_from
   pub live_facts_to : AreLive table facts_to
-  -- there is room for the new ones
-  pub wide : IsWide f.boards.follow table
-  pub room_items : length items_to ≤ f.boards.follow.target_room
-  pub room_facts : length facts_to ≤ f.boards.follow.probe_room
-  pub few_items : length items_to ≤ 268435456
-  pub few_facts : length facts_to ≤ 268435456
+  pub room : HasRoomForEnds f table (length items_to) (length facts_to)
+
+-- The ends may change.
+pub record MayChangeEnds (f : FactsNow) (table : Names) (items_from items_to facts_from facts_to : List NameId) (led : List Led) : Type 0 where
+  pub ready : AreReadyEnds f table items_from items_to facts_from facts_to
   -- the facts are those of lawful rows, of which an edit changes the deprecation of an entry
   pub stood : (rows : Rows) × (tickets : List ℕ) × (e : Edit) × (n : Values) × (deprecation_changed e ≡ Some n) × IsLawful rows × HasFacts table f rows tickets × IsLead f table rows (after rows e).entries n items_from items_to facts_from facts_to led
 

@@ -96,6 +96,13 @@ impl Facts {
         }
     }
 
+    /// The boards of both modes.
+    pub fn boards(&self) -> &KeptFacts
+        ensures { result.now ≡ self.now.boards }
+    {
+        &self.boards
+    }
+
     /// The boards are right: each level is that of its name. No-op, for proofs.
     pub fn lawful(&self)
         ensures { AreSound self.now.boards }

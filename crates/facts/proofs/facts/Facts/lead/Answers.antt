@@ -114,16 +114,16 @@ lead-requires g c =
     let l = m.stood.7 in
     record {
       fits = record { plain = s.plain.fits; follow = s.follow.fits };
-      live_from = m.live_items_from;
-      live_to = m.live_items_to;
-      live_facts_from = m.live_facts_from;
-      live_facts_to = m.live_facts_to;
-      wide = m.wide;
-      room = m.room_items;
-      room_facts = m.room_facts;
-      few = λ t. omega (arith, m.few_items, c.few_stand.ensures.targets names boards.follow rows Follow t s.follow.shows m.stood.5);
-      few_facts = λ p. omega (arith, m.few_facts, c.few_stand.ensures.probes names boards.follow rows Follow p s.follow.shows m.stood.5);
-      there = part_there names are (target_times boards.follow) (ends rows.entries) (λ x. leads_to rows.entries x n) rows.items c.args.items_from.now m.live_items_from s.follow.shows.there l.items_before;
-      asked = part_there names are (probe_times boards.follow) (ends rows.entries) (λ x. leads_to rows.entries x n) (facts_in Follow rows.statements) c.args.facts_from.now m.live_facts_from s.follow.shows.asked l.facts_before;
+      live_from = m.ready.live_items_from;
+      live_to = m.ready.live_items_to;
+      live_facts_from = m.ready.live_facts_from;
+      live_facts_to = m.ready.live_facts_to;
+      wide = m.ready.room.wide;
+      room = m.ready.room.room_items;
+      room_facts = m.ready.room.room_facts;
+      few = λ t. omega (arith, m.ready.room.few_items, c.few_stand.ensures.targets names boards.follow rows Follow t s.follow.shows m.stood.5);
+      few_facts = λ p. omega (arith, m.ready.room.few_facts, c.few_stand.ensures.probes names boards.follow rows Follow p s.follow.shows m.stood.5);
+      there = part_there names are (target_times boards.follow) (ends rows.entries) (λ x. leads_to rows.entries x n) rows.items c.args.items_from.now m.ready.live_items_from s.follow.shows.there l.items_before;
+      asked = part_there names are (probe_times boards.follow) (ends rows.entries) (λ x. leads_to rows.entries x n) (facts_in Follow rows.statements) c.args.facts_from.now m.ready.live_facts_from s.follow.shows.asked l.facts_before;
       settled = s.settled;
     }
