@@ -274,13 +274,6 @@ impl StatementRows {
         &self.results
     }
 
-    /// The result that is kept for a check, if there is one.
-    pub fn result_of(&self, key: &CheckKey) -> Option<Truth>
-        ensures { result ≡ option_map (λ c. c.1) (find (has_key key.now) self.now.checks) }
-    {
-        result_in(&self.results, key)
-    }
-
     /// The statement at a place from 0, with its verdict. There is none exactly if the place is the number of statements or more.
     pub fn at(&self, place: usize) -> Option<(&Statement, Truth)>
         ensures statement { option_map (λ p. p.0.now) result ≡ option_map (λ j. j.statement) (slice_get self.now.rows place) }
@@ -380,15 +373,5 @@ impl StatementRows {
             Some(row) => Some(row.verdict),
             None => None,
         }
-    }
-}
-
-fn result_in(results: &Checks, key: &CheckKey) -> Option<Truth>
-    ensures { result ≡ option_map (λ c. c.1) (find (has_key key.now) results.now) }
-{
-    if results.has(key) {
-        Some(results.truth(key))
-    } else {
-        None
     }
 }

@@ -46,4 +46,4 @@ returns-clause-rows c =
     let g : NameId → List ℕ = λ id. users_of (table_of f mode) id.0 in
     let first = c.args.statements.now in
     let by = judge (truths_in f) first.checks in
-    c.loop-fact.invariant.rows ∙ ap (λ (ids : List NameId). at_tickets (flat_map g ids) by first.rows) (take_all c.loop-fact.fact-index xs c.loop-fact-test.false ∙ c.changed-fact-items.ensures)
+    c.loop-fact.invariant.rows ∙ ap (λ (ids : List NameId). at_tickets (flat_map g ids) by first.rows) (take_all c.loop-fact.fact-index xs c.loop-fact-test.false ∙ c.changed-fact-items.ensures.value)
