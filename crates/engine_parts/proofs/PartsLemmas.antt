@@ -96,7 +96,7 @@ by_lists old new v rows others table entries items held verdicts = record {
   entries = entries;
   items = items;
   held = subst (λ (t : Names). Shows t (holds_in t) (others ++ names_kept rows)) (sym table) held;
-  verdicts = subst (λ (t : Names). HasVerdicts t v rows) (sym table) stands;
+  verdicts = subst (λ (t : Names). HasVerdicts t v rows) (sym table) verdicts;
 }
 
 -- one name is held beside the rows

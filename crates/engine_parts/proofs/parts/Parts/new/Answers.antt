@@ -8,7 +8,7 @@ pub returns-clause-rows : goal.returns-clause-rows
 returns-clause-rows c =
     let none = c.new.ensures.rows in
     let verdicts = c.new-2.ensures c.new.result.table in
-    λ k. record { entries = (none k).entries; items = (none k).items; statements = stands.statements k; checks = stands.checks k }
+    λ k. record { entries = (none k).entries; items = (none k).items; statements = verdicts.statements k; checks = verdicts.checks k }
 
 pub returns-clause-are : goal.returns-clause-are
 returns-clause-are c =
