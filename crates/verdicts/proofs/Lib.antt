@@ -4,3 +4,8 @@ pub mod VerdictLemmas
 pub mod ResultLemmas
 pub mod TableLemmas
 pub mod EntryLemmas
+pub mod NumberLemmas
+pub mod PlannedLemmas
+pub mod UnledLemmas
+pub mod LeadLemmas
+pub mod ItemsTo

@@ -1,2 +1,4 @@
 pub mod Verdicts
 pub mod Items
+pub mod Leads
+pub mod Rows

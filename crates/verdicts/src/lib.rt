@@ -5,6 +5,7 @@
 //! replaced, and no others. After each call every verdict is that of the rows.
 #![tactic(auto)]
 
+mod ends;
 mod items;
 pub mod law;
 mod lead;
@@ -13,4 +14,5 @@ mod results;
 mod truths;
 mod verdicts;
 
+pub use lead::Lead;
 pub use verdicts::Verdicts;
