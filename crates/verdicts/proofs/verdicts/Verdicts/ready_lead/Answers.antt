@@ -16,7 +16,7 @@ use Rattle.facts.specs.Facts.{HasFacts, is_used}
 use Rattle.facts.specs.LeadCalls.{HasRoomForEnds}
 use Rattle.facts.specs.declared.lead.Led.{Led}
 use Rattle.verdicts.specs.Leads.{IsPlanned}
-use Rattle.verdicts.specs.Verdicts.{checks_in, HasVerdicts, known_in, statements_in, tickets_in, VerdictsNow}
+use Rattle.verdicts.specs.Verdicts.{HasVerdicts, tickets_in, VerdictsNow}
 use Rattle.verdicts.proofs.JudgeLemmas.{roomier}
 use Rattle.verdicts.proofs.LeadLemmas.{linked_verdicts, ready_lead}
 use Rattle.verdicts.proofs.NumberLemmas.{all_passing, live_filtered}

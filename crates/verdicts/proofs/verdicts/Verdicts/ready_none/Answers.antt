@@ -1,5 +1,5 @@
-use Rattle.std.proofs.Common.{sym, ap, subst, ◌∙◌}
-use Rattle.verdicts.specs.Verdicts.{checks_in, HasVerdicts, known_in, statements_in, tickets_in, VerdictsNow}
+use Rattle.std.proofs.Common.{sym, subst}
+use Rattle.verdicts.specs.Verdicts.{HasVerdicts, tickets_in, VerdictsNow}
 use Rattle.verdicts.proofs.JudgeLemmas.{roomier}
 use Rattle.verdicts.proofs.LeadLemmas.{ready_none}
 use Rattle.verdicts.proofs.verdicts.Verdicts.ready_none.Goals as goal
