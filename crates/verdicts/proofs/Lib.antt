@@ -8,3 +8,8 @@ pub mod FreshLemmas
 pub mod BesideLemmas
 pub mod AdditionLemmas
 pub mod ReadyLemmas
+pub mod NumberLemmas
+pub mod PlannedLemmas
+pub mod UnledLemmas
+pub mod LeadLemmas
+pub mod ItemsTo

@@ -1,3 +1,5 @@
 pub mod Verdicts
 pub mod Items
 pub mod Addition
+pub mod Leads
+pub mod Rows

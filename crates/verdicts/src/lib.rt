@@ -6,6 +6,7 @@
 #![tactic(auto)]
 
 mod addition;
+mod ends;
 mod fresh;
 mod items;
 pub mod law;
@@ -16,4 +17,5 @@ mod truths;
 mod verdicts;
 
 pub use addition::Addition;
+pub use lead::Lead;
 pub use verdicts::Verdicts;

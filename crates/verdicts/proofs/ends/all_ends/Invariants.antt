@@ -1,0 +1,13 @@
+use Rattle.std.proofs.Common.{◌≡◌, drop, take}
+use Rattle.std.specs.List.{flat_map}
+use Rattle.cpe_rows.specs.Chains.{ends}
+use Rattle.fact_laws.specs.Shown.{names_at}
+use Rattle.kept_facts.specs.Kept.{AreLive}
+use Rattle.verdicts.proofs.ends.all_ends.Given as goal
+
+abbrev pub invariant-loop-name : goal.invariant-loop-name
+invariant-loop-name l = record {
+  rest : AreLive l.registry.table (drop l.name-index l.names);
+  live : AreLive l.registry.table l.all.items;
+  names : names_at l.registry.table l.all.items ≡ flat_map (ends l.registry.entries) (names_at l.registry.table (take l.name-index l.names));
+}
