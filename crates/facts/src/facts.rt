@@ -4,7 +4,7 @@ ghost use Rattle.cpe_rows.specs.Prelude.{fact_truth, no_rows, Rows};
 ghost use Rattle.name_index.specs.Table.{Names};
 ghost use Rattle.fact_laws.specs.Shown.{name_at};
 ghost use Rattle.kept_facts.specs.Kept.{AreSound};
-ghost use Rattle.fact_rows.specs.Facts.{truth_of, users_of};
+ghost use Rattle.fact_rows.specs.Facts.{ends_of, truth_of, users_of};
 ghost use Rattle.facts.specs.Facts.{AreUsed, HasFacts, is_used, table_of};
 ghost use Rattle.facts.specs.LeadCalls.{EndsChanged, MayChangeEnds};
 ghost use Rattle.facts.specs.Calls.{ItemAdded, ItemRemoved, MayAddItem, MayAddStatement, MayRemoveItem, MayRemoveStatement, StatementAdded, StatementRemoved};
@@ -71,6 +71,13 @@ impl Facts {
             Mode::Plain => self.plain.users_of(fact),
             Mode::Follow => self.follow.users_of(fact),
         }
+    }
+
+    /// The ends of a fact of mode follow, or none if it is no fact.
+    pub fn ends(&self, fact: NameId) -> &[NameId]
+        ensures { result.now ≡ ends_of self.now.follow fact.0 }
+    {
+        self.follow.ends_of(fact)
     }
 
     /// The facts of a mode whose truth the last edit replaced, each once.

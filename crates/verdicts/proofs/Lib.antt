@@ -4,3 +4,5 @@ pub mod VerdictLemmas
 pub mod ResultLemmas
 pub mod TableLemmas
 pub mod EntryLemmas
+pub mod LastLemmas
+pub mod RemovalLemmas

@@ -1,0 +1,182 @@
+// Statements are removed.
+ghost use Rattle.std.specs.Prelude.{◌≡◌, ◌++◌, ◌∷◌, [], cond, filter, true, IfOk, OnOk};
+ghost use Rattle.std.specs.List.{flat_map, list_any};
+ghost use Rattle.cpe_rows.specs.Prelude.{has_id, IsLawful, Rows};
+ghost use Rattle.name_index.specs.declared.table.NameId.{NameId};
+ghost use Rattle.fact_rows.specs.Facts.{leads_of, users_of};
+ghost use Rattle.fact_rows.specs.Tickets.{is_empty, without};
+ghost use Rattle.facts.specs.Facts.{table_of};
+ghost use Rattle.verdicts.specs.Removal.{IsRemoval, IsRemovalOf, StatementRemoved};
+ghost use Rattle.verdicts.specs.Verdicts.{HasVerdicts, statements_in};
+
+use crate::verdicts::Verdicts;
+use cpe_rows::{Mode, Text};
+use cpe_steps::Steps;
+use cpe_values::Memory;
+use facts::Facts;
+use kept_facts::keep_each_once;
+use name_index::{NameId, NameTable};
+use statement_rows::{FactUse, StatementRows};
+use std::alloc::Global;
+use std::slice::from_ref;
+use std::sync::ledger::Ledger;
+
+/// What the removal of a statement removes with it: the facts that it alone uses, and the names to which they lead.
+#[derive(Drop)]
+pub struct Removal {
+    pub(crate) last: Vec<NameId>,
+    pub(crate) asked: Vec<NameId>,
+}
+
+impl Verdicts {
+    /// What the removal of the statement of this id removes with it. It is nothing if no statement has the id.
+    ///
+    /// # Errors
+    /// Only that memory ran out.
+    pub fn ready_removal(&self, alloc: Global, id: &Text) -> Result<Removal, Memory>
+        ensures { IfOk result (IsRemoval self.now id.now) }
+    {
+        match self.statements.use_of(id) {
+            Some((mode, ids, ticket)) => removal_of(&self.facts, alloc, mode, ids, ticket),
+            None => Ok(Removal {
+                last: Vec::new(alloc),
+                asked: Vec::new(alloc),
+            }),
+        }
+    }
+
+    /// Removes the statement of this id, and returns the numbers of its fact references. Allocates: no.
+    pub fn remove_statement<L: Ledger>(
+        &mut self,
+        table: &NameTable,
+        id: &Text,
+        removal: Removal,
+        steps: &mut Steps<L>,
+    ) -> Vec<NameId>
+        requires has { list_any (has_id id.now) (statements_in self.old) ≡ true }
+        requires removal { IsRemoval self.old id.now removal }
+        requires stood { (rows : Rows) × IsLawful rows × HasVerdicts table.now self.old rows }
+        ensures { StatementRemoved table.now self.old self.new id.now result.items steps.old steps.new }
+    {
+        table.lawful();
+        statement_rows::law::same_truths_judge_the_same();
+        let FactUse { mode, ids, ticket } = match self.statements.remove_statement(id) {
+            Some(used) => used,
+            None => unreachable!(),
+        };
+        self.facts.remove_statement(
+            table,
+            mode,
+            &ids,
+            &removal.last,
+            &removal.asked,
+            ticket,
+            steps,
+        );
+        self.facts.lawful();
+        ids
+    }
+}
+
+// What is removed with a statement of a mode that uses these facts by this ticket.
+//
+// # Errors
+// Only that memory ran out.
+fn removal_of(
+    facts: &Facts,
+    alloc: Global,
+    mode: Mode,
+    ids: &[NameId],
+    ticket: u64,
+) -> Result<Removal, Memory>
+    ensures { IfOk result (IsRemovalOf facts.now mode ids.now ticket) }
+{
+    let mut last = used_alone(facts, alloc, mode, ids, ticket)?;
+    keep_each_once(&mut last);
+    let asked = all_leads(facts, alloc, mode, &last)?;
+    Ok(Removal { last, asked })
+}
+
+// Those of these facts that no other ticket uses.
+//
+// # Errors
+// Only that memory ran out.
+fn used_alone(
+    facts: &Facts,
+    alloc: Global,
+    mode: Mode,
+    ids: &[NameId],
+    ticket: u64,
+) -> Result<Vec<NameId>, Memory>
+    ensures { IfOk result (λ v. v.items ≡ filter (λ (x : NameId). is_empty (without ticket (users_of (table_of facts.now mode) x.0))) ids.now) }
+{
+    let mut last = Vec::new(alloc);
+    for id in ids {
+        add_alone(facts, mode, *id, ticket, &mut last)?;
+    }
+    Ok(last)
+}
+
+fn add_alone(
+    facts: &Facts,
+    mode: Mode,
+    fact: NameId,
+    ticket: u64,
+    last: &mut Vec<NameId>,
+) -> Result<(), Memory>
+    ensures { OnOk result (last.new.items ≡ last.old.items ++ cond (is_empty (without ticket (users_of (table_of facts.now mode) fact.0))) (fact ∷ []) []) }
+{
+    if is_only(facts.users(mode, fact), ticket) {
+        last.push(fact)?;
+    }
+    Ok(())
+}
+
+// Whether no other ticket is among these. It looks at the second one only if the first one is the ticket: tickets rise.
+fn is_only(users: &[u64], ticket: u64) -> bool
+    ensures { result ≡ is_empty (without ticket users.now) }
+{
+    for user in users {
+        if *user != ticket {
+            return false;
+        }
+    }
+    true
+}
+
+// The names to which facts lead, fact after fact.
+//
+// # Errors
+// Only that memory ran out.
+fn all_leads(
+    facts: &Facts,
+    alloc: Global,
+    mode: Mode,
+    last: &[NameId],
+) -> Result<Vec<NameId>, Memory>
+    ensures { IfOk result (λ v. v.items ≡ flat_map (λ (x : NameId). leads_of mode (table_of facts.now mode) x.0) last.now) }
+{
+    let mut asked = Vec::new(alloc);
+    for fact in last {
+        add_leads(facts, mode, *fact, &mut asked)?;
+    }
+    Ok(asked)
+}
+
+fn add_leads(facts: &Facts, mode: Mode, fact: NameId, asked: &mut Vec<NameId>) -> Result<(), Memory>
+    ensures { OnOk result (asked.new.items ≡ asked.old.items ++ leads_of mode (table_of facts.now mode) fact.0) }
+{
+    match mode {
+        Mode::Plain => add_all(asked, from_ref(&fact)),
+        Mode::Follow => add_all(asked, facts.ends(fact)),
+    }
+}
+
+fn add_all(all: &mut Vec<NameId>, more: &[NameId]) -> Result<(), Memory>
+    ensures { OnOk result (all.new.items ≡ all.old.items ++ more.now) }
+{
+    match all.extend_from_slice(more) {
+        Ok(()) => Ok(()),
+        Err(_) => Err(Memory),
+    }
+}
