@@ -16,7 +16,7 @@ use cpe_values::Memory;
 use facts::Facts;
 use kept_facts::keep_each_once;
 use name_index::{NameId, NameTable};
-use statement_rows::{FactUse, StatementRows};
+use statement_rows::FactUse;
 use std::alloc::Global;
 use std::slice::from_ref;
 use std::sync::ledger::Ledger;
@@ -24,7 +24,9 @@ use std::sync::ledger::Ledger;
 /// What the removal of a statement removes with it: the facts that it alone uses, and the names to which they lead.
 #[derive(Drop)]
 pub struct Removal {
+    // The facts, each once.
     pub(crate) last: Vec<NameId>,
+    // The names, fact after fact.
     pub(crate) asked: Vec<NameId>,
 }
 
@@ -91,7 +93,7 @@ fn removal_of(
 ) -> Result<Removal, Memory>
     ensures { IfOk result (IsRemovalOf facts.now mode ids.now ticket) }
 {
-    let mut last = used_alone(facts, alloc, mode, ids, ticket)?;
+    let mut last = last_facts(facts, alloc, mode, ids, ticket)?;
     keep_each_once(&mut last);
     let asked = all_leads(facts, alloc, mode, &last)?;
     Ok(Removal { last, asked })
@@ -101,7 +103,7 @@ fn removal_of(
 //
 // # Errors
 // Only that memory ran out.
-fn used_alone(
+fn last_facts(
     facts: &Facts,
     alloc: Global,
     mode: Mode,
@@ -112,12 +114,12 @@ fn used_alone(
 {
     let mut last = Vec::new(alloc);
     for id in ids {
-        add_alone(facts, mode, *id, ticket, &mut last)?;
+        add_last(facts, mode, *id, ticket, &mut last)?;
     }
     Ok(last)
 }
 
-fn add_alone(
+fn add_last(
     facts: &Facts,
     mode: Mode,
     fact: NameId,
@@ -132,7 +134,7 @@ fn add_alone(
     Ok(())
 }
 
-// Whether no other ticket is among these. It looks at the second one only if the first one is the ticket: tickets rise.
+// Whether no other ticket is among these. As tickets rise, it looks at two of them at most.
 fn is_only(users: &[u64], ticket: u64) -> bool
     ensures { result ≡ is_empty (without ticket users.now) }
 {

@@ -4,7 +4,7 @@ use Rattle.name_index.specs.declared.table.NameId.{NameId}
 use Rattle.fact_rows.specs.Facts.{users_of}
 use Rattle.fact_rows.specs.Tickets.{is_empty, without}
 use Rattle.facts.specs.Facts.{table_of}
-use Rattle.verdicts.proofs.removal.used_alone.Given as goal
+use Rattle.verdicts.proofs.removal.last_facts.Given as goal
 
 abbrev pub invariant-loop-id : goal.invariant-loop-id
 invariant-loop-id l =
