@@ -33,14 +33,11 @@ use Rattle.verdicts.specs.Addition.{HasVerdictsBeside}
 use Rattle.verdicts.specs.Verdicts.{HasVerdicts, HasVerdictsBy, IsNumbered, known_in, tickets_in, truths_in, VerdictsNow}
 use Rattle.verdicts.specs.declared.addition.Addition.{Addition}
 use Rattle.verdicts.proofs.JudgeLemmas.{SameTruths}
+use Rattle.verdicts.proofs.NumberLemmas.{all_both}
 use Rattle.verdicts.proofs.UserLemmas.{all_listed, in_use, IsListed}
 use Rattle.verdicts.proofs.VerdictLemmas.{all_verdicts, fact_right, VerdictsAreTruths}
 
 -- ---- lists
-
-pub all_append : {X : Type 0} (P : X → Type 0) (xs ys : List X) → AllByRecursion P xs → AllByRecursion P ys → AllByRecursion P (xs ++ ys)
-all_append P [] ys a b = b
-all_append P (x ∷ xs) ys a b = (a.0, all_append P xs ys a.1 b)
 
 pub all_first : {X : Type 0} (P : X → Type 0) (xs ys : List X) → AllByRecursion P (xs ++ ys) → AllByRecursion P xs
 all_first P [] ys a = tt
@@ -145,7 +142,7 @@ module _ (law : SameTruths) (names : Names) (v new : VerdictsNow) (rows : Rows) 
   added_verdicts = record {
     statements = ap statements_of added.rows ∙ all_statements;
     checks = added.checks ∙ h.checks;
-    numbered = subst (AllByRecursion (IsNumbered names)) (sym added.rows) (all_append (IsNumbered names) js (row ∷ []) h.numbered (record { live = live; named = named }, tt));
+    numbered = subst (AllByRecursion (IsNumbered names)) (sym added.rows) (all_both (IsNumbered names) js (row ∷ []) h.numbered (record { live = live; named = named }, tt));
     facts = subst (HasFacts names new.facts next) (sym (ap tickets_in added.rows)) facts_then;
     sound = sound;
     judged = added.judged others_judged;

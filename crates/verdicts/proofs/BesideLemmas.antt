@@ -12,7 +12,7 @@ use Rattle.cpe_rows.specs.Rows.{Rows}
 use Rattle.cpe_rows.specs.declared.entry.Entry.{Entry}
 use Rattle.cpe_rows.specs.declared.statement.Mode.{Mode}
 use Rattle.cpe_rows.specs.declared.statement.Mode.TheVariants.{Plain, Follow}
-use Rattle.fact_laws.specs.Shown.{times_in}
+use Rattle.fact_laws.specs.Shown.{one_if_some, times_in}
 use Rattle.fact_rows.specs.Facts.{ends_or_none, Fact, fact_at, FactTable, has_end, is_fact, leads_by, has_room, leads_of, new_fact, OthersStay, users_of}
 use Rattle.fact_rows.specs.Calls.{SameFacts}
 use Rattle.fact_rows.specs.Tickets.{is_empty}
@@ -21,7 +21,7 @@ use Rattle.facts.specs.Room.{KeepsFacts, OnlyMode, RoomForUsers}
 use Rattle.facts.proofs.UserLemmas.{used_fact}
 use Rattle.fact_laws.specs.Asked.{same_mode}
 use Rattle.verdicts.specs.Addition.{AreAdded, AreReady, FreshBeside, HasAskedRoom}
-use Rattle.verdicts.proofs.FreshLemmas.{end_counted}
+use Rattle.verdicts.proofs.LastLemmas.{bit, ends_counted}
 
 -- ---- lists of numbers
 
@@ -57,10 +57,10 @@ once_before xs i d lt once = by (has_end (take i xs) q) refl
     q = (get_or xs i d).0
 
     counted : (ys : List NameId) → has_end ys q ≡ true → 1 ≤ times_in q ys
-    counted ys h = some (times_in q ys) (end_counted q ys ∙ ap not h)
+    counted ys h = some (times_in q ys) (ends_counted q ys ∙ ap bit h)
       where
-        some : (n : ℕ) → nat_eq n 0 ≡ false → 1 ≤ n
-        some zero e = absurd (true≢false e)
+        some : (n : ℕ) → one_if_some n ≡ 1 → 1 ≤ n
+        some zero e = absurd (omega (arith, e))
         some (suc n) e = omega arith
 
     here : (ys : List NameId) (k : ℕ) → k < length ys → (get_or ys k d).0 ≡ q → times_in q (take k ys) + 1 ≤ times_in q ys

@@ -73,7 +73,7 @@ module _ (names : Names) (v : VerdictsNow) (new : FactsNow) (rows : Rows) (more 
     checks = h.checks;
     numbered = h.numbered;
     facts = more.facts names rows (tickets_in v.statements.rows) h.facts;
-    used = used_still h.used;
+    needed = record { facts = used_still h.needed.facts; askers = h.needed.askers };
     sound = subst AreSound (sym more.boards) h.sound;
     judged = subst (λ (truth : FactTruths). AreJudged v.statements truth) (λ i mode q. sym (truth_same mode q) i) h.judged;
   }

@@ -13,3 +13,5 @@ pub mod PlannedLemmas
 pub mod UnledLemmas
 pub mod LeadLemmas
 pub mod ItemsTo
+pub mod LastLemmas
+pub mod RemovalLemmas

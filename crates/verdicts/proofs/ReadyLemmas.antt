@@ -25,7 +25,8 @@ use Rattle.verdicts.specs.Addition.{AreFresh, AreReady, FreshBeside, IsAddition}
 use Rattle.verdicts.specs.Verdicts.{HasVerdicts, SameStatements, tickets_in, VerdictsNow}
 use Rattle.verdicts.specs.declared.addition.Addition.{Addition}
 use Rattle.verdicts.proofs.BesideLemmas.{used_wider}
-use Rattle.verdicts.proofs.FreshLemmas.{all_led, at_ends, fresh_own, fresh_unused, fresh_whole, once_names, same_leads, users_are}
+use Rattle.verdicts.proofs.FreshLemmas.{all_led, fresh_own, fresh_unused, fresh_whole}
+use Rattle.verdicts.proofs.LastLemmas.{all_ends, flat_same, fresh_named, users_empty}
 use Rattle.verdicts.proofs.UserLemmas.{facts_users, live_of}
 
 -- ---- fresh facts
@@ -75,18 +76,23 @@ module _ (table : Names) (are : AreNames table) (v new : VerdictsNow) (rows : Ro
   referred : (q : ℕ) → has_end ids q ≡ true → not (is_used (table_of v.facts s.mode) q) ≡ not (is_referred s.mode rows.statements (kept_at table q).name)
   referred q at =
       ap (λ (us : List ℕ). not (not (is_empty us))) (facts_users table v.facts rows (tickets_in v.statements.rows) h.facts s.mode q (live_of table ids q live at))
-      ∙ ap not (users_are s.mode (kept_at table q).name (tickets_in v.statements.rows) rows.statements h.facts.numbered.each)
+      ∙ ap (λ (b : Bool). not (not b)) (users_empty s.mode (kept_at table q).name (tickets_in v.statements.rows) rows.statements h.facts.numbered.each)
+      ∙ twice (not (is_referred s.mode rows.statements (kept_at table q).name))
+    where
+      twice : (b : Bool) → not (not b) ≡ b
+      twice true = refl
+      twice false = refl
 
   fresh_names : SameElements (names_at table fresh) (fresh_facts s.mode rows.statements s)
   fresh_names =
-      once_names table are s.mode rows.statements s (λ (x : NameId). not (is_used (table_of v.facts s.mode) x.0)) ids fresh refl live live_fresh named
-      (at_ends (λ q. not (is_used (table_of v.facts s.mode) q) ≡ not (is_referred s.mode rows.statements (kept_at table q).name)) ids referred) each
+      fresh_named table are s.mode rows.statements s (λ (x : NameId). not (is_used (table_of v.facts s.mode) x.0)) ids fresh refl live live_fresh named
+      (all_ends (λ q. not (is_used (table_of v.facts s.mode) q) ≡ not (is_referred s.mode rows.statements (kept_at table q).name)) ids referred) each
 
   asked_names : SameElements (names_at table a.asked.items) (flat_map (leads entries s.mode) (fresh_facts s.mode rows.statements s))
   asked_names w =
       ap (λ (ns : List NameId). sum_by w (names_at table ns)) ready.asked_there
       ∙ ap (sum_by w) led.1
-      ∙ same_leads (leads entries s.mode) (names_at table fresh) (fresh_facts s.mode rows.statements s) fresh_names w
+      ∙ flat_same (leads entries s.mode) (names_at table fresh) (fresh_facts s.mode rows.statements s) fresh_names w
 
   pub is_addition : IsAddition new table entries s ids a
   is_addition = record {

@@ -3,3 +3,4 @@ pub mod Items
 pub mod Addition
 pub mod Leads
 pub mod Rows
+pub mod Removal

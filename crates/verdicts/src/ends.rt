@@ -23,8 +23,8 @@ use kept_facts::Wanted;
 use name_index::{NameId, NameTable};
 use std::alloc::Global;
 
-// How many new ends of items, or of facts, an edit may have. Lawful rows have fewer.
-const MOST_ENDS: usize = 268_435_456;
+// How many new names of items or of facts an edit may have. Lawful rows have fewer.
+pub(crate) const MOST_ENDS: usize = 268_435_456;
 
 // Whether a statement of mode follow uses a fact.
 fn has_users(facts: &Facts, fact: NameId) -> bool

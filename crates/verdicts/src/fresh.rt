@@ -1,16 +1,16 @@
 // Facts that a statement adds, since no other statement uses them.
 ghost use Rattle.std.specs.Prelude.{◌≡◌, ◌≤◌, ◌++◌, ◌∷◌, ℕ, [], List, IfOk, OnOk, None, cond, false, filter, not, true};
-ghost use Rattle.std.specs.List.{flat_map};
 ghost use Rattle.name_index.specs.declared.table.NameId.{NameId};
 ghost use Rattle.name_index.specs.Table.{IsLive, Names};
 ghost use Rattle.cpe_rows.specs.Prelude.{IsLawful, Rows};
 ghost use Rattle.fact_laws.specs.Shown.{times_in};
 ghost use Rattle.kept_facts.specs.Kept.{AreLive};
-ghost use Rattle.fact_rows.specs.Facts.{fact_at, has_end, leads_by, leads_of, OthersStay};
+ghost use Rattle.fact_rows.specs.Facts.{fact_at, has_end, leads_by, OthersStay};
 ghost use Rattle.facts.specs.Facts.{HasFacts, is_used, LeadsTo, table_of};
 ghost use Rattle.facts.specs.Room.{KeepsFacts};
 ghost use Rattle.verdicts.specs.Addition.{AreAdded, AreFresh, AreReady, FreshBeside, HasAskedRoom};
 
+use crate::ends::{MOST_ENDS, leads_of_all};
 use cpe_registry::Registry;
 use cpe_rows::Mode;
 use cpe_values::Memory;
@@ -118,22 +118,6 @@ fn add_all_fresh(
     Ok(())
 }
 
-// The names to which facts lead, those of one fact after those of another.
-pub(crate) fn leads_of_all(
-    facts: &Facts,
-    alloc: Global,
-    mode: Mode,
-    numbers: &[NameId],
-) -> Result<Vec<NameId>, Memory>
-    ensures { IfOk result (λ v. v.items ≡ flat_map (λ (x : NameId). leads_of mode (table_of facts.now mode) x.0) numbers.now) }
-{
-    let mut all = Vec::new(alloc);
-    for number in numbers {
-        all.extend_from_slice(facts.leads(mode, number))?;
-    }
-    Ok(all)
-}
-
 // Reserves room on the board of a mode for names that will be asked.
 fn reserve_asked(
     facts: &mut Facts,
@@ -147,8 +131,7 @@ fn reserve_asked(
     ensures follow { facts.new.follow ≡ facts.old.follow }
     ensures room { OnOk result (HasAskedRoom facts.new table.now mode asked.now) }
 {
-    // The facts of lawful rows lead to far fewer names.
-    if asked.len() > 268_435_456 {
+    if asked.len() > MOST_ENDS {
         return Err(Memory);
     }
     let wanted = Wanted {

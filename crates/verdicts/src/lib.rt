@@ -3,6 +3,9 @@
 //! [`Verdicts`] has the facts ([`facts::Facts`]) and the statements with their verdicts ([`statement_rows::StatementRows`]).
 //! Each call is an edit of the rows. It changes the facts, and then judges the statements that use a fact whose truth was
 //! replaced, and no others. After each call every verdict is that of the rows.
+//!
+//! A statement is added or removed, and a deprecation is changed, in two stages: the first takes all memory and changes no verdict
+//! ([`Verdicts::ready_statement`], [`Verdicts::ready_removal`], [`Verdicts::ready_lead`]); the second cannot fail.
 #![tactic(auto)]
 
 mod addition;
@@ -12,10 +15,12 @@ mod items;
 pub mod law;
 mod lead;
 mod refresh;
+mod removal;
 mod results;
 mod truths;
 mod verdicts;
 
 pub use addition::Addition;
 pub use lead::Lead;
+pub use removal::Removal;
 pub use verdicts::Verdicts;

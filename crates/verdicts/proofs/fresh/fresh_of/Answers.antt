@@ -4,7 +4,7 @@ use Rattle.name_index.specs.declared.table.NameId.{NameId}
 use Rattle.fact_laws.specs.Shown.{one_if_some, times_in}
 use Rattle.kept_facts.specs.Kept.{AreLive}
 use Rattle.facts.specs.Facts.{is_used, table_of}
-use Rattle.verdicts.proofs.FreshLemmas.{live_filtered}
+use Rattle.verdicts.proofs.NumberLemmas.{live_filtered}
 use Rattle.verdicts.proofs.fresh.fresh_of.Goals as goal
 
 pub returns-clause-fresh : goal.returns-clause-fresh
