@@ -313,17 +313,6 @@ impl StatementRows {
         }
     }
 
-    /// Which facts the statement of this id uses: its mode, the numbers of its fact references in the order of its test, and its
-    /// ticket.
-    pub fn use_of(&self, id: &Text) -> Option<(Mode, &[NameId], u64)>
-        ensures { option_map (λ u. (u.0, u.1.now, u.2)) result ≡ option_map use_of (find (is_of id.now) self.now.rows) }
-    {
-        match self.place_of(id) {
-            Some(place) => self.use_at(place),
-            None => None,
-        }
-    }
-
     /// The verdict of the statement of this id.
     pub fn verdict(&self, id: &Text) -> Option<Truth>
         ensures { result ≡ option_map (λ j. j.verdict) (find (is_of id.now) self.now.rows) }
@@ -358,20 +347,6 @@ impl StatementRows {
     {
         match self.rows.at(place) {
             Some(row) => Some(&row.numbered.statement),
-            None => None,
-        }
-    }
-
-    // Which facts the statement at a place uses.
-    fn use_at(&self, place: usize) -> Option<(Mode, &[NameId], u64)>
-        ensures { option_map (λ u. (u.0, u.1.now, u.2)) result ≡ option_map use_of (slice_get self.now.rows place) }
-    {
-        match self.rows.at(place) {
-            Some(row) => Some((
-                row.numbered.statement.mode,
-                row.numbered.ids.as_slice(),
-                row.ticket,
-            )),
             None => None,
         }
     }
