@@ -2,7 +2,7 @@
 ghost use Rattle.std.specs.Prelude.{◌≡◌, [], IfOk, OnErr, OnOk};
 ghost use Rattle.cpe_steps.specs.Within.{StepsWithin};
 ghost use Rattle.cpe_rows.specs.Prelude.{after, changes, IsLawful};
-ghost use Rattle.engine_parts.specs.Prelude.{AreOf, edit_in, given, HasPlan, IsLead, IsLive, known_in, name_in, rows_in};
+ghost use Rattle.engine_parts.specs.Prelude.{AreOf, edit_in, given, HasPlan, IsLive, IsReadyLead, known_in, name_in, rows_in};
 ghost use Rattle.cpe_dictionary.specs.Plans.{IsPlan};
 ghost use Rattle.made_edits.specs.Looks.{made_looks};
 ghost use Rattle.made_edits.specs.Ready.{IsReady};
@@ -104,7 +104,7 @@ fn make_change<L: Ledger>(
     edits_by_number();
     match parts
         .verdicts
-        .foresee(alloc, &parts.registry, change.id, plan)
+        .ready_lead(alloc, &parts.registry, change.id, plan)
     {
         Ok(lead) => lead_change(parts, change, plan, lead, steps),
         Err(memory) => {
@@ -126,7 +126,7 @@ fn lead_change<L: Ledger>(
     requires are { AreOf parts.old.registry parts.old.verdicts (rows_in parts.old) [] }
     requires plan { IsPlan (rows_in parts.old).entries (name_in parts.old.registry.table change.id) (given change.turn) plan.now }
     requires left { IsLawful (after (rows_in parts.old) (edit_in parts.old (Numbered.Change change))) }
-    requires lead { IsLead parts.old.registry.table parts.old.verdicts (rows_in parts.old) (after (rows_in parts.old) (edit_in parts.old (Numbered.Change change))).entries (name_in parts.old.registry.table change.id) lead }
+    requires lead { IsReadyLead parts.old.verdicts parts.old.registry.table (rows_in parts.old) (after (rows_in parts.old) (edit_in parts.old (Numbered.Change change))).entries (name_in parts.old.registry.table change.id) lead }
     ensures ok { OnOk result (AreOf parts.new.registry parts.new.verdicts (after (rows_in parts.old) (edit_in parts.old (Numbered.Change change))) []) }
     ensures err { OnErr result (AreOf parts.new.registry parts.new.verdicts (rows_in parts.old) []) }
     ensures known { known_in parts.new.verdicts ≡ known_in parts.old.verdicts }

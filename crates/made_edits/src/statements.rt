@@ -45,9 +45,13 @@ pub(crate) fn put_statement<L: Ledger>(
     let place = parts.verdicts.len();
     match parts
         .verdicts
-        .put(alloc, &parts.registry, statement, &ids, steps)
+        .ready_statement(alloc, &parts.registry, statement, &ids)
     {
-        Ok(()) => Ok(put_change(room, place, truth_at(&parts.verdicts, place))),
+        Ok(addition) => {
+            let table = parts.registry.table();
+            parts.verdicts.add_statement(table, addition, steps);
+            Ok(put_change(room, place, truth_at(&parts.verdicts, place)))
+        }
         Err(memory) => {
             drop(room);
             release_all(&mut parts.registry, &ids);
@@ -105,9 +109,9 @@ fn take_statement<L: Ledger>(
 {
     fact_laws::law::statements_ask();
     fact_laws::law::lists_are_shown();
-    let ids = parts
-        .verdicts
-        .drop_statement(alloc, parts.registry.table(), id, steps)?;
+    let removal = parts.verdicts.ready_removal(alloc, id)?;
+    let table = parts.registry.table();
+    let ids = parts.verdicts.remove_statement(table, id, removal, steps);
     release_all(&mut parts.registry, &ids);
     Ok(())
 }

@@ -9,7 +9,8 @@ use Rattle.cpe_dictionary.proofs.DictionaryLemmas.{written_changed}
 use Rattle.name_index.specs.Table.{Names}
 use Rattle.fact_laws.specs.Shown.{holds_in, Shows}
 use Rattle.cpe_registry.specs.Registered.{name_in}
-use Rattle.verdicts.specs.Verdicts.{HasVerdicts, IsLead}
+use Rattle.verdicts.specs.Leads.{IsReadyLead}
+use Rattle.verdicts.specs.Verdicts.{HasVerdicts}
 use Rattle.engine_parts.specs.Numbered.{given, note_of}
 use Rattle.engine_parts.specs.Parts.{edit_in, rows_in}
 use Rattle.engine_parts.specs.declared.numbered.Numbered.TheVariants as numbered
@@ -42,12 +43,12 @@ module _ (g : Over) (c : After-table g) where
   stood : HasVerdicts c.table.result.now c.args.parts.now.verdicts (rows_in c.args.parts.now)
   stood = subst (λ (t : Names). HasVerdicts t c.args.parts.now.verdicts (rows_in c.args.parts.now)) (sym (c.table.ensures ∙ c.in-Ok.ensures.table)) c.requires.are.verdicts
 
-  lead : IsLead c.table.result.now c.args.parts.now.verdicts (rows_in c.args.parts.now) (after (rows_in c.args.parts.now) (edit_in c.args.parts.now (numbered.Change c.args.change))).entries
+  lead : IsReadyLead c.args.parts.now.verdicts c.table.result.now (rows_in c.args.parts.now) (after (rows_in c.args.parts.now) (edit_in c.args.parts.now (numbered.Change c.args.change))).entries
       (name_in c.args.parts.now.registry.table c.args.change.id) c.args.lead
   lead =
       let p = c.args.parts.now in
       let next = after (rows_in p) (edit_in p (numbered.Change c.args.change)) in
-      subst (λ (t : Names). IsLead t p.verdicts (rows_in p) next.entries (name_in p.registry.table c.args.change.id) c.args.lead) (sym (c.table.ensures ∙ c.in-Ok.ensures.table)) c.requires.lead
+      subst (λ (t : Names). IsReadyLead p.verdicts t (rows_in p) next.entries (name_in p.registry.table c.args.change.id) c.args.lead) (sym (c.table.ensures ∙ c.in-Ok.ensures.table)) c.requires.lead
 
 pub change-requires-clause-lawful : goal.change-requires-clause-lawful
 change-requires-clause-lawful g c = subst IsDictionary (sym (left g (goal.at.change-requires-clause-lawful g c).After-into_parts-deprecation)) c.requires.left.dictionary
@@ -56,7 +57,7 @@ pub lead-requires : goal.lead-requires
 lead-requires g c =
     let p = c.args.parts.now in
     let at = (goal.at.lead-requires g c).After-table in
-    record { stood = (rows_in p, edit_in p (numbered.Change c.args.change), name_in p.registry.table c.args.change.id, touches g at, c.requires.lawful, stood g at, lead g at) }
+    (rows_in p, edit_in p (numbered.Change c.args.change), name_in p.registry.table c.args.change.id, touches g at, c.requires.lawful, stood g at, lead g at)
 
 pub returns-in-Ok-clause-ok : goal.returns-in-Ok-clause-ok
 returns-in-Ok-clause-ok g c =
@@ -69,7 +70,7 @@ returns-in-Ok-clause-ok g c =
     let at = (goal.at.returns-in-Ok-clause-ok g c).After-table in
     by_lists p.registry c.change.new.self c.lead.new.self next [] c.in-Ok.ensures.table (c.in-Ok.ensures.ok ∙ left g ready) (c.in-Ok.ensures.items ∙ sym (c.deprecations_touch.ensures.items rows e n (touches g at)))
     (subst (λ (ns : List Values). Shows p.registry.table (holds_in p.registry.table) ns) (sym (c.deprecations_lead_elsewhere.ensures.kept rows e n (touches g at))) c.requires.are.held)
-    (subst (λ (t : Names). HasVerdicts t c.lead.new.self next) (c.table.ensures ∙ c.in-Ok.ensures.table) (c.lead.ensures.verdicts rows e n (touches g at) (stood g at) (lead g at)))
+    (subst (λ (t : Names). HasVerdicts t c.lead.new.self next) (c.table.ensures ∙ c.in-Ok.ensures.table) (c.lead.ensures.verdicts rows e n (touches g at) (stood g at) (lead g at).lists))
 
 pub returns-in-Ok-clause-steps : goal.returns-in-Ok-clause-steps
 returns-in-Ok-clause-steps g c =
@@ -78,4 +79,4 @@ returns-in-Ok-clause-steps g c =
     let n = name_in p.registry.table change.id in
     let at = (goal.at.returns-in-Ok-clause-steps g c).After-table in
     subst (λ (k : ℕ). StepsWithin c.args.steps.now c.lead.new.steps k) (sym (looks_turned (rows_in p) n change.date change.comment change.turn))
-    (c.lead.ensures.steps (rows_in p) (edit_in p (numbered.Change change)) n (touches g at) (stood g at) (lead g at))
+    (c.lead.ensures.steps (rows_in p) (edit_in p (numbered.Change change)) n (touches g at) (stood g at) (lead g at).lists)
