@@ -19,7 +19,7 @@ use Rattle.name_index.specs.Table.{Names}
 use Rattle.fact_laws.specs.Shown.{name_at, names_at}
 use Rattle.checked_certificates.specs.Relates.{related}
 use Rattle.checked_certificates.specs.declared.relates.Relates.{Relates}
-use Rattle.verdicts.specs.Leading.{AreItemsTo}
+use Rattle.verdicts.specs.Items.{AreItemsTo}
 use Rattle.cpe_engine.specs.Shown.{AreShown}
 
 -- ---- the ends of a name in lower case are in lower case

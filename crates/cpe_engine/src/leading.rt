@@ -5,7 +5,8 @@ ghost use Rattle.cpe_rows.specs.Prelude.{ends, is_followed, IsLower, Rows};
 ghost use Rattle.name_index.specs.Table.{IsLive};
 ghost use Rattle.fact_laws.specs.Shown.{names_at};
 ghost use Rattle.cpe_registry.specs.Registered.{AreLive, name_in};
-ghost use Rattle.verdicts.specs.Leading.{AreItemsTo, AreOfRows};
+ghost use Rattle.verdicts.specs.Items.{AreItemsTo};
+ghost use Rattle.verdicts.specs.Rows.{AreOfRows};
 ghost use Rattle.checked_certificates.specs.Relates.{related};
 ghost use Rattle.cpe_engine.specs.Shown.{AreShown};
 

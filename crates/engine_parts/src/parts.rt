@@ -5,8 +5,8 @@ ghost use Rattle.verdicts.specs.Verdicts.{known_in};
 ghost use Rattle.engine_parts.specs.Parts.{AreKept, AreOf, rows_in};
 
 use cpe_registry::Registry;
-use verdicts::Verdicts;
 use std::alloc::Global;
+use verdicts::Verdicts;
 
 /// The lists of rows that an engine keeps, and their weight.
 #[derive(Drop)]

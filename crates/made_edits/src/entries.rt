@@ -12,10 +12,10 @@ use cpe_rows::{Changed, List, Provenance, Room, Text};
 use cpe_steps::Steps;
 use cpe_values::Memory;
 use engine_parts::{Change, Numbered, Parts, release_all};
-use verdicts::Lead;
 use name_index::NameId;
 use std::alloc::Global;
 use std::sync::ledger::Ledger;
+use verdicts::Lead;
 
 /// Puts an entry last that has no fault, or lets its name go. It changes no verdict.
 ///

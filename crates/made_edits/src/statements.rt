@@ -14,10 +14,10 @@ use cpe_rows::{Changed, List, Room, Statement, Text, Truth};
 use cpe_steps::Steps;
 use cpe_values::Memory;
 use engine_parts::{Numbered, Parts, release_all};
-use verdicts::Verdicts;
 use name_index::NameId;
 use std::alloc::Global;
 use std::sync::ledger::Ledger;
+use verdicts::Verdicts;
 
 /// Puts a statement last that has no fault, or lets the names of its fact references go. It alone changes, without a verdict
 /// before.

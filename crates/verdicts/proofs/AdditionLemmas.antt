@@ -27,7 +27,7 @@ use Rattle.fact_laws.specs.Shown.{names_at}
 use Rattle.kept_facts.specs.Kept.{AreLive, AreSound}
 use Rattle.facts.specs.Facts.{AreUsed, FactsNow, HasFacts}
 use Rattle.statement_rows.specs.Readings.{has_fact}
-use Rattle.statement_rows.specs.State.{AreJudged, is_of, judge, new_statement_row, SameRows, State, StatementAdded, StatementRow, statements_of}
+use Rattle.statement_rows.specs.State.{AreJudged, is_of, judge, new_statement_row, SameRows, StatementAdded, StatementRow, statements_of}
 use Rattle.statement_rows.proofs.FaultLemmas.{any_statement}
 use Rattle.verdicts.specs.Addition.{HasVerdictsBeside}
 use Rattle.verdicts.specs.Verdicts.{HasVerdicts, HasVerdictsBy, IsNumbered, known_in, tickets_in, truths_in, VerdictsNow}

@@ -1,14 +1,13 @@
 -- Facts that no statement uses were added to the others.
-use Rattle.std.proofs.Common.{◌≡◌, ◌≢◌, ◌≤◌, ◌<◌, ◌+◌, ℕ, zero, suc, Bool, true, false, not, cond, ◌&&◌, ◌||◌, nat_eq, List, [], ◌∷◌, ◌++◌, length, take, drop, get_or, Option, Some, None, Result, Ok, Err, OnOk, OnErr, refl, sym, ap, subst, ◌∙◌, inl, inr, arith, eq-eqb, eqb-true}
+use Rattle.std.proofs.Common.{◌≡◌, ◌≢◌, ◌≤◌, ◌<◌, ◌+◌, ℕ, zero, suc, Bool, true, false, not, cond, ◌&&◌, ◌||◌, nat_eq, List, [], ◌∷◌, ◌++◌, length, take, get_or, Option, Some, Result, Ok, Err, OnOk, refl, sym, ap, subst, ◌∙◌, inl, inr, arith, eq-eqb, eqb-true}
 use Rattle.std.specs.Prelude.{is_some}
 use Rattle.std.specs.List.{flat_map}
-use Rattle.std.proofs.lemmas.Bool.{and_from, and_parts, cases_eq, or_cases, or_left, or_right, true≢false}
+use Rattle.std.proofs.lemmas.Bool.{and_from, and_parts, or_cases, or_left, or_right, true≢false}
 use Rattle.std.proofs.lemmas.List.{take_more}
 use Rattle.std.proofs.lemmas.List.Folds.{list_any-append}
 use Rattle.std.proofs.lemmas.List.Sums.{sum_by-cons}
 use Rattle.name_index.specs.declared.table.NameId.{NameId}
 use Rattle.name_index.specs.Table.{Names}
-use Rattle.cpe_rows.specs.Rows.{Rows}
 use Rattle.cpe_rows.specs.declared.entry.Entry.{Entry}
 use Rattle.cpe_rows.specs.declared.statement.Mode.{Mode}
 use Rattle.cpe_rows.specs.declared.statement.Mode.TheVariants.{Plain, Follow}
@@ -16,7 +15,7 @@ use Rattle.fact_laws.specs.Shown.{one_if_some, times_in}
 use Rattle.fact_rows.specs.Facts.{ends_or_none, Fact, fact_at, FactTable, has_end, is_fact, leads_by, has_room, leads_of, new_fact, OthersStay, users_of}
 use Rattle.fact_rows.specs.Calls.{SameFacts}
 use Rattle.fact_rows.specs.Tickets.{is_empty}
-use Rattle.facts.specs.Facts.{AreUsedBut, FactsNow, HasFacts, is_used, LeadsTo, table_of}
+use Rattle.facts.specs.Facts.{AreUsedBut, FactsNow, is_used, LeadsTo, table_of}
 use Rattle.facts.specs.Room.{KeepsFacts, OnlyMode, RoomForUsers}
 use Rattle.facts.proofs.UserLemmas.{used_fact}
 use Rattle.fact_laws.specs.Asked.{same_mode}

@@ -1,9 +1,8 @@
 -- An addition is ready, or is taken back.
-use Rattle.std.proofs.Common.{◌≡◌, ◌<◌, ℕ, Bool, true, false, not, ◌&&◌, List, [], ◌∷◌, ◌++◌, length, map, Result, Ok, Err, OnErr, refl, sym, ap, subst, ◌∙◌}
+use Rattle.std.proofs.Common.{◌≡◌, ◌<◌, ℕ, Bool, true, false, not, ◌&&◌, List, [], ◌∷◌, ◌++◌, map, Result, Ok, Err, OnErr, refl, sym, ap, subst, ◌∙◌}
 use Rattle.std.specs.List.{AllByRecursion, flat_map, sum_by}
 use Rattle.std.proofs.lemmas.Bool.{or_left, true≢false}
 use Rattle.std.proofs.lemmas.List.{append-nil}
-use Rattle.cpe_name.specs.Eleven.{Values}
 use Rattle.product_orders.specs.Elements.{SameElements}
 use Rattle.name_index.specs.declared.table.NameId.{NameId}
 use Rattle.name_index.specs.Table.{AreNames, kept_at, Names}
@@ -15,7 +14,7 @@ use Rattle.cpe_rows.specs.declared.statement.Statement.{Statement}
 use Rattle.fact_laws.specs.Shown.{names_at}
 use Rattle.fact_laws.specs.Asked.{fresh_facts, is_referred, leads, same_mode}
 use Rattle.kept_facts.specs.Kept.{AreLive}
-use Rattle.fact_rows.specs.Facts.{FactTable, has_end, has_room, is_fact, leads_of, users_of}
+use Rattle.fact_rows.specs.Facts.{has_end, has_room, is_fact, leads_of, users_of}
 use Rattle.fact_rows.specs.Tickets.{ends_with, is_empty}
 use Rattle.facts.specs.Facts.{AreUsed, AreUsedBut, FactsNow, is_used, LeadsTo, table_of}
 use Rattle.facts.specs.Users.{AreBelow}

@@ -50,12 +50,7 @@ fn unused_of(
     Ok(unused)
 }
 
-fn add_unused(
-    facts: &Facts,
-    mode: Mode,
-    id: NameId,
-    unused: &mut Vec<NameId>,
-) -> Result<(), Memory>
+fn add_unused(facts: &Facts, mode: Mode, id: NameId, unused: &mut Vec<NameId>) -> Result<(), Memory>
     ensures { OnOk result (unused.new.items ≡ unused.old.items ++ cond (not (is_used (table_of facts.now mode) id.0)) (id ∷ []) []) }
 {
     if facts.users(mode, id).is_empty() {

@@ -6,7 +6,7 @@ use Rattle.cpe_name.specs.Lower.{IsLower}
 use Rattle.cpe_rows.specs.Rows.{Rows}
 use Rattle.fact_laws.specs.Shown.{names_at}
 use Rattle.cpe_registry.specs.Registered.{AreLive}
-use Rattle.verdicts.specs.Leading.{AreOfRows}
+use Rattle.verdicts.specs.Rows.{AreOfRows}
 use Rattle.cpe_engine.specs.Shown.{AreShown}
 use Rattle.cpe_engine.proofs.leading.all_shown.Given as goal
 

@@ -62,9 +62,9 @@ returns-clause-steps g c =
     subst (λ (t : Names). StepsWithin c.args.steps.now c.add_item-2.new.steps (item_looks rows (name_at t c.args.id))) (c.table-2.ensures ∙ c.in_ok-add_item.ensures.table)
     (c.add_item-2.ensures.steps rows (stood g at) (there g at))
 
-pub add_item-2-requires-clause-stood : goal.add_item-2-requires-clause-stood
-add_item-2-requires-clause-stood g c =
-    let at = (goal.at.add_item-2-requires-clause-stood g c).After-deref-2 in
+pub add_item-requires-2-clause-stood : goal.add_item-requires-2-clause-stood
+add_item-requires-2-clause-stood g c =
+    let at = (goal.at.add_item-requires-2-clause-stood g c).After-deref-2 in
     (rows_in c.args.parts.now, c.requires.lawful, stood g at, there g at)
 
 pub returns-in_err-reserve_item-clause-err : goal.returns-in_err-reserve_item-clause-err

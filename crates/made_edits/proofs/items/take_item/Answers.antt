@@ -55,3 +55,14 @@ returns-clause-steps g c =
     let rows = rows_in c.args.parts.now in
     let at = (goal.at.returns-clause-steps g c).After-drop_item in
     subst (λ (t : Names). StepsWithin c.args.steps.now c.remove_item.new.steps (item_looks rows (name_at t c.args.id))) c.table.ensures (c.remove_item.ensures.steps rows (stood g at) (there g at))
+
+pub remove_item-requires-clause-stood : goal.remove_item-requires-clause-stood
+remove_item-requires-clause-stood g c =
+    let p = c.args.parts.now in
+    let rows = rows_in p in
+    let ends = c.in_ok-ends.ensures in (
+      rows,
+      subst (λ (t : Names). HasVerdicts t p.verdicts rows) (sym c.table.ensures) c.requires.are.verdicts,
+      are_ends p.registry.table c.table.result.now rows.entries c.args.id.0 c.in_ok-ends.ends.items c.deref.result.now c.table.ensures c.deref.ensures.value ends.live ends.names,
+      subst (λ (t : Names). list_any (is_same (name_at t c.args.id)) rows.items ≡ true) (sym c.table.ensures) c.requires.has,
+    )

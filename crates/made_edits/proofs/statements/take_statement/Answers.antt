@@ -17,7 +17,7 @@ use Rattle.made_edits.proofs.statements.take_statement.Goals as goal
 use Rattle.made_edits.proofs.statements.take_statement.Goals.{After-deref}
 
 -- without the statement, whose names are held still
-held : (g : Over) (c : After-deref g) → AreOf c.args.parts.now.registry c.drop_statement.new.self (after (rows_in c.args.parts.now) (edit.DropStatement c.args.id.now)) (names_at c.args.parts.now.registry.table c.deref.result.now ++ [])
+held : (g : Over) (c : After-deref g) → AreOf c.args.parts.now.registry c.remove_statement-ids.new.self (after (rows_in c.args.parts.now) (edit.DropStatement c.args.id.now)) (names_at c.args.parts.now.registry.table c.deref.result.now ++ [])
 held g c =
     let p = c.args.parts.now in
     let rows = rows_in p in
@@ -26,21 +26,21 @@ held g c =
     let are = c.requires.are in
     let next = after rows (edit.DropStatement id) in
     let found = found_some (has_id id) rows.statements c.requires.has in
-    let at = c.table.ensures in
+    let at = c.table-table.ensures in
     let stood = subst (λ (t : Names). HasVerdicts t p.verdicts rows) (sym at) are.verdicts in
-    let w = c.drop_statement.new.self in
-    let names = subst (λ (t : Names). names_at t c.in_ok-ids.ids.items ≡ fact_names found.0.test) at (c.in_ok-ids.ensures.named found.0 found.1) in
-    let here : AreOf p.registry w next (names_at table c.in_ok-ids.ids.items) = record {
+    let w = c.remove_statement-ids.new.self in
+    let names = subst (λ (t : Names). names_at t c.remove_statement-ids.result.items ≡ fact_names found.0.test) at (c.remove_statement-ids.ensures.named found.0 found.1) in
+    let here : AreOf p.registry w next (names_at table c.remove_statement-ids.result.items) = record {
       entries = refl;
       items = refl;
-      held = c.lists_are_shown.ensures.order table (holds_in table) (names_kept rows) (names_at table c.in_ok-ids.ids.items ++ names_kept next)
+      held = c.lists_are_shown.ensures.order table (holds_in table) (names_kept rows) (names_at table c.remove_statement-ids.result.items ++ names_kept next)
           (subst (λ (ns : List Values). SameElements (names_kept rows) (ns ++ names_kept next)) (sym names) (c.statements_ask.ensures.kept_without rows id found.0 found.1)) are.held;
-      verdicts = subst (λ (t : Names). HasVerdicts t w next) at (c.in_ok-ids.ensures.ok rows stood);
+      verdicts = subst (λ (t : Names). HasVerdicts t w next) at (c.remove_statement-ids.ensures.verdicts rows stood);
     } in
-    no_others p.registry w next c.in_ok-ids.ids.items c.deref.result.now c.deref.ensures.value here
+    no_others p.registry w next c.remove_statement-ids.result.items c.deref.result.now c.deref.ensures.value here
 
 pub release_all-requires-clause-are : goal.release_all-requires-clause-are
-release_all-requires-clause-are g c = (c.drop_statement.new.self, after (rows_in c.args.parts.now) (edit.DropStatement c.args.id.now), [], held g (goal.at.release_all-requires-clause-are g c).After-deref)
+release_all-requires-clause-are g c = (c.remove_statement-ids.new.self, after (rows_in c.args.parts.now) (edit.DropStatement c.args.id.now), [], held g (goal.at.release_all-requires-clause-are g c).After-deref)
 
 pub returns-clause-ok : goal.returns-clause-ok
-returns-clause-ok g c = c.release_all.ensures c.drop_statement.new.self (after (rows_in c.args.parts.now) (edit.DropStatement c.args.id.now)) [] (held g (goal.at.returns-clause-ok g c).After-deref)
+returns-clause-ok g c = c.release_all.ensures c.remove_statement-ids.new.self (after (rows_in c.args.parts.now) (edit.DropStatement c.args.id.now)) [] (held g (goal.at.returns-clause-ok g c).After-deref)

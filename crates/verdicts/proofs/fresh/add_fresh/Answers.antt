@@ -1,6 +1,4 @@
-use Rattle.std.proofs.Common.{◌∷◌, [], refl}
-use Rattle.std.proofs.lemmas.Bool.{or_right}
-use Rattle.fact_rows.specs.Facts.{has_end}
+use Rattle.std.proofs.Common.{◌∷◌, []}
 use Rattle.facts.specs.Facts.{table_of}
 use Rattle.facts.proofs.RoomLemmas.{same_users}
 use Rattle.verdicts.proofs.BesideLemmas.{beside_none, beside_wider, one_added}

@@ -3,7 +3,6 @@ use Rattle.name_index.specs.declared.table.NameId.{NameId}
 use Rattle.cpe_rows.specs.declared.statement.Mode.{Mode}
 use Rattle.cpe_rows.specs.declared.statement.Statement.{Statement}
 use Rattle.facts.specs.Facts.{AreUsedBut}
-use Rattle.statement_rows.specs.State.{IsReadyRow, State}
 use Rattle.verdicts.specs.Addition.{AreNeededBut, HasVerdictsBeside, IsAddition}
 use Rattle.verdicts.specs.Verdicts.{AreNeeded, VerdictsNow}
 use Rattle.verdicts.proofs.AdditionLemmas.{same_verdicts}

@@ -1,6 +1,5 @@
 use Rattle.std.proofs.Common.{position, sym, ap, ◌∙◌}
 use Rattle.cpe_rows.specs.Rows.{has_id}
-use Rattle.cpe_rows.specs.declared.statement.Statement.{Statement}
 use Rattle.statement_rows.specs.State.{is_of, StatementRow, statements_of}
 use Rattle.statement_rows.proofs.PlaceLemmas.{first-map, position_is}
 use Rattle.verdicts.specs.Verdicts.{statements_in, VerdictsNow}

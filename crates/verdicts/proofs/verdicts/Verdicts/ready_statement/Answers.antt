@@ -1,4 +1,4 @@
-use Rattle.std.proofs.Common.{◌≡◌, ◌≤◌, ◌<◌, ℕ, List, true, false, None, sym, subst}
+use Rattle.std.proofs.Common.{◌≡◌, ◌≤◌, ◌<◌, ℕ, List, true, false, sym, subst}
 use Rattle.std.specs.List.{AllByRecursion}
 use Rattle.name_index.specs.declared.table.NameId.{NameId}
 use Rattle.fact_laws.specs.Shown.{times_in}
