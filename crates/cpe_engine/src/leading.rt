@@ -15,9 +15,9 @@ use cpe_inventory::ItemSlots;
 use cpe_name::Wfn;
 use cpe_registry::Registry;
 use cpe_values::Memory;
-use verdicts::Verdicts;
 use name_index::NameId;
 use std::alloc::Global;
+use verdicts::Verdicts;
 
 fn alone<'a>(alloc: Global, name: &'a Wfn) -> Result<Vec<&'a Wfn>, Memory>
     ensures { IfOk result (λ names. map (λ n. n.now) names.items ≡ name.now ∷ []) }
