@@ -19,7 +19,7 @@ from dataclasses import dataclass
 from datetime import date, datetime, timezone
 
 from . import cve5, matches, whole
-from .concern import Concern, Named, concern_of, named_of, plain_name
+from .concern import Concern, concern_of, plain_name, products_named, ranges_of
 from .dictionary import NO_FORM, Change, Product, product_id
 from .feeds import ADVISORIES, RECORDS, FormFault, Json, Page, Placed, member, record_text, text_at
 from .kept import Kept, place_of
@@ -165,7 +165,7 @@ class Adding:
             if is_of_these_recipes(self._kept):
                 return
             self._read_numbers()
-            for table in ("maker", "concerns", "ranged", "made"):
+            for table in ("maker", "concerns", "beside", "ranged", "made"):
                 self._kept.put(f"DELETE FROM {table} WHERE ?", [(True,)])
             edit = "UPDATE advisories SET id = ?, modified = ?, has_names = ?, state = ?, is_odd = ?, is_of_systems = ? WHERE place = ?"
             for (place,) in self._kept.rows("SELECT place FROM advisories"):
@@ -243,7 +243,7 @@ class Adding:
         )
 
     def _put_advisories(self, page: Page, page_number: int) -> int:
-        latest = _LatestAdvisories(self._kept, page.kind == RECORDS, self._number)
+        latest = _LatestAdvisories(self._kept, page_number, page.kind == RECORDS, self._number)
         for number, record in enumerate(page.records):
             latest.put(place_of(page_number, number), record)
         return latest.end()
@@ -346,8 +346,8 @@ class _LatestProducts:
 class _LatestAdvisories:
     """The advisories of a page that count, in place of those that are older (as latest.py has it)."""
 
-    def __init__(self, kept: Kept, is_of_records: bool, number_of: Callable[[Key], int]) -> None:
-        self._kept, self._is_of_records, self._number_of = kept, is_of_records, number_of
+    def __init__(self, kept: Kept, page_number: int, is_of_records: bool, number_of: Callable[[Key], int]) -> None:
+        self._kept, self._page_number, self._is_of_records, self._number_of = kept, page_number, is_of_records, number_of
         self._changed = 0
 
     def put(self, place: int, record: Json) -> None:
@@ -356,18 +356,26 @@ class _LatestAdvisories:
         if id is None:
             self._insert(place, None, modified, record)
             return
-        known = self._kept.rows("SELECT place, modified, data FROM advisories WHERE id = ? AND is_of_records = ?", (id, self._is_of_records))
+        there = self._kept.rows("SELECT place, modified, data, is_of_records FROM advisories WHERE id = ?", (id,))
+        known = [row[:3] for row in there if bool(row[3]) == self._is_of_records]
         if known:
             now, before = _time(modified), _time(known[0][1])
             if now < before or now == before and any(self._form_of(data) == form for _, _, data in known):
                 return
             if now > before:
                 self._delete(known)
+        for _, _, data, is_of_records in there:
+            self._note_gone(in_form(self._kept.read(record_of, data), is_of_records))
         self._insert(place, id, modified, record)
         _mark(self._kept, id)
 
     def _form_of(self, data: bytes) -> Json:
         return in_form(self._kept.read(record_of, data), self._is_of_records)
+
+    def _note_gone(self, record: Json) -> None:
+        """Notes of which products a record was that counts otherwise from this page on, so that what rests on it is decided again."""
+        products = {NO_PRODUCT if one is None else self._number_of(one) for one in products_named(record)}
+        self._kept.put("INSERT OR IGNORE INTO gone VALUES (?, ?)", ((self._page_number, number) for number in products))
 
     def _insert(self, place: int, id: str | None, modified: str, record: Json) -> None:
         data = zlib.compress(json.dumps(record, ensure_ascii=False, separators=(",", ":")).encode(errors="surrogatepass"), 1)
@@ -384,7 +392,9 @@ class _LatestAdvisories:
             if concern is not None:
                 products = [(self._number_of(product), place) for product in concern.products]
                 self._kept.put("DELETE FROM concerns WHERE product = ? AND place = ?", products)
-            self._kept.put("DELETE FROM ranged WHERE key = ? AND place = ?", {(key, place) for key, _ in named_of(record)})
+                beside = [(self._number_of(product), place) for product in concern.beside]
+                self._kept.put("DELETE FROM beside WHERE product = ? AND place = ?", beside)
+            self._kept.put("DELETE FROM ranged WHERE key = ? AND place = ?", {(key, place) for key, _, _ in ranges_of(record)})
             for table in ("advisories", "made"):
                 self._kept.put(f"DELETE FROM {table} WHERE place = ?", [(place,)])
 
@@ -435,7 +445,7 @@ class Derived:
     state: str | None
     concern: Concern | None
     made: bytes | None
-    named: Named
+    ranges: frozenset[tuple[str, Key, int]]
 
     @staticmethod
     def of(record: Json) -> Derived:
@@ -445,8 +455,8 @@ class Derived:
         concern = concern_of(record) if state is None else None
         made = make(record) if concern is not None else None
         # (of what something would be reported, that is read by every scan)
-        named = named_of(record) if state is None else frozenset()
-        return Derived(has_names, state, None if made is None else concern, made, named)
+        ranges = ranges_of(record) if state is None else frozenset()
+        return Derived(has_names, state, None if made is None else concern, made, ranges)
 
     def columns(self) -> tuple[bool, str | None, bool, bool]:
         """Whether it has configurations, its state, whether it isn't plain, and whether it asks for operating systems alone."""
@@ -455,9 +465,10 @@ class Derived:
 
     def put(self, kept: Kept, place: int, number_of: Callable[[Key], int]) -> None:
         """Puts its products and its matches that have bounds, and what it becomes."""
-        kept.put("INSERT INTO ranged VALUES (?, ?, ?)", [(key, place, number_of(product)) for key, product in self.named])
+        kept.put("INSERT INTO ranged VALUES (?, ?, ?, ?)", [(key, place, number_of(product), number) for key, product, number in self.ranges])
         if self.concern is not None:
             kept.put("INSERT INTO concerns VALUES (?, ?)", [(number_of(product), place) for product in self.concern.products])
+            kept.put("INSERT INTO beside VALUES (?, ?)", [(number_of(product), place) for product in self.concern.beside])
             kept.put("INSERT INTO made VALUES (?, ?)", [(place, self.made)])
 
 

@@ -60,9 +60,12 @@ def _advisories(kept: Kept, numbers: dict[int, tuple[str, str]]) -> Iterator[tup
     products: dict[int, set[tuple[str, str]]] = {}
     for product, place in kept.each("SELECT product, place FROM concerns"):
         products.setdefault(place, set()).add(numbers.get(product, ("", "")))
-    ranges: dict[int, set[tuple[str, tuple[str, str]]]] = {}
-    for key, place, product in kept.each("SELECT key, place, product FROM ranged"):
-        ranges.setdefault(place, set()).add((key, numbers.get(product, ("", ""))))
+    beside: dict[int, set[tuple[str, str]]] = {}
+    for product, place in kept.each("SELECT product, place FROM beside"):
+        beside.setdefault(place, set()).add(numbers.get(product, ("", "")))
+    ranges: dict[int, set[tuple[str, tuple[str, str], int]]] = {}
+    for key, place, product, number in kept.each("SELECT key, place, product, range FROM ranged"):
+        ranges.setdefault(place, set()).add((key, numbers.get(product, ("", "")), number))
     is_of_these = kept.rows("SELECT digest FROM maker") == [(maker(),)]
     columns_of = "place, id, modified, is_of_records, a.data, made.data, has_names, state, is_odd, is_of_systems"
     for place, id, modified, is_of_records, data, made, *columns in kept.each(f"SELECT {columns_of} FROM advisories a LEFT JOIN made USING (place)"):
@@ -74,7 +77,8 @@ def _advisories(kept: Kept, numbers: dict[int, tuple[str, str]]) -> Iterator[tup
         derived = Derived.of(record)
         concern = derived.concern or Concern(frozenset(), frozenset(), frozenset())
         is_right = (id, modified) == told_apart(record) and tuple(columns) == derived.columns()
-        is_right = is_right and products.get(place, set()) == concern.products and ranges.get(place, set()) == derived.named
+        is_right = is_right and products.get(place, set()) == concern.products and ranges.get(place, set()) == derived.ranges
+        is_right = is_right and beside.get(place, set()) == concern.beside
         is_right = is_right and (made == derived.made or not is_of_these)
         yield place, "" if is_right else f"what is kept beside {id_of(record) or 'it'} is of another record"
 

@@ -51,7 +51,9 @@ class Reasons:
             for fact, is_told in facts:
                 if any(name in called for name in covered[fact]):
                     continue
-                for it in (called[name] for name in may_be[fact] if name in called):
+                there = set(may_be[fact])
+                # (in the order of this machine, whatever the other ones have)
+                for it in (it for name, it in called.items() if name in there):
                     if it.sure is Sure.LESS and place in one.less:
                         one.perhaps[Perhaps(self._known.statements[place].id, it.item, fact)] = None
                     if not is_told:

@@ -740,7 +740,7 @@ class Stores(RecipeCase):
     def test_what_stands_beside_another_record(self):
         edits = {
             "its product": "UPDATE concerns SET product = product % 2 + 1", "none of its products": "DELETE FROM concerns",
-            "its ranges": "INSERT INTO ranged SELECT 'K', min(place), 1 FROM advisories",
+            "its ranges": "INSERT INTO ranged SELECT 'K', min(place), 1, 7 FROM advisories",
             "its state": "UPDATE advisories SET state = 'Rejected'", "its record": "UPDATE advisories SET data = x'00' WHERE place % 2",
             "its name": "UPDATE products SET product = product % 2 + 1", "its page": "DELETE FROM pages WHERE kind = 'products'",
             "what it becomes": "UPDATE made SET data = x'00'", "its id": "UPDATE advisories SET id = 'CVE-2024-0009'", "an advisory that isn't there": "DELETE FROM advisories",
