@@ -55,6 +55,7 @@ result: then nothing was written except why. It is 3 if a verdict fits a gate, w
 """
 from __future__ import annotations
 
+import itertools
 from collections.abc import Callable, Collection, Iterable, Iterator, Mapping, Sequence
 from dataclasses import dataclass, field
 
@@ -65,7 +66,8 @@ from .calling import Calling, Wanted, listed_by_name
 from .cases import Cases, Index, Items, Known, Results, lines_of, portions_of, verdicts_of
 from .components import Machine
 from .decide import LETTERS, Decider, Leads, Lists, decide, leads_in, leads_of
-from .deciding import Deciding
+from .deciding import Asked as AskedOf
+from .deciding import Chosen, Deciding
 from .difference import Difference, Prepared
 from .earlier import Rests, checksum_of
 from .feeds import FeedFault, Json, Page, name_of, read_feed, text_lines
@@ -83,6 +85,7 @@ from .progress import Progress
 from .reasons import Reasons
 from .said import Fatal, Mute, Noting, Output, Said
 from .settled import read_settled
+from .staying import Staying, dropping
 from .stored import Found as StoreFound
 from .stored import Stored
 from .threats import Threats
@@ -136,7 +139,7 @@ class Scan:
         has_hardware: bool = True,
     ) -> None:
         self._program, self._known, self._lists, self._letters, self._progress = program, known, lists, letters, progress
-        self.deciding = Deciding(program, known) if has_why else None
+        self.deciding: Deciding | None = Chosen(program, known, lambda: self._leads) if has_why else None
         self._is_strict, self._has_hardware = is_strict, has_hardware
         self.bare: list[str] = []
         self.successors: dict[Product, list[Product]] = {}
@@ -195,10 +198,12 @@ class Scan:
         for one, of_machine in zip(found, asked):
             self._put(one, of_machine, truths)
         Reasons(self._program, self._known, self._leads).put(found)
-        for done, one in enumerate(found):
-            if self.deciding is not None:
+        if self.deciding is not None:
+            reasons = self.deciding.of_machines([AskedOf(one.asked, one.decided, one.places_of("TRUE")) for one in found])
+            for done, (one, of_one) in enumerate(zip(found, reasons, strict=True)):
                 self._progress.count("asking which items decide", done, len(found))
-                one.deciding = self.deciding.reasons(one.asked, one.decided, one.places_of("TRUE"))
+                one.deciding = of_one
+        for one in found:
             one.note_backported(self._known.statements, lambda fact: self._leads.found[fact].name)
             # (what is decided is in the verdicts, and would be much beside them)
             one.decided.clear()
@@ -224,7 +229,10 @@ class Scan:
         self.bare = []
         for portion in portions_of(self._known):
             of_portion = [case for case in cases if case[2] in portion]
-            answers = verdicts_of(self._program.lines(["resolve"], lines_of(self._known, portion, of_portion)))
+            asked = lines_of(self._known, portion, of_portion)
+            # (the run may be asked for more after that)
+            drops = dropping(self._known.statements[place].id for place in portion)
+            answers = verdicts_of(self._program.lines(["resolve"], itertools.chain(asked, drops)))
             self.bare += [_next(answers) for _ in portion]
             for _, _, _, number in of_portion:
                 truths[number] = _next(answers)
@@ -289,7 +297,7 @@ def read_entries(read: Words, program: Program, said: Said, reading: whole.Readi
     candidates = _records(read.many("--records"))
     if read.has("--dictionary"):
         candidates += dictionary.candidates_of(read.many("--dictionary"), said, strict=True, reading=reading)
-    entries = program.accepted(candidates, said, unsaid="exists")
+    entries = program.accepted_entries(candidates, said)
     if not entries:
         raise Fatal("no entry is in the dictionary")
     return entries
@@ -370,8 +378,7 @@ def run(words: Sequence[str]) -> int:
     is_odd = is_odd or read.has("--store") and any(map(read.has, ("--dictionary", "--records", "--advisories", "--matches")))
     if read.files or is_odd or not all(any(map(read.has, options)) for options in one_of):
         raise Fatal(f"usage: {USAGE}")
-    program = Program()
-    with Progress() as progress:
+    with Staying(Program()) as program, Progress() as progress:
         said = Noting(before=progress.clear, most_alike=MOST_ALIKE)
         beside = Threats.of(read, said)
         gates = Gates.of(read, beside)

@@ -216,7 +216,7 @@ class Stored:
     def _entries(self, numbers: Iterable[int]) -> list[str]:
         """The entries and deprecations of these products. (What cpe refuses of them was said.)"""
         candidates = candidates_of(self._kept, rows_of_products(self._kept, numbers))
-        return self._program.accepted(candidates, Mute(), unsaid="exists")
+        return self._program.accepted_entries(candidates, Mute())
 
     def _products_of(self, asked: Iterable[Machine]) -> set[Product]:
         """The keys of the products of all names of the machines."""
