@@ -1,8 +1,8 @@
 """Reads all of a store again, and compares what is derived of it with that, as adding.py and settling.py put it.
 
 That is what is kept beside advisories, the products of the dictionary's names, where deprecations lead, which records of an id count, and
-what the pages say together. It doesn't see that a product, a list, a title or a time of the store is another one than was added, or that
-what was kept of matches that give items names isn't there: of these nothing else is kept.
+what the pages say together, and which products lists name; and of each page how many of its products, advisories and lists count, with a
+sum of them as they were added.
 """
 from __future__ import annotations
 
@@ -10,8 +10,8 @@ import json
 import zlib
 from collections.abc import Iterator
 
-from .adding import KINDS, NO_PRODUCT, Derived, in_form, marks_of, record_of, told_apart
-from .concern import Concern, plain_name
+from .adding import KINDS, NO_PRODUCT, Derived, Sums, in_form, marks_of, record_of, told_apart
+from .concern import Concern, plain_name, plain_product
 from .feeds import Json
 from .kept import Kept, page_and_number
 from .made import maker
@@ -32,7 +32,7 @@ def check(kept: Kept, program: Program, said: Said) -> int:
     numbers = {number: (vendor, product) for number, vendor, product in kept.rows("SELECT number, vendor, product FROM names")}
     pages = dict(kept.rows("SELECT number, records FROM pages"))
     count = 0
-    for place, wrong in (*_products(kept, numbers), *_advisories(kept, numbers), *_matches(kept)):
+    for place, wrong in (*_products(kept, numbers), *_advisories(kept, numbers), *_matches(kept, numbers)):
         page, number = page_and_number(place)
         count += 1
         if page not in pages or number >= pages[page]:
@@ -42,6 +42,7 @@ def check(kept: Kept, program: Program, said: Said) -> int:
     for place, wrong in (*_leads(kept, numbers), *_marks(kept)):
         page, number = page_and_number(place)
         said.left_out(f"record {number + 1} of page {page}", wrong)
+    _check_sums(kept, said)
     if not said.left:
         _check_together(kept, program, said)
     for product, place in kept.rows("SELECT product, place FROM concerns WHERE place NOT IN (SELECT place FROM advisories)"):
@@ -118,6 +119,20 @@ def _marks(kept: Kept) -> Iterator[tuple[int, str]]:
                 yield place, "its marks are those of one beside other records of its id"
 
 
+def _check_sums(kept: Kept, said: Said) -> None:
+    """Says of which pages a record isn't there any more, or isn't as it was added."""
+    sums = Sums()
+    for table, columns in (("products", "*"), ("advisories", "place, data"), ("matches", "place, key, modified, listed")):
+        for row in kept.each(f"SELECT {columns} FROM {table}"):
+            sums.put(*row)
+    found = {page: of_page for page, *of_page in sums.of()}
+    for number, name, count, total in kept.rows("SELECT number, name, coalesce(count, 0), coalesce(sum, 0) FROM pages LEFT JOIN sums ON page = number"):
+        there = found.get(number, [0, 0])
+        if there != [count, total]:
+            what = f"{there[0]:,} of {count:,} records that count are there" if there[0] != count else "a record isn't as it was added"
+            said.left_out(name, f"{what}; remove the store, and add the pages again")
+
+
 def _check_together(kept: Kept, program: Program, said: Said) -> None:
     for number, product, words in kept.rows("SELECT number, product, squeezed FROM names"):
         if squeezed(product) != words:
@@ -128,11 +143,17 @@ def _check_together(kept: Kept, program: Program, said: Said) -> None:
             said.left_out(CALLED[kind], "what is kept of their pages together is of other pages")
 
 
-def _matches(kept: Kept) -> Iterator[tuple[int, str]]:
-    for place, listed in kept.each("SELECT place, listed FROM matches"):
+def _matches(kept: Kept, numbers: dict[int, tuple[str, str]]) -> Iterator[tuple[int, str]]:
+    """The matches of which the list can't be read, or it isn't kept which products it lists."""
+    there: dict[str, set[int]] = {}
+    for product, key in kept.each("SELECT product, key FROM listing"):
+        there.setdefault(key, set()).add(product)
+    of_products = {product: number for number, product in numbers.items()}
+    for place, key, listed in kept.each("SELECT place, key, listed FROM matches"):
         try:
-            json.loads(listed)
-        except ValueError:
+            products = set(map(plain_product, json.loads(listed)))
+        except (ValueError, TypeError, AttributeError):
             yield place, "its list can't be read"
             continue
-        yield place, ""
+        wanted = {NO_PRODUCT if one is None else of_products.get(one) for one in products}
+        yield place, "" if wanted <= there.get(key, set()) else "it isn't kept which products it lists"

@@ -13,8 +13,8 @@
   left out, as it does with what could not be read, until a good one comes. Without pages it works out what a stopped one had not.
 - status: how much is in the store, when it was last added to, which pages of a feed are missing, which runs that add have not ended, and
   what could not be read.
-- check: reads all of it again, and compares what is derived of it with that. It doesn't see a product, a list, a title or a time that is
-  another one than was added, or that a product or a list isn't there any more: of these nothing else is kept.
+- check: reads all of it again, and compares what is derived of it with that, and the records of each page with a sum of those that were
+  added.
 - changes: what the scans from it found otherwise than those before, by their feeds and lists alone: lines as changes.sh writes them, each
   with the time of its scan before it; with --since those of that time and later ones. A scan with --all finds none.
 - forget: of files that could not be read, or not be added to their end, and won't come any more, no scan says so after this.

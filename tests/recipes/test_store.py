@@ -1,5 +1,6 @@
 """A store of feeds: a scan from it writes what a scan of all pages writes, whatever was added, killed, old or twice; and bad stores."""
 import io
+import itertools
 import json
 import os
 import shutil
@@ -180,9 +181,10 @@ class Stores(RecipeCase):
         super().setUp()
         self.store = str(self.folder / "store")
         self.machines = self.file("machines", f"m {HERE}\n")
+        self.pages = itertools.count()
 
     def add(self, *pages, status=0):
-        paths = [one if isinstance(one, str) else self.file(f"page-{len(os.listdir(self.folder))}.json", one) for one in pages]
+        paths = [one if isinstance(one, str) else self.file(f"page-{next(self.pages)}.json", one) for one in pages]
         found, written, said = ran(store.run, ["add", "--store", self.store, *paths])
         self.assertEqual(found, status, said)
         return written.strip(), said
@@ -384,6 +386,17 @@ class Stores(RecipeCase):
             self.assertIn("the feed has 40 advisories, 2 were given", self.scan_is_fatal())
         self.add(*(page("vulnerabilities", cve(n, match(HERE)), start=k, total=51) for k, n in enumerate(range(10, 61))))
         self.verdicts()
+
+    def test_a_gap_that_feeds_of_one_page_each_end(self):
+        self.filled()
+        self.add(page("vulnerabilities", cve(4, match(HERE)), cve(5, match(HERE)), total=4))
+        years = self.of_years()
+        # (those of one run have fewer, and those of the other one not all that was given)
+        for some in (years[:2], years[1:]):
+            self.add(*some)
+            self.assertIn("the feed has 4 advisories, 2 were given", self.scan_is_fatal())
+        self.add(*years)
+        self.assertEqual(set(self.verdicts()[0]), {"1", *map(str, range(4, 9))})
 
     def test_what_a_stopped_run_had_not_worked_out(self):
         with mock.patch("cpe_recipes.store.settle", side_effect=KeyboardInterrupt), self.assertRaises(KeyboardInterrupt):
@@ -746,6 +759,10 @@ class Stores(RecipeCase):
             "what it becomes": "UPDATE made SET data = x'00'", "its id": "UPDATE advisories SET id = 'CVE-2024-0009'", "an advisory that isn't there": "DELETE FROM advisories",
             "where it leads": "DELETE FROM leads", "that it counts": "UPDATE advisories SET is_passed = 1 WHERE id LIKE '%2'",
             "that another one isn't later": "UPDATE advisories SET is_doubled = 1", "its words": "UPDATE names SET squeezed = 'other'",
+            "a product that isn't there": f"DELETE FROM products WHERE name = '{ELSEWHERE}'", "a title": "UPDATE products SET title = 'other'",
+            "when a product was modified": "UPDATE products SET modified = 'null'", "a list": "UPDATE matches SET listed = '[]'",
+            "a list that isn't there": "DELETE FROM matches", "which products it lists": "DELETE FROM listing",
+            "an advisory that isn't analysed": "DELETE FROM advisories WHERE id LIKE '%3'", "what it has beside": "INSERT INTO beside SELECT 1, min(place) FROM advisories",
             "what is missing": "UPDATE told SET text = '{\"remark\":\"other\"}'", "how many its feed has": "UPDATE pages SET total = 99",
         }
         for what, edit in edits.items():
@@ -753,7 +770,8 @@ class Stores(RecipeCase):
                 shutil.rmtree(self.store, ignore_errors=True)
                 self.filled()
                 old = product(fs("o", "p"), deprecated=True, deprecatedBy=[{"cpeName": HERE}])
-                self.add(page("products", old), page("vulnerabilities", cve(5, match(HERE)), total=2))
+                listed = {"matchString": {"matchCriteriaId": "K", "criteria": HERE, "lastModified": "2024-01-01T00:00:00.000", "matches": [{"cpeName": HERE}]}}
+                self.add(page("products", old), page("vulnerabilities", cve(5, match(HERE)), total=2), page("matchStrings", listed))
                 self.assertEqual(ran(store.run, ["check", "--store", self.store])[0], 0)
                 with sqlite3.connect(Path(self.store) / FILE) as connection:
                     connection.execute(edit)
