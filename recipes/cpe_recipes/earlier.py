@@ -86,6 +86,8 @@ class Earlier:
     successors: dict[Product, list[Product]] = field(default_factory=dict)
     machines: dict[str, Then] = field(default_factory=dict)
     changes: list[Sequence[str]] = field(default_factory=list)
+    # (the ids of the advisories that had a verdict)
+    advisories: Sequence[str] = ()
     # (if two advisories have other ranges under the same id of a match, what each becomes depends on both)
     is_whole: bool = True
 
@@ -165,7 +167,7 @@ def _called(fleet: Earlier) -> str:
 
 
 def _write(path: Path, fleet: Earlier) -> None:
-    with open(path, "wb") as file, gzip.GzipFile(fileobj=file, mode="wb", compresslevel=1, mtime=0) as packed:
+    with open(path, "wb") as file, gzip.GzipFile("", "wb", compresslevel=1, fileobj=file, mtime=0) as packed:
         count = 0
         for count, line in enumerate(_lines(fleet), 1):
             packed.write(f"{json.dumps(line, separators=(',', ':'))}\n".encode())
@@ -177,6 +179,7 @@ def _lines(fleet: Earlier) -> Iterator[Json]:
     head = {"version": _VERSION, "checksum": rests.checksum, "last": rests.last, "pages": rests.pages, "time": fleet.time}
     yield {**head, "isWhole": fleet.is_whole, "machines": list(fleet.machines)}
     yield fleet.changes
+    yield list(fleet.advisories)
     yield list(leads.refused.items())
     yield [[*product, *others] for product, others in fleet.successors.items()]
     yield [[name, one.name, one.is_entry, one.ends, one.steps] for name, one in leads.found.items()]
@@ -224,13 +227,13 @@ def _read(path: Path) -> Earlier | None:
 
 
 def _fleet_of(lines: Sequence[Json]) -> Earlier:
-    head, changes, refused, successors, leads, called, *machines = lines
+    head, changes, advisories, refused, successors, leads, called, *machines = lines
     found = {name: Lead(written, is_entry, tuple(ends), tuple(steps)) for name, written, is_entry, ends, steps in leads}
     keys = [tuple(key) for key, _ in called]
     products = {(vendor, name): list(map(tuple, others)) for vendor, name, *others in successors}
     fleet = Earlier(Rests(head["checksum"], head["last"], head["pages"]), head["time"], Leads(found, dict(refused)), is_whole=head["isWhole"])
     fleet.called = {key: tuple(map(_called_of, rows)) for key, (_, rows) in zip(keys, called)}
-    fleet.successors, fleet.changes = products, changes
+    fleet.successors, fleet.changes, fleet.advisories = products, changes, advisories
     for name, places, parts, has_items, rows in machines:
         fleet.machines[name] = Then([keys[place] for place in places], parts, [Row(*row) for row in rows], has_items)
     return fleet

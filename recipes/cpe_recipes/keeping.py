@@ -46,7 +46,7 @@ class Keeping:
 
     def fleet(self, decided: Decided, machines: Sequence[verdicts.Machine], after: Verdicts) -> Earlier:
         """What is kept of a scan, with what changed since the one before. The machines aren't settled yet."""
-        fleet = Earlier(self._rests, now(), is_whole=decided.is_whole)
+        fleet = Earlier(self._rests, now(), is_whole=decided.is_whole, advisories=list(decided.known.ids.advisories))
         asked = {name for one in decided.found for name in one.machine.asked_names()}
         fleet.leads.refused = {name: why for name, why in decided.leads.refused.items() if name in asked}
         fleet.leads.found = {name: lead for name, lead in decided.leads.found.items() if name in asked}
@@ -63,7 +63,7 @@ class Keeping:
 
     def _is_same(self, fleet: Earlier) -> bool:
         before = self.earlier.machines if self.earlier is not None else {}
-        return 2 * len(before.keys() & fleet.machines.keys()) >= len(before)
+        return 2 * len(before.keys() & fleet.machines.keys()) > len(before)
 
     def _then(self, one: Found, machine: verdicts.Machine, decided: Decided, called: dict[Key, tuple[Called, ...]]) -> Then:
         leads = leads_of_machine(decided.leads, one.machine)
@@ -79,7 +79,8 @@ class Keeping:
             return []
         is_same = self._is_same(fleet)
         found = [one for one in earlier.changes if is_same or one[1] in fleet.machines]
-        olds = {name: _machine(name, then) for name, then in earlier.machines.items() if is_same or name in fleet.machines}
+        asked = verdicts.Statements.of_advisories(earlier.advisories)
+        olds = {name: _machine(name, then, asked) for name, then in earlier.machines.items() if is_same or name in fleet.machines}
         news = {machine.name or "": machine for machine in after.machines}
         for name in {**olds, **news}:
             before = Verdicts([olds[name]] if name in olds else [])
@@ -88,9 +89,9 @@ class Keeping:
         return found[-MOST_CHANGES:]
 
 
-def _machine(name: str, then: Then) -> verdicts.Machine:
+def _machine(name: str, then: Then, asked: verdicts.Statements) -> verdicts.Machine:
     shown = {row.id: row.truth for row in then.rows if row.truth != "FALSE"}
-    return verdicts.Machine(name, shown=shown, has_items=then.has_items)
+    return verdicts.Machine(name, asked if then.has_items else verdicts.Statements([]), shown, then.has_items)
 
 
 def _rows(one: Found, machine: verdicts.Machine, decided: Decided) -> Iterator[Row]:

@@ -2,21 +2,27 @@
 
 DIFFERENCE_SEQUENCES is how many sequences are drawn (50 if it isn't set), and DIFFERENCE_FIRST the first one of them.
 """
+import gzip
+import itertools
 import json
 import os
 import signal
+import subprocess
 import tempfile
 import unittest
 from pathlib import Path
 from unittest import mock
 
 from drawn_feeds import PRODUCTS, VENDORS, Feeds
-from recipe_case import needs_cpe
-from test_store import killed, ran
+from recipe_case import RecipeCase, fs, needs_cpe
+from test_portions import match
+from test_store import cve, killed, page, product, ran
 
 from cpe_recipes import scan, store
 from cpe_recipes.difference import Difference
 from cpe_recipes.earlier import Fleets
+from cpe_recipes.kept import FILE
+from cpe_recipes.said import Fatal
 
 SEQUENCES = int(os.environ.get("DIFFERENCE_SEQUENCES", "50"))
 FIRST = int(os.environ.get("DIFFERENCE_FIRST", "0"))
@@ -183,7 +189,7 @@ class Sequences(unittest.TestCase):
             with tempfile.TemporaryDirectory() as folder, self.subTest(seed):
                 sequence = Sequence(seed, folder)
                 form = FORMS[seed % len(FORMS)]
-                for _ in range(4):
+                for _ in range(3):
                     (found, kept), (wanted, fresh) = sequence.scanned(form)
                     self.assertEqual(found, wanted)
                     self.assertEqual(rows_of(kept), rows_of(fresh))
@@ -192,6 +198,155 @@ class Sequences(unittest.TestCase):
         print(f"{kills} kills, {scans} scans, {taken} verdicts taken")
         self.assertGreater(kills, SEQUENCES // 4)
         self.assertGreater(taken, SEQUENCES)
+
+
+HERE, OTHER = fs("v", "p", "1.0"), fs("w", "q", "1.0")
+
+
+@needs_cpe
+class Daily(RecipeCase):
+    def setUp(self):
+        super().setUp()
+        self.store, self.pages = str(self.folder / "store"), itertools.count()
+        self.machines = self.file("machines", f"m {HERE}\nn {OTHER}\n")
+        self.add(page("products", product(HERE), product(OTHER)), page("vulnerabilities", cve(1, match(HERE)), cve(2, match(OTHER)), cve(3)))
+
+    def add(self, *pages):
+        paths = [self.file(f"page-{next(self.pages)}.json", one) for one in pages]
+        self.assertEqual(ran(store.run, ["add", "--store", self.store, *paths])[0], 0)
+
+    def scan(self, *words, status=0):
+        """The verdicts that a scan writes, what it says, and how many statements it decided again; None if it decided all."""
+        asked, prepared = [], Difference.prepared
+
+        def noted(difference, ids):
+            found = prepared(difference, ids)
+            asked.append(found and [one.id for one in found.found.known.statements])
+            return found
+
+        with mock.patch.object(Difference, "prepared", noted):
+            found, written, said = ran(scan.run, ["--json", "--store", self.store, "--machines", self.machines, *words])
+        self.assertEqual(found, status, said)
+        rows = [(of["name"], one["id"][-1], one["verdict"]) for of in json.loads(written)["machines"] for one in of.get("verdicts", ())]
+        return rows, said, asked[0] if asked else None
+
+    def fleets(self):
+        return sorted((Path(self.store) / "verdicts").iterdir())
+
+    def test_what_has_not_changed_is_not_decided_again(self):
+        first, said, asked = self.scan()
+        self.assertEqual((first, asked), ([("m", "1", "TRUE"), ("n", "2", "TRUE")], None))
+        self.assertEqual(self.scan(), (first, said, []))
+        self.add(page("vulnerabilities", cve(4, match(OTHER))))
+        self.assertEqual(self.scan()[::2], ([*first, ("n", "4", "TRUE")], ["CVE-2024-0004"]))
+        self.file("machines", f"m {OTHER}\nn {OTHER}\n")
+        wanted = [(machine, id, "TRUE") for machine in "mn" for id in "24"]
+        self.assertEqual(self.scan()[::2], (wanted, ["CVE-2024-0001", "CVE-2024-0002", "CVE-2024-0004"]))
+
+    def test_other_options_recipes_and_programs_rest_on_something_else(self):
+        first, said, _ = self.scan()
+        for words in (["--strict"], ["--why"], ["--hardware", "none"], ["--letters", self.file("letters", "v:p\n")], ["--fresh"], ["--all"]):
+            self.assertEqual(self.scan(*words)[2], None, words)
+        with mock.patch("cpe_recipes.earlier.maker", lambda: "other recipes"):
+            self.assertEqual(self.scan(), (first, said, None))
+        with mock.patch("cpe_recipes.earlier.shutil.which", lambda _: __file__):
+            self.assertEqual(self.scan(), (first, said, None))
+        self.assertEqual(self.scan(), (first, said, []))
+        # (what isn't known to scans before changes none)
+        self.assertEqual(self.scan("--settled", self.file("settled", ""), "--partial", "--large")[2], [])
+
+    def test_files_that_can_not_be_read(self):
+        first = self.scan()[:2]
+        (path,) = self.fleets()
+        data = path.read_bytes()
+        changed = gzip.compress(gzip.decompress(data).replace(b'"version":1', b'"version":9'))
+        cut = gzip.compress(b"\n".join(gzip.decompress(data).splitlines()[:-2]))
+        for place, bad in enumerate((b"", data[:-9], data[: len(data) // 2], b"x" * 99, changed, cut, gzip.compress(b"[]\n0\n"), data[:-20] + b"y" + data[-19:])):
+            path.write_bytes(bad)
+            self.assertEqual(self.scan(), (*first, None), place)
+            self.assertEqual(self.scan(), (*first, []))
+
+    def test_another_store_in_the_same_folder(self):
+        self.scan()
+        (Path(self.store) / FILE).unlink()
+        self.add(page("products", product(HERE), product(OTHER)), page("vulnerabilities", cve(1, match(OTHER)), cve(2, match(HERE)), cve(3)))
+        self.assertEqual(self.scan()[::2], ([("m", "2", "TRUE"), ("n", "1", "TRUE")], None))
+
+    def test_what_can_not_be_kept(self):
+        with mock.patch("cpe_recipes.earlier.os.replace", side_effect=OSError(28, "No space left on device")):
+            rows, said, _ = self.scan()
+        self.assertEqual(rows, [("m", "1", "TRUE"), ("n", "2", "TRUE")])
+        self.assertIn("the verdicts could not be kept (No space left on device), so the next scan decides all of them", said[-1])
+        self.assertEqual(self.fleets(), [])
+        self.assertEqual(self.scan()[2], None)
+
+    def test_fleets_are_known_by_their_machines(self):
+        both = self.scan()[:2]
+        one, other = self.file("one", f"m {HERE}\n"), self.file("other", f"x {HERE}\n")
+        for path in (one, other):
+            self.assertEqual(len(self.scan("--machines", path)[0]), 1)
+        self.assertEqual(len(self.fleets()), 3)
+        self.add(page("vulnerabilities", cve(4, match(HERE))))
+        self.assertEqual([self.scan("--machines", path)[2] for path in (one, other)], [["CVE-2024-0004"]] * 2)
+        self.assertEqual(self.scan()[::2], ([*both[0][:1], ("m", "4", "TRUE"), both[0][1]], ["CVE-2024-0004"]))
+        # (a machine more, and it is the same fleet)
+        self.file("machines", f"m {HERE}\nn {OTHER}\no {OTHER}\n")
+        self.scan()
+        self.assertEqual(len(self.fleets()), 3)
+
+    def changes(self, *words, status=0):
+        found, written, said = ran(store.run, ["changes", "--store", self.store, *words])
+        self.assertEqual(found, status, said)
+        return [line.split(" ", 1) for line in written.splitlines()]
+
+    def test_what_changed_from_scan_to_scan(self):
+        self.file("machines", f"m {HERE}\nn {OTHER}\np {OTHER}\n")
+        days = [f"2024-01-0{day}T00:00:00+00:00" for day in range(1, 8)]
+        for day, change in enumerate([
+            lambda: None,
+            lambda: self.add(page("vulnerabilities", cve(4, match(HERE)))),
+            lambda: self.add(page("vulnerabilities", cve(1, modified="2024-02-01T00:00:00.000", status="Undergoing Analysis"))),
+            lambda: self.file("machines", f"m {OTHER}\nn {OTHER}\np {OTHER}\n"),
+            lambda: self.file("machines", f"n {OTHER}\no {HERE}\np {OTHER}\n"),
+        ]):
+            change()
+            with mock.patch("cpe_recipes.keeping.now", lambda: days[day]):
+                self.scan()
+        wanted = [
+            [days[1], "new m CVE-2024-0004 none TRUE"],
+            [days[2], "gone m CVE-2024-0001 TRUE none not analysed: Undergoing Analysis"],
+            [days[3], "gone m CVE-2024-0004 TRUE FALSE"],
+            [days[3], "new m CVE-2024-0002 FALSE TRUE"],
+            [days[4], "gone m CVE-2024-0002 TRUE none it is no machine any more"],
+            [days[4], "new o CVE-2024-0004 none TRUE"],
+        ]
+        self.assertEqual(self.changes(), wanted)
+        self.assertEqual(self.changes("--since", "2024-01-04"), wanted[2:])
+        self.assertIn("is soon, and a time is expected", self.fatal("changes", "--store", self.store, "--since", "soon"))
+        self.assertIn("no store is there", self.fatal("changes", "--store", str(self.folder / "none")))
+
+    def fatal(self, *words):
+        with self.assertRaises(Fatal) as found:
+            ran(store.run, words)
+        return str(found.exception)
+
+    def test_a_scan_takes_three_processes_of_the_program(self):
+        lines = "".join(f"m{number} {HERE} {fs('v', 'p', '*')} {fs('w', 'q', f'1.{number}')}\n" for number in range(12))
+        self.file("machines", lines)
+        old = product(fs("o", "p"), deprecated=True, deprecatedBy=[{"cpeName": HERE}])
+        self.add(page("products", old), page("vulnerabilities", *(cve(n, ranged(fs("w", "q"))) for n in range(5, 9))))
+        dictionary = self.file("dictionary", page("products", product(HERE), product(OTHER), old))
+        advisories = self.file("advisories", page("vulnerabilities", *(cve(n, ranged(fs("w", "q")), match(HERE)) for n in range(5, 9))))
+        of_store, of_feeds = ["--store", self.store], ["--dictionary", dictionary, "--advisories", advisories]
+        for words in ([*of_store, "--fresh", "--why"], [*of_store, "--why"], of_store, [*of_feeds, "--why"]):
+            with mock.patch("cpe_recipes.program.subprocess.Popen", wraps=subprocess.Popen) as started:
+                self.assertEqual(ran(scan.run, ["--json", "--machines", self.machines, *words])[0], 0)
+            self.assertLessEqual(started.call_count, 3)
+
+
+def ranged(name):
+    """A match of a range."""
+    return match(name) | {"matchCriteriaId": "K", "versionEndIncluding": "1.5"}
 
 
 if __name__ == "__main__":
