@@ -516,6 +516,10 @@ def led(lead: Lead) -> list[Called]:
 
 def leads_in(leads: Leads, component: Component) -> list[Lead]:
     """Where the names of a component lead, each once, however it is spelled: those that it has, and then those that it perhaps has."""
+    if component.is_name_alone() and not component.supposed:
+        # (most have one name, and nothing else is known of them)
+        lead = leads.found.get(component.names[0])
+        return [] if lead is None else [lead]
     found = {lead.name: lead for name in component.names if (lead := leads.found.get(name))}
     kind = component.kind
     sure = [replace(lead, kind=kind) if kind else lead for lead in found.values()]

@@ -166,7 +166,7 @@ class _Taken:
         others = [one for one in part.found.candidates if one.record not in part.asked]
         records = [*part.asked, *of.program.accepted_statements(others, Mute())]
         self._statements = Known([], records, part.found.ranges, {}, part.found.stand_ins, made=part.asked)
-        entries = of.store.entries(part, self._statements)
+        entries = self._entries = of.store.entries(part, self._statements)
         old = unlisted.deprecated_names(entries)
         facts = self._statements.facts()
         items = [name for name in of.bare.found if name not in of.known]
@@ -215,7 +215,8 @@ class _Taken:
         made = part.ids_made() - left
         placed = of.store.placed()
         elsewhere = {placed[id] for id in left}
-        found = of.store.known(replace(part, places=[place for place in part.places if place not in elsewhere]), chosen)
+        here = replace(part, places=[place for place in part.places if place not in elsewhere])
+        found = of.store.known(here, chosen, self._entries)
         rows = {machine.name: self._rows(machine, placed, made) for machine in of.asked}
         shown = {row.place for of_machine in rows.values() for row in of_machine} | {placed[id] for id in ids if id in placed}
         found.known.details.update(of.store.details(shown))

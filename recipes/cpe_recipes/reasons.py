@@ -64,9 +64,10 @@ class Reasons:
     def _facts(self, one: Found) -> dict[int, list[tuple[str, bool]]]:
         """The facts of the statements that hang on what items may be, but those of ranges that are outside."""
         found: dict[int, list[tuple[str, bool]]] = {}
-        if not any(names.is_known_in_part(it.name) for it in one.called):
+        places = sorted({*one.places_of("UNKNOWN"), *one.less})
+        if not places or not any(names.is_known_in_part(it.name) for it in one.called):
             return found
-        for place in sorted({*one.places_of("UNKNOWN"), *one.less}):
+        for place in places:
             facts = list(self._facts_of(one, place))
             if facts:
                 found[place] = facts

@@ -152,8 +152,9 @@ class Stored:
                 return Part(places, found, asked, states, wanted, beside, len(some) < len(made))
         raise AssertionError("nothing was made before")
 
-    def known(self, part: Part, candidates: Iterable[Candidate]) -> Found:
-        """What is asked of these candidates of advisories that were read; the others are elsewhere."""
+    def known(self, part: Part, candidates: Iterable[Candidate], entries: Sequence[str] | None = None) -> Found:
+        """What is asked of these candidates of advisories that were read; the others are elsewhere. The entries are read, unless they are
+        given."""
         found, states = part.found, part.states
         records = self._program.accepted_statements(candidates, self._said)
         order, elsewhere = self._in_order(part.places)
@@ -161,7 +162,7 @@ class Stored:
             none = f"; not analysed: {len(states.unanalysed):,}" if states.unanalysed else ""
             raise Fatal(f"{self._kept.folder}: no advisory that can have a verdict is in the store{none}")
         known = Known([], records, found.ranges, found.details, found.stand_ins, elsewhere, order, part.asked, part.beside)
-        known.entries += self.entries(part, known)
+        known.entries += self.entries(part, known) if entries is None else entries
         made = part.ids_made()
         placed = {id: place for id, place in self.placed().items() if id in made}
         return Found(known, states, placed, not part.is_raw and not self.has_differing(found.stand_ins))
