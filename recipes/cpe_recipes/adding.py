@@ -388,12 +388,29 @@ class _LatestProducts:
         return len(new)
 
 
+class _New:
+    """Rows that are to be put, so that many are put at once."""
+
+    def __init__(self) -> None:
+        self._rows: dict[str, list[Sequence[object]]] = {}
+
+    def put(self, query: str, rows: Iterable[Sequence[object]]) -> None:
+        self._rows.setdefault(query, []).extend(rows)
+
+    def write(self, kept: Kept) -> None:
+        for query, rows in self._rows.items():
+            kept.put(query, rows)
+        self._rows.clear()
+
+
 class _LatestAdvisories:
     """The advisories of a page that count, in place of those that are older (as latest.py has it)."""
 
     def __init__(self, kept: Kept, sums: Sums, page_number: int, is_of_records: bool, number_of: Callable[[Key], int]) -> None:
         self._kept, self._sums, self._page_number, self._is_of_records, self._number_of = kept, sums, page_number, is_of_records, number_of
         self._changed = 0
+        # (most have an id that comes once, and are put at the end of the page)
+        self._new, self._new_ids = _New(), set[str]()
 
     def put(self, place: int, record: Json) -> None:
         form = in_form(record, self._is_of_records)
@@ -401,6 +418,8 @@ class _LatestAdvisories:
         if id is None:
             self._insert(place, None, modified, record)
             return
+        if id in self._new_ids:
+            self._write()
         there = self._kept.rows("SELECT place, modified, data, is_of_records FROM advisories WHERE id = ?", (id,))
         known = [row[:3] for row in there if bool(row[3]) == self._is_of_records]
         if known:
@@ -412,7 +431,15 @@ class _LatestAdvisories:
         for _, _, data, is_of_records in there:
             self._note_gone(in_form(self._kept.read(record_of, data), is_of_records))
         self._insert(place, id, modified, record)
-        _mark(self._kept, id)
+        if there:
+            self._write()
+            _mark(self._kept, id)
+        else:
+            self._new_ids.add(id)
+
+    def _write(self) -> None:
+        self._new.write(self._kept)
+        self._new_ids.clear()
 
     def _form_of(self, data: bytes) -> Json:
         return in_form(self._kept.read(record_of, data), self._is_of_records)
@@ -426,8 +453,8 @@ class _LatestAdvisories:
         data = zlib.compress(json.dumps(record, ensure_ascii=False, separators=(",", ":")).encode(errors="surrogatepass"), 1)
         derived = Derived.of(in_form(record, self._is_of_records))
         row = (place, id, self._is_of_records, modified, *derived.columns(), False, False, data)
-        self._kept.put("INSERT INTO advisories VALUES (?, ?, ?, ?, ?, ?, ?, ?, ?, ?, ?)", [row])
-        derived.put(self._kept, place, self._number_of)
+        self._new.put("INSERT INTO advisories VALUES (?, ?, ?, ?, ?, ?, ?, ?, ?, ?, ?)", [row])
+        derived.put(self._new, place, self._number_of)
         self._sums.put(place, data)
         self._changed += 1
 
@@ -446,6 +473,8 @@ class _LatestAdvisories:
                 self._kept.put(f"DELETE FROM {table} WHERE place = ?", [(place,)])
 
     def end(self) -> int:
+        """Writes them, and returns how many are new."""
+        self._write()
         return self._changed
 
 
@@ -510,7 +539,7 @@ class Derived:
         is_odd = self.state is None and self.concern is None
         return self.has_names, self.state, is_odd, self.concern is not None and self.concern.is_of_systems()
 
-    def put(self, kept: Kept, place: int, number_of: Callable[[Key], int]) -> None:
+    def put(self, kept: Kept | _New, place: int, number_of: Callable[[Key], int]) -> None:
         """Puts its products and its matches that have bounds, and what it becomes."""
         kept.put("INSERT INTO ranged VALUES (?, ?, ?, ?)", [(key, place, number_of(product), number) for key, product, number in self.ranges])
         if self.concern is not None:

@@ -11,7 +11,6 @@ concerns the products of all. If something is negated beside such a name, no pro
 from __future__ import annotations
 
 import hashlib
-import json
 import re
 from collections.abc import Collection, Iterator
 from dataclasses import dataclass
@@ -127,8 +126,8 @@ def ranges_of(record: Json) -> frozenset[tuple[str, Product, int]]:
     for match in _all_matches(record):
         key, criteria = match.get("matchCriteriaId"), match.get("criteria")
         if _is_key(key) and isinstance(criteria, str) and any(match.get(name) is not None for name in BOUNDS):
-            text = json.dumps([criteria, *(match.get(name) for name in BOUNDS)])
-            number = int.from_bytes(hashlib.blake2b(text.encode(), digest_size=8).digest(), "little", signed=True)
+            text = repr([criteria, *map(match.get, BOUNDS)]).encode(errors="surrogatepass")
+            number = int.from_bytes(hashlib.blake2b(text, digest_size=8).digest(), "little", signed=True)
             found.add((key, open_product(criteria), number))
     return frozenset(found)
 

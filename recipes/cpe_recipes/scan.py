@@ -378,7 +378,7 @@ def run(words: Sequence[str]) -> int:
     is_odd = is_odd or read.has("--store") and any(map(read.has, ("--dictionary", "--records", "--advisories", "--matches")))
     if read.files or is_odd or not all(any(map(read.has, options)) for options in one_of):
         raise Fatal(f"usage: {USAGE}")
-    with Staying(Program()) as program, Progress() as progress:
+    with Staying() as program, Progress() as progress:
         said = Noting(before=progress.clear, most_alike=MOST_ALIKE)
         beside = Threats.of(read, said)
         gates = Gates.of(read, beside)

@@ -1,7 +1,8 @@
 """A run of `cpe resolve` that stays while a scan asks, so that entries are fed once, and each question is asked of the same run.
 
-Whoever asks leaves its rows as they were, except for entries: these stay, and no other answer depends on them. If entries are very many,
-another run has the statements and items, so that together they don't weigh more than cpe takes.
+Whoever asks leaves its rows as they were, except for entries: these stay, and no other answer depends on them. Where a name leads comes in
+the order of the entries, so if others are wanted, a new run begins with these. If entries are very many, another run has the statements
+and items, so that together they don't weigh more than cpe takes.
 """
 from __future__ import annotations
 
@@ -14,8 +15,8 @@ import uuid
 from collections.abc import Iterable, Iterator, Sequence
 
 from .portions import MOST
-from .program import Candidate, Program, _id_of, _pipe, pieces
-from .said import Fatal, Said, why
+from .program import _MOST_ANSWER, _SECONDS, Candidate, Program, _id_of, _pipe, pieces
+from .said import Fatal, why
 
 # So many bytes of entries, and as many as a portion has, are far from the weight that cpe takes.
 _MOST_BYTES = 2 * MOST.bytes
@@ -36,11 +37,21 @@ class Run:
         self._fault: BaseException | None = None
         threading.Thread(target=self._write, daemon=True).start()
 
+    def is_of_cpe(self) -> bool:
+        """Whether it answers as cpe does. (What never ends, or writes for ever, is no cpe either.)"""
+        alarm = threading.Timer(_SECONDS, self._run.kill)
+        alarm.start()
+        id = uuid.uuid4().hex
+        self._waiting.put(self._counted((), _barrier(id)))
+        line = self._output.readline(_MOST_ANSWER)
+        alarm.cancel()
+        return line == _end_of(id)
+
     def lines(self, records: Iterable[str]) -> Iterator[str]:
         """What it writes over these lines. Fatal if it ends before, or refuses a line that it wasn't given."""
         id, before = uuid.uuid4().hex, self._last
-        end = f"verdict {id} absent\n".encode()
-        self._waiting.put(self._counted(records, f'{{"do":"verdict","id":"{id}"}}'))
+        end = _end_of(id)
+        self._waiting.put(self._counted(records, _barrier(id)))
         while (line := self._output.readline()) != end:
             if not line.endswith(b"\n"):
                 self._end_early()
@@ -94,21 +105,45 @@ class Run:
             self._input.close()
 
 
+def _barrier(id: str) -> str:
+    return f'{{"do":"verdict","id":"{id}"}}'
+
+
+def _end_of(id: str) -> bytes:
+    """The answer about an id that nobody has put."""
+    return f"verdict {id} absent\n".encode()
+
+
 class Staying(Program):
     """The program, with a run of `resolve` that stays. Under other words it is run anew."""
 
-    def __init__(self, program: Program) -> None:
-        super().__init__(program.path, is_tried=False)
+    def __init__(self, path: str | None = None) -> None:
+        super().__init__(path, is_tried=False)
         self._runs: list[Run] = []
+        # (the entries of the run, and the reasons why others that were fed with them are refused, by their places)
         self._entries: dict[str, None] = {}
+        self._fed: list[str] = []
+        self._reasons: dict[int, str] = {}
         self._bytes = 0
+        # (entries of which it is known that they were fed)
+        self._known: Sequence[str] = ()
 
     def __enter__(self) -> Staying:
+        """Begins the run. Fatal where it is none of cpe."""
+        if not self._of_entries().is_of_cpe():
+            self.end()
+            self._try()
+            raise Fatal(f"{self.path} isn't cpe: it doesn't answer resolve")
         return self
 
     def __exit__(self, *_: object) -> None:
+        self.end()
+
+    def end(self) -> None:
+        """Ends the runs."""
         for run in self._runs:
             run.end()
+        self._runs.clear()
 
     def _of_entries(self) -> Run:
         if not self._runs:
@@ -116,50 +151,46 @@ class Staying(Program):
         return self._runs[0]
 
     def _of_others(self) -> Run:
-        first = self._of_entries()
-        if self._bytes > _MOST_BYTES and len(self._runs) == 1:
+        run = self._of_entries()
+        if self._bytes <= _MOST_BYTES:
+            return run
+        if len(self._runs) == 1:
             self._runs.append(Run(self.path))
-        return self._runs[-1] if self._bytes > _MOST_BYTES else first
+        return self._runs[1]
 
     def lines(self, words: Sequence[str], records: Iterable[str]) -> Iterator[str]:
         return self._of_others().lines(records) if list(words) == ["resolve"] else super().lines(words, records)
 
     def over(self, entries: Sequence[str], questions: Iterable[str]) -> Iterator[str]:
-        self._feed(entries)
+        if entries is not self._known and not all(one in self._entries for one in entries):
+            self._feed(list(entries))
+        self._known = entries
         return self._of_entries().lines(questions)
 
-    def _feed(self, records: Iterable[str]) -> dict[int, str]:
-        """Feeds entries and what leads them on, if they weren't, and returns why some are refused, by their places."""
-        new = {place: record for place, record in enumerate(records) if record not in self._entries}
-        if not new:
-            return {}
-        places, reasons = list(new), {}
-        for line in self._of_entries().lines(new.values()):
+    def _feed(self, records: list[str]) -> None:
+        """Feeds entries and what leads them on, to a run that has no others."""
+        if self._fed:
+            self.end()
+        self._entries, self._fed, self._reasons = {}, records, {}
+        for line in self._of_entries().lines(records):
             if line.startswith("refused "):
                 _, number, reason = line.split(" ", 2)
-                reasons[places[int(number) - 1]] = reason
-        for place, record in new.items():
-            if place not in reasons:
-                self._entries[record] = None
-                self._bytes += len(record)
-        return reasons
+                self._reasons[int(number)] = reason
+        self._entries = {record: None for number, record in enumerate(records, 1) if number not in self._reasons}
+        self._bytes, self._known = sum(map(len, self._entries)), ()
 
     def refused(self, kept: Sequence[Candidate], are_entries: bool) -> dict[int, str]:
         if are_entries:
-            return self._refused_entries(kept)
+            records = [one.record for one in kept]
+            if records != self._fed:
+                self._feed(records)
+            return self._reasons
         reasons = super().refused(kept, are_entries)
         taken = (_id_of(one.record) for number, one in enumerate(kept, 1) if one.record and number not in reasons)
         # (the statements are tried alone, so they go again)
         for line in self.lines(["resolve"], (f'{{"do":"drop-statement","id":{id}}}' for id in taken)):
             raise Fatal(f"{self.path} resolve wrote {line}")
         return reasons
-
-    def _refused_entries(self, kept: Sequence[Candidate]) -> dict[int, str]:
-        """Why entries are refused. One that comes twice among these is there already; one that was fed before isn't."""
-        first: dict[str, int] = {}
-        twice = {number: "exists" for number, one in enumerate(kept, 1) if one.record and first.setdefault(one.record, number) != number}
-        reasons = self._feed("" if number in twice else one.record for number, one in enumerate(kept, 1))
-        return {place + 1: reason for place, reason in reasons.items()} | twice
 
 
 def dropping(statements: Iterable[str]) -> Iterator[str]:
