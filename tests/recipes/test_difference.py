@@ -13,7 +13,7 @@ import unittest
 from pathlib import Path
 from unittest import mock
 
-from drawn_feeds import PRODUCTS, VENDORS, Feeds
+from drawn_feeds import ODD_NAMES, PRODUCTS, VENDORS, Feeds
 from recipe_case import RecipeCase, fs, needs_cpe
 from test_portions import match
 from test_store import cve, killed, page, product, ran
@@ -30,18 +30,21 @@ FORMS = ([], ["--why"], ["--strict", "--hardware", "none"], ["--platform", "cpe:
 
 
 class Plain(Feeds):
-    """Feeds with few odd records, whose names say of versions, updates and more what others say otherwise."""
+    """Feeds of more products, with few odd records and few deprecations, so that what changes doesn't touch all of them; names say of
+    versions, updates and more what others say otherwise."""
 
     def name(self, version=None, part="a"):
-        version = version or self.draw.choice(["1.0", "1.0", "1.0.0", "1.1", "2.0", "2.1", "3.0b", "1.*", "1.0.*" if self.is_one_of(3) else "2.0"])
-        rest = self.draw.choice(["*:*:*:*:*"] * 4 + ["*:*:*:wordpress:*", "*:en:*:*:*", "*:*:pro:*:*"])
-        update = self.draw.choice(["*"] * 5 + ["sp1"])
-        return f"cpe:2.3:{part}:{self.draw.choice(VENDORS)}:{self.draw.choice(PRODUCTS)}:{version}:{update}:{rest}:*"
+        if version is None:
+            version = "1.*" if self.is_one_of(60) else self.draw.choice(["1.0", "1.0", "1.0.0", "1.1", "2.0", "2.1", "3.0b"])
+        rest = self.draw.choice(["*:*:*:*:*"] * 6 + ["*:*:*:wordpress:*", "*:en:*:*:*", "*:*:pro:*:*"])
+        update = self.draw.choice(["*"] * 6 + ["sp1"])
+        vendor, product = self.draw.choice(VENDORS), self.draw.choice([*PRODUCTS, *"abcdefgh"])
+        return f"cpe:2.3:{part}:{vendor}:{product}:{version}:{update}:{rest}:*"
 
     def match(self, is_vulnerable=True, part="a"):
         while True:
             match = super().match(is_vulnerable, part)
-            if match["criteria"].startswith("cpe:2.3:") and "bad" not in match["criteria"]:
+            if match["criteria"] not in ODD_NAMES or self.is_one_of(8):
                 break
         # (of two advisories with one id of a match, each scan decides all)
         if not self.is_one_of(400):
@@ -51,6 +54,23 @@ class Plain(Feeds):
                 self.matches[key]["matchString"]["matchCriteriaId"] = key
             match["matchCriteriaId"] = key
         return match
+
+    def configuration(self):
+        found = super().configuration()
+        for one in (found, *found["nodes"]):
+            one["negate"] = one["negate"] and self.is_one_of(4)
+        return found
+
+    def _put_product(self, number):
+        super()._put_product(number)
+        if not self.is_one_of(4):
+            for key in ("deprecated", "deprecatedBy", "deprecates"):
+                self.products[number]["cpe"].pop(key, None)
+
+    def changed(self, folder):
+        pages = super().changed(folder)
+        # (mostly one kind has changed)
+        return pages if self.is_one_of(3) else {kind: pages[kind] for kind in self.draw.sample(sorted(pages), min(len(pages), 1))}
 
 
 class Fleet:
@@ -116,7 +136,7 @@ class Sequence:
     """A store, and a fleet that is scanned from it day by day."""
 
     def __init__(self, seed, folder):
-        self.folder, self.feeds = Path(folder), Plain(seed, advisories=40)
+        self.folder, self.feeds = Path(folder), Plain(seed, products=60, advisories=60)
         self.draw = self.feeds.draw
         self.fleet = Fleet(self.feeds, self.folder / "machines")
         self.store = str(self.folder / "store")
