@@ -2,6 +2,7 @@
 
 DIFFERENCE_SEQUENCES is how many sequences are drawn (50 if it isn't set), and DIFFERENCE_FIRST the first one of them.
 """
+import functools
 import gzip
 import itertools
 import json
@@ -18,7 +19,7 @@ from recipe_case import RecipeCase, fs, needs_cpe
 from test_portions import match
 from test_store import cve, killed, page, product, ran
 
-from cpe_recipes import scan, store
+from cpe_recipes import names_table, scan, store
 from cpe_recipes.difference import Difference
 from cpe_recipes.earlier import Fleets
 from cpe_recipes.kept import FILE
@@ -200,6 +201,8 @@ def rows_of(fleets):
 
 
 @needs_cpe
+# (which never changes, and takes as long as all else)
+@mock.patch("cpe_recipes.names_table.read_table", functools.cache(names_table.read_table))
 class Sequences(unittest.TestCase):
     maxDiff = 4_000
 

@@ -1,4 +1,5 @@
 """A store of feeds: a scan from it writes what a scan of all pages writes, whatever was added, killed, old or twice; and bad stores."""
+import functools
 import io
 import itertools
 import json
@@ -21,7 +22,7 @@ from test_portions import SMALL, advisory, limited, match
 
 from test_feeds import Heard
 
-from cpe_recipes import adding, cve5, feeds, fleet, made, scan, store, stored
+from cpe_recipes import adding, cve5, feeds, fleet, made, names_table, scan, store, stored
 from cpe_recipes.kept import FILE, VERSION, Kept
 from cpe_recipes.program import Program
 from cpe_recipes.said import Fatal
@@ -137,6 +138,8 @@ def of_verdicts(said):
 
 
 @needs_cpe
+# (which never changes, and takes as long as all else)
+@mock.patch("cpe_recipes.names_table.read_table", functools.cache(names_table.read_table))
 class Sequences(unittest.TestCase):
     def test_a_scan_from_a_store_writes_what_a_scan_of_all_pages_does(self):
         kills = 0
