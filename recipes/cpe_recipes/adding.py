@@ -14,15 +14,16 @@ import os
 import re
 import zlib
 from array import array
+from collections import Counter
 from collections.abc import Callable, Iterable, Iterator, Sequence
 from dataclasses import dataclass
 from datetime import date, datetime, timezone
 
 from . import cve5, matches, whole
-from .concern import Concern, Named, concern_of, named_of, plain_name
+from .concern import Concern, concern_of, plain_name, products_named, ranges_of
 from .dictionary import NO_FORM, Change, Product, product_id
 from .feeds import ADVISORIES, RECORDS, FormFault, Json, Page, Placed, member, record_text, text_at
-from .kept import Kept, place_of
+from .kept import Kept, page_and_number, place_of
 from .latest import time_of
 from .made import make, maker
 from .matches import key_of_name
@@ -42,6 +43,40 @@ _LONGEST = 10_000
 _DAY = re.compile(r"[0-9]{4}-[0-9]{2}-[0-9]{2}")
 
 
+class Sums:
+    """How many records of each page count, and the sums of numbers that stand for these, so that it is seen if one is lost or another."""
+
+    def __init__(self) -> None:
+        self._counts: Counter[int] = Counter()
+        self._sums: Counter[int] = Counter()
+
+    def put(self, *row: object, times: int = 1) -> None:
+        """Puts a record, of which the first is its place."""
+        page, _ = page_and_number(row[0])  # type: ignore[arg-type]
+        self._counts[page] += times
+        self._sums[page] += times * number_of_row(row)
+
+    def drop(self, *row: object) -> None:
+        self.put(*row, times=-1)
+
+    def of(self) -> Iterator[tuple[int, int, int]]:
+        """The pages with their counts and sums."""
+        return ((page, count, self._sums[page]) for page, count in sorted(self._counts.items()))
+
+    def write(self, kept: Kept) -> None:
+        """Writes what came and went."""
+        edit = "INSERT INTO sums VALUES (?, ?, ?) ON CONFLICT (page) DO UPDATE SET count = count + excluded.count, sum = sum + excluded.sum"
+        kept.put(edit, self.of())
+        self._counts.clear()
+        self._sums.clear()
+
+
+def number_of_row(row: Sequence[object]) -> int:
+    """A number that stands for the record at a place, as it is kept."""
+    parts = (one if isinstance(one, bytes) else str(one).encode(errors="surrogatepass") for one in row)
+    return zlib.crc32(b"\x1f".join(parts))
+
+
 class Adding:
     """Adds pages one after the other."""
 
@@ -51,6 +86,7 @@ class Adding:
         self._new: dict[Key, int] = {}
         self._part, self._in_part = "", 0
         self._run = 0
+        self._sums = Sums()
         self._place: tuple[str, str] | None = None
         self._is_faulty = False
         self._faulty: set[str] = set()
@@ -142,15 +178,17 @@ class Adding:
             self._read_numbers()
             changed = self._put_page(page, key, kind, span)
             self._put_numbers()
+            self._sums.write(self._kept)
         self._numbers.update(self._new)
         return changed
 
     def _put_page(self, page: Page, key: str, kind: str, span: whole.Span | None) -> int:
-        ids = None if span is None or span.is_alone() else _numbers_of(span.ids)
+        ids = None if span is None else _numbers_of(span.ids or whole.ids_of(page))
         counts = (span.start, span.said, span.total) if span else (None, None, None)
         number = (self._kept.one("SELECT max(number) FROM pages") or (None,))[0]
         number = 1 if number is None else number + 1
-        row = (number, key, page.name, kind, page.kind == RECORDS, _now(), len(page.records), *counts, ids, None if ids is None else _copy_of(page))
+        self._sums = Sums()
+        row = (number, key, page.name, kind, page.kind == RECORDS, _now(), len(page.records), *counts, ids, None if span is None or span.is_alone() else _copy_of(page))
         self._kept.put("INSERT INTO pages VALUES (?, ?, ?, ?, ?, ?, ?, ?, ?, ?, ?, ?)", [row])
         self._give([(number, kind)])
         putting = {"products": self._put_products, ADVISORIES: self._put_advisories, "matchStrings": self._put_matches}
@@ -165,7 +203,7 @@ class Adding:
             if is_of_these_recipes(self._kept):
                 return
             self._read_numbers()
-            for table in ("maker", "concerns", "ranged", "made"):
+            for table in ("maker", "concerns", "beside", "ranged", "made"):
                 self._kept.put(f"DELETE FROM {table} WHERE ?", [(True,)])
             edit = "UPDATE advisories SET id = ?, modified = ?, has_names = ?, state = ?, is_odd = ?, is_of_systems = ? WHERE place = ?"
             for (place,) in self._kept.rows("SELECT place FROM advisories"):
@@ -208,7 +246,7 @@ class Adding:
         return NO_PRODUCT if key is None else self._number(key)
 
     def _put_products(self, page: Page, page_number: int) -> int:
-        latest = _LatestProducts(self._kept, page_number, len(self._numbers))
+        latest = _LatestProducts(self._kept, self._sums, page_number, len(self._numbers))
         leads: dict[tuple[int, int], None] = {}
         for placed in page.each("product", product_id):
             place = place_of(page_number, placed.number - 1)
@@ -243,7 +281,7 @@ class Adding:
         )
 
     def _put_advisories(self, page: Page, page_number: int) -> int:
-        latest = _LatestAdvisories(self._kept, page.kind == RECORDS, self._number)
+        latest = _LatestAdvisories(self._kept, self._sums, page_number, page.kind == RECORDS, self._number)
         for number, record in enumerate(page.records):
             latest.put(place_of(page_number, number), record)
         return latest.end()
@@ -293,7 +331,10 @@ class Adding:
                 return False
             if now > before:
                 self._kept.put("DELETE FROM matches WHERE place = ?", [one[:1] for one in known])
+                for there, time, names in known:
+                    self._sums.drop(there, key, time, names)
         self._kept.put("INSERT INTO matches VALUES (?, ?, ?, ?)", [(place, key, modified, listed)])
+        self._sums.put(place, key, modified, listed)
         return True
 
 
@@ -305,13 +346,13 @@ def is_of_these_recipes(kept: Kept) -> bool:
 class _LatestProducts:
     """The products of a page that count, in place of those that are older (as dictionary.Products has it)."""
 
-    def __init__(self, kept: Kept, page_number: int, last_number: int) -> None:
-        self._kept, self._first = kept, place_of(page_number, 0)
+    def __init__(self, kept: Kept, sums: Sums, page_number: int, last_number: int) -> None:
+        self._kept, self._sums, self._first = kept, sums, place_of(page_number, 0)
         # (of a product with a later number nothing is there)
         self._last_number = last_number
         # (by name, those that were there before, and those of this page)
         self._known: dict[str, list[tuple]] = {}
-        self._dropped: list[tuple[int]] = []
+        self._dropped: list[tuple] = []
         self._nameless: list[tuple] = []
 
     def put(self, row: tuple) -> None:
@@ -325,7 +366,7 @@ class _LatestProducts:
         if known and known[0][3] != modified:
             if _time(modified) < _time(known[0][3]):
                 return
-            self._dropped += [one[:1] for one in known if one[0] < self._first]
+            self._dropped += [one for one in known if one[0] < self._first]
             known.clear()
         if not any(one[7] == row[7] for one in known):
             known.append(row)
@@ -338,17 +379,38 @@ class _LatestProducts:
     def end(self) -> int:
         """Writes them, and returns how many are new."""
         new = [*self._nameless, *(one for of_name in self._known.values() for one in of_name if one[0] >= self._first)]
-        self._kept.put("DELETE FROM products WHERE place = ?", self._dropped)
+        self._kept.put("DELETE FROM products WHERE place = ?", (one[:1] for one in self._dropped))
         self._kept.put("INSERT INTO products VALUES (?, ?, ?, ?, ?, ?, ?, ?, ?, ?)", new)
+        for one in self._dropped:
+            self._sums.drop(*one)
+        for one in new:
+            self._sums.put(*one)
         return len(new)
+
+
+class _New:
+    """Rows that are to be put, so that many are put at once."""
+
+    def __init__(self) -> None:
+        self._rows: dict[str, list[Sequence[object]]] = {}
+
+    def put(self, query: str, rows: Iterable[Sequence[object]]) -> None:
+        self._rows.setdefault(query, []).extend(rows)
+
+    def write(self, kept: Kept) -> None:
+        for query, rows in self._rows.items():
+            kept.put(query, rows)
+        self._rows.clear()
 
 
 class _LatestAdvisories:
     """The advisories of a page that count, in place of those that are older (as latest.py has it)."""
 
-    def __init__(self, kept: Kept, is_of_records: bool, number_of: Callable[[Key], int]) -> None:
-        self._kept, self._is_of_records, self._number_of = kept, is_of_records, number_of
+    def __init__(self, kept: Kept, sums: Sums, page_number: int, is_of_records: bool, number_of: Callable[[Key], int]) -> None:
+        self._kept, self._sums, self._page_number, self._is_of_records, self._number_of = kept, sums, page_number, is_of_records, number_of
         self._changed = 0
+        # (most have an id that comes once, and are put at the end of the page)
+        self._new, self._new_ids = _New(), set[str]()
 
     def put(self, place: int, record: Json) -> None:
         form = in_form(record, self._is_of_records)
@@ -356,39 +418,63 @@ class _LatestAdvisories:
         if id is None:
             self._insert(place, None, modified, record)
             return
-        known = self._kept.rows("SELECT place, modified, data FROM advisories WHERE id = ? AND is_of_records = ?", (id, self._is_of_records))
+        if id in self._new_ids:
+            self._write()
+        there = self._kept.rows("SELECT place, modified, data, is_of_records FROM advisories WHERE id = ?", (id,))
+        known = [row[:3] for row in there if bool(row[3]) == self._is_of_records]
         if known:
             now, before = _time(modified), _time(known[0][1])
             if now < before or now == before and any(self._form_of(data) == form for _, _, data in known):
                 return
             if now > before:
                 self._delete(known)
+        for _, _, data, is_of_records in there:
+            self._note_gone(in_form(self._kept.read(record_of, data), is_of_records))
         self._insert(place, id, modified, record)
-        _mark(self._kept, id)
+        if there:
+            self._write()
+            _mark(self._kept, id)
+        else:
+            self._new_ids.add(id)
+
+    def _write(self) -> None:
+        self._new.write(self._kept)
+        self._new_ids.clear()
 
     def _form_of(self, data: bytes) -> Json:
         return in_form(self._kept.read(record_of, data), self._is_of_records)
+
+    def _note_gone(self, record: Json) -> None:
+        """Notes of which products a record was that counts otherwise from this page on, so that what rests on it is decided again."""
+        products = {NO_PRODUCT if one is None else self._number_of(one) for one in products_named(record)}
+        self._kept.put("INSERT OR IGNORE INTO gone VALUES (?, ?)", ((self._page_number, number) for number in products))
 
     def _insert(self, place: int, id: str | None, modified: str, record: Json) -> None:
         data = zlib.compress(json.dumps(record, ensure_ascii=False, separators=(",", ":")).encode(errors="surrogatepass"), 1)
         derived = Derived.of(in_form(record, self._is_of_records))
         row = (place, id, self._is_of_records, modified, *derived.columns(), False, False, data)
-        self._kept.put("INSERT INTO advisories VALUES (?, ?, ?, ?, ?, ?, ?, ?, ?, ?, ?)", [row])
-        derived.put(self._kept, place, self._number_of)
+        self._new.put("INSERT INTO advisories VALUES (?, ?, ?, ?, ?, ?, ?, ?, ?, ?, ?)", [row])
+        derived.put(self._new, place, self._number_of)
+        self._sums.put(place, data)
         self._changed += 1
 
     def _delete(self, known: Iterable[tuple[int, str, bytes]]) -> None:
         for place, _, data in known:
             record = self._form_of(data)
+            self._sums.drop(place, data)
             concern = concern_of(record)
             if concern is not None:
                 products = [(self._number_of(product), place) for product in concern.products]
                 self._kept.put("DELETE FROM concerns WHERE product = ? AND place = ?", products)
-            self._kept.put("DELETE FROM ranged WHERE key = ? AND place = ?", {(key, place) for key, _ in named_of(record)})
+                beside = [(self._number_of(product), place) for product in concern.beside]
+                self._kept.put("DELETE FROM beside WHERE product = ? AND place = ?", beside)
+            self._kept.put("DELETE FROM ranged WHERE key = ? AND place = ?", {(key, place) for key, _, _ in ranges_of(record)})
             for table in ("advisories", "made"):
                 self._kept.put(f"DELETE FROM {table} WHERE place = ?", [(place,)])
 
     def end(self) -> int:
+        """Writes them, and returns how many are new."""
+        self._write()
         return self._changed
 
 
@@ -435,7 +521,7 @@ class Derived:
     state: str | None
     concern: Concern | None
     made: bytes | None
-    named: Named
+    ranges: frozenset[tuple[str, Key, int]]
 
     @staticmethod
     def of(record: Json) -> Derived:
@@ -445,19 +531,20 @@ class Derived:
         concern = concern_of(record) if state is None else None
         made = make(record) if concern is not None else None
         # (of what something would be reported, that is read by every scan)
-        named = named_of(record) if state is None else frozenset()
-        return Derived(has_names, state, None if made is None else concern, made, named)
+        ranges = ranges_of(record) if state is None else frozenset()
+        return Derived(has_names, state, None if made is None else concern, made, ranges)
 
     def columns(self) -> tuple[bool, str | None, bool, bool]:
         """Whether it has configurations, its state, whether it isn't plain, and whether it asks for operating systems alone."""
         is_odd = self.state is None and self.concern is None
         return self.has_names, self.state, is_odd, self.concern is not None and self.concern.is_of_systems()
 
-    def put(self, kept: Kept, place: int, number_of: Callable[[Key], int]) -> None:
+    def put(self, kept: Kept | _New, place: int, number_of: Callable[[Key], int]) -> None:
         """Puts its products and its matches that have bounds, and what it becomes."""
-        kept.put("INSERT INTO ranged VALUES (?, ?, ?)", [(key, place, number_of(product)) for key, product in self.named])
+        kept.put("INSERT INTO ranged VALUES (?, ?, ?, ?)", [(key, place, number_of(product), number) for key, product, number in self.ranges])
         if self.concern is not None:
             kept.put("INSERT INTO concerns VALUES (?, ?)", [(number_of(product), place) for product in self.concern.products])
+            kept.put("INSERT INTO beside VALUES (?, ?)", [(number_of(product), place) for product in self.concern.beside])
             kept.put("INSERT INTO made VALUES (?, ?)", [(place, self.made)])
 
 

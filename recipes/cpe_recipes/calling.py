@@ -37,25 +37,32 @@ class Wanted:
     def __init__(self, facts: Iterable[str]) -> None:
         self._by_product: dict[Product, set[int]] = {}
         self._of_all: set[int] = set()
-        self._languages: dict[str, None] = {}
+        # (by the product of a fact; under None those of facts that may be of any)
+        self._languages: dict[Product | None, dict[str, None]] = {}
         self._versions: dict[Product, dict[tuple[str, str], None]] = {}
         for fact in facts:
             parts = names.components(fact)
             product = parts[names.VENDOR], parts[names.PRODUCT]
             said = [place for place in _SAID if parts[place] != names.ANY]
-            if not all(map(names.is_plain, product)):
+            is_plain = all(map(names.is_plain, product))
+            if not is_plain:
                 self._of_all.update(said)
             elif said:
                 self._by_product.setdefault(product, set()).update(said)
             if names.is_plain(parts[names.VERSION]):
                 self._versions.setdefault(product, {})[parts[names.VERSION], parts[names.UPDATE]] = None
             if _LANGUAGE in said:
-                self._languages[parts[_LANGUAGE]] = None
+                self._languages.setdefault(product if is_plain else None, {})[parts[_LANGUAGE]] = None
 
     def places(self, product: Product) -> frozenset[int]:
         if any(map(names.has_special, product)):
             return frozenset(self._of_all.union(*self._by_product.values()))
         return frozenset(self._by_product.get(product, ())) | self._of_all
+
+    def _languages_of(self, product: Product) -> Iterable[str]:
+        """The languages of which facts on a product say something."""
+        products = self._languages if any(map(names.has_special, product)) else (product, None)
+        return sorted({language for one in products for language in self._languages.get(one, ())})
 
     def spelled(self, name: str, kind: str, letters: Letters) -> Iterator[tuple[str, Same]]:
         """The name with each version that facts name and that is the same, or perhaps is, each with how sure that is."""
@@ -65,7 +72,8 @@ class Wanted:
         if version is None:
             return
         upward = Upward(letters, product) if letters.has(product) else None
-        for wanted, update in self._versions.get(product, ()):
+        # (in an order that isn't that of the advisories)
+        for wanted, update in sorted(self._versions.get(product, ())):
             text, rest_of_fact = _version(wanted, update, product, letters)
             if text is None or wanted == parts[names.VERSION]:
                 continue
@@ -87,7 +95,7 @@ class Wanted:
         if _LANGUAGE in lacks:
             # (no language has a pattern, so there is a name for each that is asked for)
             parts = names.components(names.marked(name, others | {OTHER}))
-            for language in self._languages:
+            for language in self._languages_of(names.product_of(meant)):
                 yield names.joined([*parts[:_LANGUAGE], language, *parts[_LANGUAGE + 1 :]]), lacks
 
     def are_any(self) -> bool:
@@ -185,6 +193,10 @@ class Calling:
     def of_components(self, components: Iterable[Sequence[Lead]]) -> list[Called]:
         """The names of components, of which each perhaps has several in its list."""
         return list({(one.name, one.kind): one for leads in components for lead in leads for one in self.of(lead)}.values())
+
+    def put(self, found: Mapping[tuple[str, str, str], tuple[Called, ...]]) -> None:
+        """Puts the names of items that are known, each by its name, its kind and why it only perhaps has that name."""
+        self._found.update(found)
 
     def of(self, lead: Lead) -> tuple[Called, ...]:
         """The names of an item that leads so, those that are sure first."""

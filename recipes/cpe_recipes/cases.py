@@ -77,7 +77,7 @@ class Known:
 
     `elsewhere` are advisories that are FALSE on each machine without being asked for, since they name no product that is here, each with
     whether all its names are of operating systems. Then `order` has the ids of all advisories, in the order of the feeds. `made` has what
-    was made before of records."""
+    was made before of records, and `beside` are the names of products that are here in advisories that are elsewhere."""
 
     entries: list[str]
     records: list[str]
@@ -87,6 +87,7 @@ class Known:
     elsewhere: Mapping[str, bool] = field(default_factory=dict)
     order: Sequence[str] = ()
     made: Mapping[str, Asked] = field(default_factory=dict)
+    beside: Sequence[str] = ()
     statements: list[Statement] = field(init=False)
     asked: list[str] = field(init=False)
     negated: dict[str, Negated] = field(init=False)
@@ -126,7 +127,7 @@ class Known:
     def facts(self) -> list[str]:
         """The names that statements and ranges ask for."""
         facts = [fact for statement in self.statements for fact in statement.facts]
-        return [*facts, *(one.fact for one in self.negated.values()), *(one.criteria for one in self.ranges.values())]
+        return [*facts, *(one.fact for one in self.negated.values()), *(one.criteria for one in self.ranges.values()), *self.beside]
 
 
 class Index:

@@ -1,8 +1,8 @@
 """Reads all of a store again, and compares what is derived of it with that, as adding.py and settling.py put it.
 
 That is what is kept beside advisories, the products of the dictionary's names, where deprecations lead, which records of an id count, and
-what the pages say together. It doesn't see that a product, a list, a title or a time of the store is another one than was added, or that
-what was kept of matches that give items names isn't there: of these nothing else is kept.
+what the pages say together, and which products lists name; and of each page how many of its products, advisories and lists count, with a
+sum of them as they were added.
 """
 from __future__ import annotations
 
@@ -10,8 +10,8 @@ import json
 import zlib
 from collections.abc import Iterator
 
-from .adding import KINDS, NO_PRODUCT, Derived, in_form, marks_of, record_of, told_apart
-from .concern import Concern, plain_name
+from .adding import KINDS, NO_PRODUCT, Derived, Sums, in_form, marks_of, record_of, told_apart
+from .concern import Concern, plain_name, plain_product
 from .feeds import Json
 from .kept import Kept, page_and_number
 from .made import maker
@@ -32,7 +32,7 @@ def check(kept: Kept, program: Program, said: Said) -> int:
     numbers = {number: (vendor, product) for number, vendor, product in kept.rows("SELECT number, vendor, product FROM names")}
     pages = dict(kept.rows("SELECT number, records FROM pages"))
     count = 0
-    for place, wrong in (*_products(kept, numbers), *_advisories(kept, numbers), *_matches(kept)):
+    for place, wrong in (*_products(kept, numbers), *_advisories(kept, numbers), *_matches(kept, numbers)):
         page, number = page_and_number(place)
         count += 1
         if page not in pages or number >= pages[page]:
@@ -42,6 +42,7 @@ def check(kept: Kept, program: Program, said: Said) -> int:
     for place, wrong in (*_leads(kept, numbers), *_marks(kept)):
         page, number = page_and_number(place)
         said.left_out(f"record {number + 1} of page {page}", wrong)
+    _check_sums(kept, said)
     if not said.left:
         _check_together(kept, program, said)
     for product, place in kept.rows("SELECT product, place FROM concerns WHERE place NOT IN (SELECT place FROM advisories)"):
@@ -60,9 +61,12 @@ def _advisories(kept: Kept, numbers: dict[int, tuple[str, str]]) -> Iterator[tup
     products: dict[int, set[tuple[str, str]]] = {}
     for product, place in kept.each("SELECT product, place FROM concerns"):
         products.setdefault(place, set()).add(numbers.get(product, ("", "")))
-    ranges: dict[int, set[tuple[str, tuple[str, str]]]] = {}
-    for key, place, product in kept.each("SELECT key, place, product FROM ranged"):
-        ranges.setdefault(place, set()).add((key, numbers.get(product, ("", ""))))
+    beside: dict[int, set[tuple[str, str]]] = {}
+    for product, place in kept.each("SELECT product, place FROM beside"):
+        beside.setdefault(place, set()).add(numbers.get(product, ("", "")))
+    ranges: dict[int, set[tuple[str, tuple[str, str], int]]] = {}
+    for key, place, product, number in kept.each("SELECT key, place, product, range FROM ranged"):
+        ranges.setdefault(place, set()).add((key, numbers.get(product, ("", "")), number))
     is_of_these = kept.rows("SELECT digest FROM maker") == [(maker(),)]
     columns_of = "place, id, modified, is_of_records, a.data, made.data, has_names, state, is_odd, is_of_systems"
     for place, id, modified, is_of_records, data, made, *columns in kept.each(f"SELECT {columns_of} FROM advisories a LEFT JOIN made USING (place)"):
@@ -74,7 +78,8 @@ def _advisories(kept: Kept, numbers: dict[int, tuple[str, str]]) -> Iterator[tup
         derived = Derived.of(record)
         concern = derived.concern or Concern(frozenset(), frozenset(), frozenset())
         is_right = (id, modified) == told_apart(record) and tuple(columns) == derived.columns()
-        is_right = is_right and products.get(place, set()) == concern.products and ranges.get(place, set()) == derived.named
+        is_right = is_right and products.get(place, set()) == concern.products and ranges.get(place, set()) == derived.ranges
+        is_right = is_right and beside.get(place, set()) == concern.beside
         is_right = is_right and (made == derived.made or not is_of_these)
         yield place, "" if is_right else f"what is kept beside {id_of(record) or 'it'} is of another record"
 
@@ -114,6 +119,20 @@ def _marks(kept: Kept) -> Iterator[tuple[int, str]]:
                 yield place, "its marks are those of one beside other records of its id"
 
 
+def _check_sums(kept: Kept, said: Said) -> None:
+    """Says of which pages a record isn't there any more, or isn't as it was added."""
+    sums = Sums()
+    for table, columns in (("products", "*"), ("advisories", "place, data"), ("matches", "place, key, modified, listed")):
+        for row in kept.each(f"SELECT {columns} FROM {table}"):
+            sums.put(*row)
+    found = {page: of_page for page, *of_page in sums.of()}
+    for number, name, count, total in kept.rows("SELECT number, name, coalesce(count, 0), coalesce(sum, 0) FROM pages LEFT JOIN sums ON page = number"):
+        there = found.get(number, [0, 0])
+        if there != [count, total]:
+            what = f"{there[0]:,} of {count:,} records that count are there" if there[0] != count else "a record isn't as it was added"
+            said.left_out(name, f"{what}; remove the store, and add the pages again")
+
+
 def _check_together(kept: Kept, program: Program, said: Said) -> None:
     for number, product, words in kept.rows("SELECT number, product, squeezed FROM names"):
         if squeezed(product) != words:
@@ -124,11 +143,17 @@ def _check_together(kept: Kept, program: Program, said: Said) -> None:
             said.left_out(CALLED[kind], "what is kept of their pages together is of other pages")
 
 
-def _matches(kept: Kept) -> Iterator[tuple[int, str]]:
-    for place, listed in kept.each("SELECT place, listed FROM matches"):
+def _matches(kept: Kept, numbers: dict[int, tuple[str, str]]) -> Iterator[tuple[int, str]]:
+    """The matches of which the list can't be read, or it isn't kept which products it lists."""
+    there: dict[str, set[int]] = {}
+    for product, key in kept.each("SELECT product, key FROM listing"):
+        there.setdefault(key, set()).add(product)
+    of_products = {product: number for number, product in numbers.items()}
+    for place, key, listed in kept.each("SELECT place, key, listed FROM matches"):
         try:
-            json.loads(listed)
-        except ValueError:
+            products = set(map(plain_product, json.loads(listed)))
+        except (ValueError, TypeError, AttributeError):
             yield place, "its list can't be read"
             continue
-        yield place, ""
+        wanted = {NO_PRODUCT if one is None else of_products.get(one) for one in products}
+        yield place, "" if wanted <= there.get(key, set()) else "it isn't kept which products it lists"

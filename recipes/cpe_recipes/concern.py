@@ -10,6 +10,7 @@ concerns the products of all. If something is negated beside such a name, no pro
 """
 from __future__ import annotations
 
+import hashlib
 import re
 from collections.abc import Collection, Iterator
 from dataclasses import dataclass
@@ -70,11 +71,13 @@ Named = frozenset[tuple[str, Product]]
 @dataclass(frozen=True, slots=True)
 class Concern:
     """What a plain advisory concerns: products without which it is FALSE. `parts` are the parts of the names for which its statement
-    asks, such as `o` for operating systems, and `named` are its matches that have bounds, with their products."""
+    asks, such as `o` for operating systems, and `named` are its matches that have bounds, with their products. `beside` are the products
+    of its other names."""
 
     products: frozenset[Product]
     parts: frozenset[str]
     named: Named
+    beside: frozenset[Product] = frozenset()
 
     @property
     def ranges(self) -> set[str]:
@@ -103,7 +106,8 @@ def concern_of(record: Json) -> Concern | None:
         _needs(all(score_of(score) is not None for score in _scores(cve)))
     except (_Odd, KeyError, TypeError, AttributeError):
         return None
-    return Concern(frozenset(reading.products), frozenset(reading.parts), frozenset(reading.named))
+    beside = frozenset(reading.all_products - reading.products)
+    return Concern(frozenset(reading.products), frozenset(reading.parts), frozenset(reading.named), beside)
 
 
 def named_of(record: Json) -> Named:
@@ -114,6 +118,23 @@ def named_of(record: Json) -> Named:
         if _is_key(key) and isinstance(criteria, str) and any(match.get(name) is not None for name in BOUNDS):
             found.add((key, open_product(criteria)))
     return frozenset(found)
+
+
+def ranges_of(record: Json) -> frozenset[tuple[str, Product, int]]:
+    """The same matches, each with a number that stands for its name and its bounds."""
+    found = set()
+    for match in _all_matches(record):
+        key, criteria = match.get("matchCriteriaId"), match.get("criteria")
+        if _is_key(key) and isinstance(criteria, str) and any(match.get(name) is not None for name in BOUNDS):
+            text = repr([criteria, *map(match.get, BOUNDS)]).encode(errors="surrogatepass")
+            number = int.from_bytes(hashlib.blake2b(text, digest_size=8).digest(), "little", signed=True)
+            found.add((key, open_product(criteria), number))
+    return frozenset(found)
+
+
+def products_named(record: Json) -> set[Product | None]:
+    """The products of all names of the matches of any advisory, wherever in it they are; None for a name that isn't plain."""
+    return {plain_product(one) if isinstance(one := match.get("criteria"), str) else None for match in _all_matches(record)}
 
 
 def _all_matches(record: Json) -> Iterator[dict[str, Json]]:
@@ -164,6 +185,7 @@ class _Reading:
 
     def __init__(self) -> None:
         self.products: set[Product] = set()
+        self.all_products: set[Product] = set()
         self.parts: set[str] = set()
         self.named: set[tuple[str, Product]] = set()
         self._bytes = 0
@@ -179,6 +201,7 @@ class _Reading:
         is_and, is_negated = _logic(configuration)
         nodes = [self._node(node) for node in _filled(configuration["nodes"])]
         matches = [match for node in nodes for match in node.matches]
+        self.all_products.update(match.product for match in matches)
         vulnerable = [match for match in matches if match.is_vulnerable]
         # (one without a vulnerable product is reported)
         _needs(bool(vulnerable))

@@ -98,7 +98,7 @@ def leads_of(
     chains: list[tuple[str, bool, list[str], list[str]]] = []
     searches = [record_text({"do": "search", "name": name, "active": True}) for name in searched]
     counts: list[int] = []
-    for line in program.lines(["resolve"], itertools.chain(_questions(records, asked), searches)):
+    for line in program.over(records, itertools.chain(_questions(asked), searches)):
         word, rest = line.split(" ", 1)
         if word == "refused":
             number, reason = rest.split(" ", 1)
@@ -114,7 +114,7 @@ def leads_of(
             counts.append(int(rest.rpartition(" ")[2]))
     leads, answers = Leads(active=dict(zip(searched, counts, strict=True))), iter(chains)
     for place, (name, is_item) in enumerate(asked):
-        first = len(records) + 1 + 3 * place
+        first = 1 + 3 * place
         if first in reasons:
             leads.refused[name] = reasons[first]
             continue
@@ -127,9 +127,8 @@ def leads_of(
     return leads
 
 
-def _questions(records: Sequence[str], asked: Iterable[tuple[str, bool]]) -> Iterator[str]:
-    """The records, and three lines for each name."""
-    yield from records
+def _questions(asked: Iterable[tuple[str, bool]]) -> Iterator[str]:
+    """Three lines for each name."""
     for name, is_item in asked:
         yield record_text({"do": "chain", "name": name})
         # (an item is dropped again, so that there is never more than one)
@@ -284,11 +283,11 @@ class Decider:
 
     def _ask_compare(self, near: _Near, odd: Sequence[tuple[Range, str]]) -> None:
         """Puts the reasons of ranges that can't be asked for, where their facts cover an end."""
-        pairs = [(one.criteria, end, one.key, reason) for one, reason in odd for end in near.ends(one.criteria)]
-        lines = self._program.lines(["compare"], (f"{fact} {end}" for fact, end, _, _ in pairs))
-        for (_, end, key, reason), line in zip(pairs, lines):
-            if line.split(" ", 1)[0] in ("SUPERSET", "EQUAL"):
-                self._put(end, key, reason)
+        ends = dict.fromkeys(end for one, _ in odd for end in near.ends(one.criteria))
+        covered, _ = items_met(self._program, ends, dict.fromkeys(one.criteria for one, _ in odd))
+        for one, reason in odd:
+            for end in covered[one.criteria]:
+                self._put(end, one.key, reason)
 
     def _ask_items(self, ends: Sequence[str], ranges: Sequence[Range]) -> None:
         """Puts how ends that are known in part stand to the ranges whose facts may cover them."""
@@ -319,9 +318,11 @@ Met = dict[str, list[str]]
 
 def items_met(program: Program, items: Iterable[str], facts: Iterable[str]) -> tuple[Met, Met]:
     """Of each of these facts the items that it covers, and those that are known in part and that it may cover."""
-    asked = list(facts)
-    records = [record_text({"do": "item", "name": item}) for item in items]
+    asked, put = list(facts), list(items)
+    records = [record_text({"do": "item", "name": item}) for item in put]
     records += [record_text({"do": "items", "name": fact}) for fact in asked]
+    # (the last first, so that none closes up)
+    records += [record_text({"do": "drop-item", "name": item}) for item in reversed(put)]
     covered: list[list[str]] = []
     may_be: list[list[str]] = []
     for line in program.lines(["resolve"], records):
@@ -515,6 +516,10 @@ def led(lead: Lead) -> list[Called]:
 
 def leads_in(leads: Leads, component: Component) -> list[Lead]:
     """Where the names of a component lead, each once, however it is spelled: those that it has, and then those that it perhaps has."""
+    if component.is_name_alone() and not component.supposed:
+        # (most have one name, and nothing else is known of them)
+        lead = leads.found.get(component.names[0])
+        return [] if lead is None else [lead]
     found = {lead.name: lead for name in component.names if (lead := leads.found.get(name))}
     kind = component.kind
     sure = [replace(lead, kind=kind) if kind else lead for lead in found.values()]

@@ -1,23 +1,33 @@
-"""Which items make verdicts TRUE, as `cpe explain` tells it, for scan.py --why.
+"""Which items make verdicts TRUE, for scan.py --why, and how `cpe explain` tells it.
 
-Of a machine the statements that are TRUE there are explained, over the names of its items and what was decided of its ranges:
-one more run of cpe for each machine that has such a statement. A certificate names an item for each fact that it needs. Of a range
-it has the fact and the check, and the item is the one whose version decided the check.
+A certificate of `cpe explain` names an item for each fact that it needs. Of a range it has the fact and the check, and the item is the
+one whose version decided the check. `Deciding` explains the statements that are TRUE on a machine, over the names of its items and what
+was decided of its ranges, which takes a run of cpe for each machine. `Chosen` chooses of each test what a certificate has, in one run for
+all machines: of a logical test the first child that decides, and of a fact the first item that it covers, which cpe says.
 """
 from __future__ import annotations
 
 import json
-from collections.abc import Iterable, Iterator, Mapping, Sequence
+from collections.abc import Callable, Iterable, Iterator, Mapping, Sequence
+from typing import NamedTuple
 
 from .advisories import Range
-from .asked import range_of
+from .asked import facts_of, range_of
 from .called import Called
 from .cases import Known
-from .decide import Decided, check_record
+from .decide import Decided, Leads, check_record
 from .feeds import Json, record_text
 from .portions import portions, size_of
 from .program import Program
 from .said import Fatal
+
+
+class Asked(NamedTuple):
+    """A machine of which is asked: how its items are called, what is decided of its ranges, and the places of the statements."""
+
+    called: Sequence[Called]
+    decided: Decided
+    places: Sequence[int]
 
 
 class Deciding:
@@ -27,6 +37,10 @@ class Deciding:
         self._program, self._known = program, known
         # (one statement may be asked of many machines)
         self._tests: dict[int, Json] = {}
+
+    def of_machines(self, asked: Iterable[Asked]) -> Iterator[dict[int, list[str]]]:
+        """In words why statements are TRUE on machines, one after the other."""
+        return (self.reasons(one.called, one.decided, one.places) for one in asked)
 
     def reasons(self, called: Sequence[Called], decided: Decided, places: Sequence[int]) -> dict[int, list[str]]:
         """In words why these statements are TRUE over items that are called so, each by its place."""
@@ -43,12 +57,12 @@ class Deciding:
         """Puts in words why these statements are TRUE, of which cpe takes as many at once."""
         lines = self._program.lines(["explain"], self.lines(items, decided, places))
         for place, line in zip(places, lines):
-            told = Told(self._known.ranges, decided, items).of(self._test(place), _proof(line))
+            told = Told(self._known.ranges, decided, items).of(self.test(place), _proof(line))
             found[place] = list(dict.fromkeys(told))
         if any(place not in found for place in places) or next(lines, None) is not None:
             raise Fatal("cpe explained more or less than was asked")
 
-    def _test(self, place: int) -> Json:
+    def test(self, place: int) -> Json:
         """The test of a statement."""
         if place not in self._tests:
             self._tests[place] = json.loads(self._known.asked[place])["test"]
@@ -60,6 +74,92 @@ class Deciding:
         yield from (record_text({"do": "item", "name": item}) for item in items)
         keys = dict.fromkeys(key for place in places for key in self._known.statements[place].checks)
         yield from (check_record(key, decided.truths[key]) for key in keys if key in decided.truths)
+
+
+class Chosen(Deciding):
+    """The same, of all machines in one run."""
+
+    def __init__(self, program: Program, known: Known, leads: Callable[[], Leads]) -> None:
+        super().__init__(program, known)
+        self._leads = leads
+
+    def of_machines(self, asked: Iterable[Asked]) -> Iterator[dict[int, list[str]]]:
+        machines = list(asked)
+        facts = [list(dict.fromkeys(fact for place in one.places for fact in facts_of(self.test(place)))) for one in machines]
+        lines = self._program.lines(["resolve"], (line for one, of_one in zip(machines, facts) for line in _questions(one, of_one)))
+        answers = _first_items(lines)
+        for one, of_one in zip(machines, facts):
+            yield self._chosen(one, {fact: _next(answers) for fact in of_one})
+        for _ in answers:
+            raise Fatal("cpe answered more than was asked")
+
+    def _chosen(self, asked: Asked, first: Mapping[str, str | None]) -> dict[int, list[str]]:
+        items = {one.name: one.item for one in reversed(asked.called)}
+        told = Told(self._known.ranges, asked.decided, items)
+        found = {}
+        for place in asked.places:
+            test = self.test(place)
+            why = self._why(test, first, asked.decided.truths)
+            if why["truth"] != "TRUE":
+                raise Fatal(f"{self._known.statements[place].id} is TRUE by cpe, and nothing that it covers makes it so")
+            found[place] = list(dict.fromkeys(told.of(test, why)))
+        return found
+
+    def _why(self, test: Json, first: Mapping[str, str | None], truths: Mapping[str, bool]) -> Json:
+        """What a certificate has of a test. (What a fact may cover makes nothing TRUE, nor FALSE.)"""
+        if "op" in test:
+            return self._why_of_logic(test, first, truths)
+        if "check" in test:
+            truth = truths.get(test["check"]["id"])
+            return {"truth": "UNKNOWN" if truth is None else "TRUE" if truth else "FALSE"}
+        item = first[test["fact"]]
+        if item is None:
+            return {"truth": "FALSE"}
+        return {"fact": [self._leads().found[test["fact"]].name], "item": [item], "truth": "TRUE"}
+
+    def _why_of_logic(self, test: Json, first: Mapping[str, str | None], truths: Mapping[str, bool]) -> Json:
+        deciding, other = ("FALSE", "TRUE") if test["op"] == "AND" else ("TRUE", "FALSE")
+        found: list[Json] = []
+        truth = other
+        for child in test["of"]:
+            found.append(self._why(child, first, truths))
+            if found[-1]["truth"] == deciding:
+                found, truth = [*(None for _ in found[1:]), found[-1]], deciding
+                break
+            if found[-1]["truth"] != other:
+                truth = "UNKNOWN"
+        if test.get("negate"):
+            truth = {"TRUE": "FALSE", "FALSE": "TRUE"}.get(truth, truth)
+        return {"of": found, "truth": truth}
+
+
+def _questions(asked: Asked, facts: Iterable[str]) -> Iterator[str]:
+    """The items of a machine, in the order in which they are explained, and which of them each of these facts covers."""
+    items = list(dict.fromkeys(one.name for one in reversed(asked.called))) if asked.places else []
+    yield from (record_text({"do": "item", "name": item}) for item in items)
+    yield from (record_text({"do": "items", "name": fact}) for fact in facts)
+    yield from (record_text({"do": "drop-item", "name": item}) for item in reversed(items))
+
+
+def _first_items(lines: Iterable[str]) -> Iterator[str | None]:
+    """Of each answer the first item."""
+    found: list[str | None] = []
+    for line in lines:
+        word, _, rest = line.partition(" ")
+        if word == "items":
+            yield from found
+            found = [None]
+        elif word == "item" and found == [None]:
+            found = [rest]
+        elif word not in ("item", "maybe") or not found:
+            raise Fatal(f"cpe resolve wrote {line}")
+    yield from found
+
+
+def _next(answers: Iterator[str | None]) -> str | None:
+    for answer in answers:
+        return answer
+    raise Fatal("cpe answered less than was asked")
 
 
 def _proof(line: str) -> Json:

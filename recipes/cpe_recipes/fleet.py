@@ -219,10 +219,11 @@ def _of_store(program: Program, words: Words, said: Said) -> _Given:
     machines = read_machines(path, said)
     tables = read_names(words.many("--names"), machines)
     with Stored(folder, program, said, whole.Reading()).opened() as store:
-        taken = store.take(machines, tables, (), is_all=False)
+        unnamed = store.named(machines, tables)
+        taken = store.take(machines, (), is_all=False)
         listed = store.listed(taken.known.ranges.keys())
     known = taken.known
-    taken.unnamed.tell(said, hints.command("unlisted.sh", ["--store", folder, "--machines", path, *hints.table_words(words)]))
+    unnamed.tell(said, hints.command("unlisted.sh", ["--store", folder, "--machines", path, *hints.table_words(words)]))
     text = "".join(f"{line}\n" for line in (*known.entries, *known.records))
     records = records_of(program, folder, text, said)
     if known.elsewhere:

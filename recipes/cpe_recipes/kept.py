@@ -21,7 +21,7 @@ Kind, Read = TypeVar("Kind"), TypeVar("Read")
 
 FILE = "feeds.sqlite"
 # (change it with the tables, and with what is kept beside products and matches; what is kept beside advisories is made again)
-VERSION = 2
+VERSION = 3
 ADD_AGAIN = "run store.py add --store FOLDER as one who can write there"
 # By this number SQLite's own header says whose file it is.
 _APPLICATION = 0x43504553
@@ -42,6 +42,7 @@ CREATE TABLE pages (
 );
 CREATE TABLE runs (number INTEGER PRIMARY KEY, began TEXT NOT NULL, paths TEXT);
 CREATE TABLE given (run INTEGER NOT NULL, page INTEGER NOT NULL, PRIMARY KEY (run, page)) WITHOUT ROWID;
+CREATE TABLE sums (page INTEGER PRIMARY KEY, count INTEGER NOT NULL, sum INTEGER NOT NULL);
 CREATE TABLE parts (digest TEXT PRIMARY KEY) WITHOUT ROWID;
 CREATE TABLE faults (
     kind TEXT NOT NULL, key TEXT NOT NULL, place TEXT NOT NULL, reason TEXT NOT NULL, modified TEXT NOT NULL, PRIMARY KEY (kind, key, place)
@@ -69,10 +70,12 @@ CREATE INDEX advisories_in_order ON advisories (is_passed, state, place, id, is_
 CREATE TABLE made (place INTEGER PRIMARY KEY, data BLOB NOT NULL);
 CREATE TABLE maker (digest TEXT NOT NULL);
 CREATE TABLE concerns (product INTEGER NOT NULL, place INTEGER NOT NULL, PRIMARY KEY (product, place)) WITHOUT ROWID;
+CREATE TABLE beside (product INTEGER NOT NULL, place INTEGER NOT NULL, PRIMARY KEY (product, place)) WITHOUT ROWID;
+CREATE TABLE gone (page INTEGER NOT NULL, product INTEGER NOT NULL, PRIMARY KEY (page, product)) WITHOUT ROWID;
 CREATE TABLE matches (place INTEGER PRIMARY KEY, key TEXT NOT NULL, modified TEXT NOT NULL, listed TEXT NOT NULL);
 CREATE INDEX matches_by_key ON matches (key);
 CREATE TABLE ranged (
-    key TEXT NOT NULL, place INTEGER NOT NULL, product INTEGER NOT NULL, PRIMARY KEY (key, place, product)
+    key TEXT NOT NULL, place INTEGER NOT NULL, product INTEGER NOT NULL, range INTEGER NOT NULL, PRIMARY KEY (key, place, product, range)
 ) WITHOUT ROWID;
 CREATE TABLE listing (product INTEGER NOT NULL, key TEXT NOT NULL, PRIMARY KEY (product, key)) WITHOUT ROWID;
 CREATE TABLE unsettled (kind TEXT PRIMARY KEY) WITHOUT ROWID;

@@ -28,7 +28,8 @@ class MadeStatements(Made):
 
 
 def make(record: Json) -> bytes | None:
-    """What an advisory becomes, as bytes; None if something of it would be reported, so that it isn't plain."""
+    """What an advisory becomes, as bytes; None if something of it would be reported or is negated, so that it isn't plain. (What is
+    negated depends on where the dictionary leads from its names, whichever products a machine has.)"""
     found = convert_one(record)
     if found.stand_ins or not found.candidates or any(not one.record for one in found.candidates):
         return None
@@ -36,9 +37,10 @@ def make(record: Json) -> bytes | None:
     for one in found.candidates:
         negated: dict[str, Negated] = {}
         value, line = asked_of(json.loads(one.record), negated)
+        if negated:
+            return None
         statement = Statement.of(value, found.ranges)
-        told = [statement.id, statement.facts, statement.ranges, statement.checks]
-        statements.append([one.record, line, told, [[it.key, it.fact, it.range] for it in negated.values()]])
+        statements.append([one.record, line, [statement.id, statement.facts, statement.ranges, statement.checks]])
     (details,) = found.details.values()
     ranges = [[it.key, it.criteria, it.start, it.end, it.start_excluded, it.end_excluded] for it in found.ranges.values()]
     # (in ASCII, in which JSON has half a character too)
@@ -49,9 +51,8 @@ def read(data: bytes) -> MadeStatements:
     """What is kept of an advisory."""
     statements, ranges, details = json.loads(zlib.decompress(data))
     asked = {}
-    for record, line, (id, facts, keys, checks), negated in statements:
-        statement = Statement(id, tuple(facts), tuple(keys), tuple(checks))
-        asked[record] = Asked(statement, line, tuple(Negated(*one) for one in negated))
+    for record, line, (id, facts, keys, checks) in statements:
+        asked[record] = Asked(Statement(id, tuple(facts), tuple(keys), tuple(checks)), line, ())
     return MadeStatements(details["id"], tuple(asked), tuple(Range(*one) for one in ranges), details, asked)
 
 

@@ -83,9 +83,10 @@ def marked(name: str, places: Iterable[int]) -> str:
 def part_of(name: str) -> str:
     """The part of a name in either binding, in lower case."""
     text = name.lower()
-    if text.startswith("cpe:/"):
-        return text[len("cpe:/") : len("cpe:/") + 1]
-    return components(text)[0] if text.startswith(PREFIX) else ""
+    if text.startswith(PREFIX):
+        # (a part has nothing quoted)
+        return text[len(PREFIX) :].partition(":")[0]
+    return text[len("cpe:/") : len("cpe:/") + 1] if text.startswith("cpe:/") else ""
 
 
 @functools.lru_cache(maxsize=1 << 17)

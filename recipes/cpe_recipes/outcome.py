@@ -10,6 +10,7 @@ from .called import Called
 from .cases import Known, Product, Statement
 from .components import Machine
 from .decide import Decided, Lead
+from .earlier import Row
 from .feeds import Json
 from .naming import Unnamed
 from .said import Said
@@ -82,17 +83,39 @@ def _versioned(name: str) -> tuple[str, ...]:
     return tuple(names.components(name)[names.VENDOR : names.UPDATE])
 
 
+# The verdicts that are those of an earlier scan, by the machines.
+Taken = Mapping[str, Sequence[Row]]
+
+
 class Hanging:
     """What the UNKNOWNs of the machines hang on."""
 
-    def __init__(self, known: Known, found: Iterable[Found]) -> None:
+    def __init__(self, known: Known, found: Iterable[Found], taken: Taken | None = None) -> None:
         self._known = known
         self._found = {one.machine.name: one for one in found}
         self._parts = known.parts
+        self._taken = {name: {row.id: row for row in rows} for name, rows in (taken or {}).items()}
+        self._order = {id: number for number, id in enumerate(known.order)} if taken else {}
+
+    def row(self, advisory: str, machine: str | None) -> Row | None:
+        """The verdict, if it is that of an earlier scan."""
+        return self._taken.get(machine or "", {}).get(advisory)
+
+    def perhaps(self, one: Found, machine: verdicts.Machine) -> dict[str, list[Sequence[str]]]:
+        """The items and facts of what is another verdict where an item says less, by the advisories in the order of the feeds."""
+        found: dict[str, list[Sequence[str]]] = {}
+        for it in one.perhaps:
+            found.setdefault(machine.whole(it.id), []).append((it.item, it.fact))
+        rows = self._taken.get(one.machine.name, {})
+        found |= {row.id: list(row.perhaps) for row in rows.values() if row.perhaps}
+        ids = sorted(found, key=self._order.__getitem__) if rows else found
+        return {id: found[id] for id in ids if id in machine.perhaps}
 
     def on(self, advisory: str, machine: str | None) -> list[str]:
         """The reasons, in words, without repeats."""
-        one = self._found[machine or ""]
+        row, one = self.row(advisory, machine), self._found[machine or ""]
+        if row is not None:
+            return list(row.hangs)
         reasons: dict[str, None] = {}
         for place in self._parts.get(advisory, ()):
             reasons.update(dict.fromkeys(one.partly.get(place, ())))
@@ -107,16 +130,21 @@ class Hanging:
 
     def remarks(self, advisory: str, machine: str | None) -> list[str]:
         """The packages of distributions that alone make it TRUE, each once."""
-        one = self._found[machine or ""]
+        row, one = self.row(advisory, machine), self._found[machine or ""]
+        if row is not None:
+            return list(row.remarks)
         if not one.backported:
             return []
         found = [one.backported.get(place) for place in self._parts.get(advisory, ()) if one.truths.get(place) == "TRUE"]
         return list(dict.fromkeys(remark for remarks in found for remark in remarks or ())) if all(found) else []
 
 
-def machines_with_verdicts(known: Known, bare: Sequence[str], found: Iterable[Found]) -> list[verdicts.Machine]:
-    """The machines with what isn't FALSE there, the parts of an advisory joined by OR."""
+def machines_with_verdicts(
+    known: Known, bare: Sequence[str], found: Iterable[Found], taken: Taken | None = None
+) -> list[verdicts.Machine]:
+    """The machines with what isn't FALSE there, the parts of an advisory joined by OR, in the order of the feeds."""
     without_items = {place: truth for place, truth in enumerate(bare) if truth != "FALSE"}
+    order = {id: number for number, id in enumerate(known.order)} if taken else {}
     machines = []
     for one in found:
         if not one.has_items():
@@ -124,9 +152,14 @@ def machines_with_verdicts(known: Known, bare: Sequence[str], found: Iterable[Fo
             machines.append(verdicts.Machine(one.machine.name, has_items=False))
             continue
         machine = verdicts.Machine(one.machine.name, known.ids)
-        for place, truth in sorted({**without_items, **one.truths}.items()):
-            if truth != "FALSE" or place in one.less:
-                machine.put(known.statements[place].id, truth, place in one.less)
+        truths = sorted({**without_items, **one.truths}.items())
+        rows = [(known.statements[place].id, truth, place in one.less) for place, truth in truths if truth != "FALSE" or place in one.less]
+        earlier = taken.get(one.machine.name, ()) if taken else ()
+        if earlier:
+            rows += [(row.id, row.truth, row.is_perhaps) for row in earlier]
+            rows.sort(key=lambda row: order[machine.whole(row[0])])
+        for row in rows:
+            machine.put(*row)
         machines.append(machine)
     return machines
 
@@ -161,40 +194,49 @@ def tell_items(
 
 
 def json_of(
-    known: Known, found: Sequence[Found], machines: Sequence[verdicts.Machine], about: affected.About, unnamed: Unnamed | None = None
+    known: Known,
+    found: Sequence[Found],
+    machines: Sequence[verdicts.Machine],
+    about: affected.About,
+    unnamed: Unnamed | None = None,
+    hanging: Hanging | None = None,
 ) -> dict[str, Json]:
     """The result as one value, with the verdicts that the machines show, and the packages that have no sure name."""
-    of_machines = [_machine_json(one, machine, about, known.parts) for one, machine in zip(found, machines)]
+    hanging = hanging or Hanging(known, found)
+    of_machines = [_machine_json(one, machine, about, known.parts, hanging) for one, machine in zip(found, machines)]
     for row in of_machines if unnamed is not None else ():
         row |= unnamed.json(row["name"])
     return {"advisories": len(known.ids.advisories), "machines": of_machines}
 
 
 def _machine_json(
-    one: Found,
-    machine: verdicts.Machine,
-    about: affected.About,
-    parts: Mapping[str, Sequence[int]],
+    one: Found, machine: verdicts.Machine, about: affected.About, parts: Mapping[str, Sequence[int]], hanging: Hanging
 ) -> Json:
     row: dict[str, Json] = {"name": machine.name, "items": len(one.components)}
     if machine.has_items:
         row["verdicts"] = [
-            _verdict_json(id, truth, machine, about) | _decided_json(one, truth, parts.get(id, ()))
+            _verdict_json(id, truth, machine, about) | _decided_json(decided_by(one, id, truth, parts, hanging))
             for id, truth in _in_order(machine, about)
         ]
-        row["perhaps"] = [
-            {"id": id, "item": it.item, "fact": it.fact} for it in one.perhaps if (id := machine.whole(it.id)) in machine.perhaps
-        ]
+        perhaps = hanging.perhaps(one, machine)
+        row["perhaps"] = [{"id": id, "item": item, "fact": fact} for id, pairs in perhaps.items() for item, fact in pairs]
         row["notInDictionary"] = [leads[0].name for leads in one.unlisted]
         row["underRemovedName"] = one.removed()
     return row
 
 
-def _decided_json(one: Found, truth: str, places: Sequence[int]) -> dict[str, Json]:
-    """Which items make it TRUE, in words, where it was asked for."""
+def decided_by(one: Found, id: str, truth: str, parts: Mapping[str, Sequence[int]], hanging: Hanging) -> list[str] | None:
+    """Which items make it TRUE, in words; None if that wasn't asked for."""
+    row, places = hanging.row(id, one.machine.name), parts.get(id, ())
+    if row is not None:
+        return None if row.decided_by is None else list(row.decided_by)
     if truth != "TRUE" or one.deciding is None or not any(place in one.deciding for place in places):
-        return {}
-    return {"decidedBy": list(dict.fromkeys(reason for place in places for reason in one.deciding.get(place, ())))}
+        return None
+    return list(dict.fromkeys(reason for place in places for reason in one.deciding.get(place, ())))
+
+
+def _decided_json(reasons: list[str] | None) -> dict[str, Json]:
+    return {} if reasons is None else {"decidedBy": reasons}
 
 
 def _in_order(machine: verdicts.Machine, about: affected.About) -> list[tuple[str, str]]:

@@ -168,12 +168,30 @@ class Program:
             raise Fatal(f"{self.path} {' '.join(words)} ended with status {run.returncode}")
         return run.stdout
 
-    def accepted(self, candidates: Iterable[Candidate], said: Said, unsaid: str = "") -> list[str]:
+    def over(self, entries: Sequence[str], questions: Iterable[str]) -> Iterator[str]:
+        """What the program writes over questions behind these entries. A refused line is counted from the first question."""
+        for line in self.lines(["resolve"], itertools.chain(entries, questions)):
+            if line.startswith("refused "):
+                _, number, reason = line.split(" ", 2)
+                if int(number) > len(entries):
+                    yield f"refused {int(number) - len(entries)} {reason}"
+            else:
+                yield line
+
+    def refused(self, kept: Sequence[Candidate], are_entries: bool) -> dict[int, str]:
+        """Why records are refused, by their numbers, of entries and what leads them on, or of others."""
+        return refusals(self.lines(["resolve"], (one.record for one in kept)))
+
+    def accepted_entries(self, candidates: Iterable[Candidate], said: Said) -> list[str]:
+        """The records of a dictionary that cpe accepts. Of an entry that comes more than once the first one counts."""
+        return self.accepted(candidates, said, unsaid="exists", are_entries=True)
+
+    def accepted(self, candidates: Iterable[Candidate], said: Said, unsaid: str = "", are_entries: bool = False) -> list[str]:
         """The records that cpe accepts, each after those before it. The others are said, but for those that it refuses for
         the reason `unsaid`."""
         kept = list(candidates)
         # (what cpe refuses changes nothing, so the records that are left do the same without it; an empty line has a number)
-        reasons = refusals(self.lines(["resolve"], (one.record for one in kept)))
+        reasons = self.refused(kept, are_entries)
         records = []
         for number, one in enumerate(kept, 1):
             if not one.record:

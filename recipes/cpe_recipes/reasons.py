@@ -51,7 +51,9 @@ class Reasons:
             for fact, is_told in facts:
                 if any(name in called for name in covered[fact]):
                     continue
-                for it in (called[name] for name in may_be[fact] if name in called):
+                there = set(may_be[fact])
+                # (in the order of this machine, whatever the other ones have)
+                for it in (it for name, it in called.items() if name in there):
                     if it.sure is Sure.LESS and place in one.less:
                         one.perhaps[Perhaps(self._known.statements[place].id, it.item, fact)] = None
                     if not is_told:
@@ -62,9 +64,10 @@ class Reasons:
     def _facts(self, one: Found) -> dict[int, list[tuple[str, bool]]]:
         """The facts of the statements that hang on what items may be, but those of ranges that are outside."""
         found: dict[int, list[tuple[str, bool]]] = {}
-        if not any(names.is_known_in_part(it.name) for it in one.called):
+        places = sorted({*one.places_of("UNKNOWN"), *one.less})
+        if not places or not any(names.is_known_in_part(it.name) for it in one.called):
             return found
-        for place in sorted({*one.places_of("UNKNOWN"), *one.less}):
+        for place in places:
             facts = list(self._facts_of(one, place))
             if facts:
                 found[place] = facts

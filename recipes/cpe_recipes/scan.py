@@ -55,7 +55,8 @@ result: then nothing was written except why. It is 3 if a verdict fits a gate, w
 """
 from __future__ import annotations
 
-from collections.abc import Collection, Iterable, Iterator, Mapping, Sequence
+import itertools
+from collections.abc import Callable, Collection, Iterable, Iterator, Mapping, Sequence
 from dataclasses import dataclass, field
 
 from . import advisories, affected, dictionary, formats, gating, hints, latest, matches, platforms, portions, products, suppressed, threats
@@ -65,20 +66,27 @@ from .calling import Calling, Wanted, listed_by_name
 from .cases import Cases, Index, Items, Known, Results, lines_of, portions_of, verdicts_of
 from .components import Machine
 from .decide import LETTERS, Decider, Leads, Lists, decide, leads_in, leads_of
-from .deciding import Deciding
+from .deciding import Asked as AskedOf
+from .deciding import Chosen, Deciding
+from .difference import Difference, Prepared
+from .earlier import Rests, checksum_of
 from .feeds import FeedFault, Json, Page, name_of, read_feed, text_lines
 from .formats import Form
 from .gating import Gates
+from .keeping import Decided, Keeping
 from .machines import read_lists, read_machines
+from .names_table import Tables
 from .naming import Unnamed, name_machines, read_names
 from .near_products import Product
 from .negations import Negations, has_hardware
-from .outcome import MOST_ALIKE, Found, Hanging, json_of, machines_with_verdicts, tell_items
+from .outcome import MOST_ALIKE, Found, Hanging, Taken, json_of, machines_with_verdicts, tell_items
 from .program import Candidate, Program
 from .progress import Progress
 from .reasons import Reasons
 from .said import Fatal, Mute, Noting, Output, Said
 from .settled import read_settled
+from .staying import Staying, dropping
+from .stored import Found as StoreFound
 from .stored import Stored
 from .threats import Threats
 from .unanalysed import States
@@ -93,6 +101,7 @@ USAGE = (
 )
 OPTIONS = {
     "--store": ONE,
+    "--fresh": FLAG,
     "--dictionary": MANY,
     "--records": MANY,
     "--advisories": MANY,
@@ -130,15 +139,16 @@ class Scan:
         has_hardware: bool = True,
     ) -> None:
         self._program, self._known, self._lists, self._letters, self._progress = program, known, lists, letters, progress
-        self.deciding = Deciding(program, known) if has_why else None
+        self.deciding: Deciding | None = Chosen(program, known, lambda: self._leads) if has_why else None
         self._is_strict, self._has_hardware = is_strict, has_hardware
         self.bare: list[str] = []
         self.successors: dict[Product, list[Product]] = {}
+        self.calling: Calling | None = None
         self._leads = Leads()
 
     def machines(self, machines: Sequence[Machine], is_all_asked: bool = False) -> list[Found]:
         """What comes of the machines. Where all statements are asked of each, that is the same, and takes longer."""
-        calling = self._lead(dict.fromkeys(name for machine in machines for name in machine.asked_names()))
+        calling = self.calling = self._lead(dict.fromkeys(name for machine in machines for name in machine.asked_names()))
         found = [self._found(machine, calling) for machine in machines]
         self._decide(found, is_all_asked)
         return found
@@ -154,6 +164,11 @@ class Scan:
         unlisted = [of_one for of_one in listed if of_one and not any(lead.is_entry for lead in of_one)]
         of_components = list(components.values())
         return Found(machine, list(leads.values()), of_components, unlisted, calling.of_components(of_components))
+
+    @property
+    def leads(self) -> Leads:
+        """Where the names of the last machines lead."""
+        return self._leads
 
     def tell_items(self, found: Sequence[Found], said: Said, hint: str) -> None:
         tell_items(found, self._leads.refused, self.successors, said, hint)
@@ -183,10 +198,12 @@ class Scan:
         for one, of_machine in zip(found, asked):
             self._put(one, of_machine, truths)
         Reasons(self._program, self._known, self._leads).put(found)
-        for done, one in enumerate(found):
-            if self.deciding is not None:
+        if self.deciding is not None:
+            reasons = self.deciding.of_machines([AskedOf(one.asked, one.decided, one.places_of("TRUE")) for one in found])
+            for done, (one, of_one) in enumerate(zip(found, reasons, strict=True)):
                 self._progress.count("asking which items decide", done, len(found))
-                one.deciding = self.deciding.reasons(one.asked, one.decided, one.places_of("TRUE"))
+                one.deciding = of_one
+        for one in found:
             one.note_backported(self._known.statements, lambda fact: self._leads.found[fact].name)
             # (what is decided is in the verdicts, and would be much beside them)
             one.decided.clear()
@@ -212,7 +229,10 @@ class Scan:
         self.bare = []
         for portion in portions_of(self._known):
             of_portion = [case for case in cases if case[2] in portion]
-            answers = verdicts_of(self._program.lines(["resolve"], lines_of(self._known, portion, of_portion)))
+            asked = lines_of(self._known, portion, of_portion)
+            # (the run may be asked for more after that)
+            drops = dropping(self._known.statements[place].id for place in portion)
+            answers = verdicts_of(self._program.lines(["resolve"], itertools.chain(asked, drops)))
             self.bare += [_next(answers) for _ in portion]
             for _, _, _, number in of_portion:
                 truths[number] = _next(answers)
@@ -249,6 +269,17 @@ class _Asked:
     beside: dict[int, int] = field(default_factory=dict)
 
 
+class _Again(Scan):
+    """Decides what may have changed since an earlier scan, over names of items that are known."""
+
+    def prepare(self, prepared: Prepared) -> None:
+        self._prepared = prepared
+
+    def _lead(self, items: Collection[str]) -> Calling:
+        self._leads, self.successors = self._prepared.leads, self._prepared.successors
+        return self._prepared.calling
+
+
 def _ends(called: Iterable[Called]) -> list[str]:
     """The names that are held against ranges."""
     return [one.name for one in called if not one.is_spelled]
@@ -266,7 +297,7 @@ def read_entries(read: Words, program: Program, said: Said, reading: whole.Readi
     candidates = _records(read.many("--records"))
     if read.has("--dictionary"):
         candidates += dictionary.candidates_of(read.many("--dictionary"), said, strict=True, reading=reading)
-    entries = program.accepted(candidates, said, unsaid="exists")
+    entries = program.accepted_entries(candidates, said)
     if not entries:
         raise Fatal("no entry is in the dictionary")
     return entries
@@ -343,11 +374,11 @@ def run(words: Sequence[str]) -> int:
     one_of = [("--dictionary", "--records", "--store"), ("--advisories", "--store"), ("--machines", "--lists")]
     form = Form.of(read)
     is_odd = read.has("--machines") and read.has("--lists") or read.has("--why") and form.is_table()
+    is_odd = is_odd or read.has("--fresh") and not read.has("--store")
     is_odd = is_odd or read.has("--store") and any(map(read.has, ("--dictionary", "--records", "--advisories", "--matches")))
     if read.files or is_odd or not all(any(map(read.has, options)) for options in one_of):
         raise Fatal(f"usage: {USAGE}")
-    program = Program()
-    with Progress() as progress:
+    with Staying() as program, Progress() as progress:
         said = Noting(before=progress.clear, most_alike=MOST_ALIKE)
         beside = Threats.of(read, said)
         gates = Gates.of(read, beside)
@@ -358,6 +389,7 @@ def run(words: Sequence[str]) -> int:
     output = Output()
     output.lines(lines)
     output.end()
+    result.keep()
     return gating.FITS if does_fit else said.status()
 
 
@@ -372,6 +404,7 @@ class _Result:
     machines: list[verdicts.Machine]
     about: affected.About
     unnamed: Unnamed
+    keep: Callable[[], None]
 
     def asked(self) -> Collection[str]:
         """The ids of the advisories that have verdicts."""
@@ -386,36 +419,105 @@ def _result(read: Words, program: Program, said: Noting, progress: Progress, bes
     asked = read_asked(read, said)
     reading = whole.Reading.of(read)
     tables = read_names(read.many("--names"), asked)
-    if read.has("--store"):
-        progress.step("reading the store")
-        ids = {*settled.ids(), *accepted.ids()}
-        with Stored(str(read.only("--store")), program, said, reading).opened() as store:
-            taken = store.take(asked, tables, ids, is_all=read.has("--all"))
-            listed = store.listed(taken.known.ranges.keys())
-        known, states, unnamed = taken.known, taken.states, taken.unnamed
-    else:
-        progress.step("reading the dictionary")
-        entries = read_entries(read, program, said, reading)
-        unnamed = name_machines(asked, tables, entries)
-        known, states = read_known(read, entries, asked, program, said, progress, reading)
-        progress.step("reading the match feed")
-        matched = read.many("--matches")
-        feed = whole.pages(matched, said, matches.KINDS, strict=True, reading=reading) if matched else []
-        listed = matches.listed(feed, known.ranges.keys(), said)
-    lists = Lists(program, listed)
-    scan = Scan(program, known, lists, letters, progress, read.has("--why"), read.has("--strict"), has_hardware(read))
+    given = _Given(read, program, said, progress, reading, letters, asked, {*settled.ids(), *accepted.ids()})
+    taken = _of_store(given, tables) if read.has("--store") else _of_feeds(given, tables)
+    known, scan = taken.known, taken.scan
     found = scan.machines(asked)
     hint = hints.unlisted(read)
     scan.tell_items(found, said, hint)
-    unnamed.tell(said, hint)
+    taken.unnamed.tell(said, hint)
     platforms.remark_silent([one.machine for one in found if one.has_items()], known, said)
-    machines = machines_with_verdicts(known, scan.bare, found)
+    machines = machines_with_verdicts(known, scan.bare, found, taken.rows)
+    hanging = Hanging(known, found, taken.rows)
+    keep = taken.keep(found, machines, hanging, said)
     settled.settle(machines, said)
     if read.has("--all"):
         for machine in machines:
             machine.show_all()
-    about = affected.About(known.details, accepted, Hanging(known, found), reading.doubts(), beside)
-    return _Result(known, states, reading, found, machines, about, unnamed)
+    about = affected.About(known.details, accepted, hanging, reading.doubts(), beside)
+    return _Result(known, taken.states, reading, found, machines, about, taken.unnamed, keep)
+
+
+@dataclass(frozen=True)
+class _Given:
+    """What is given to a scan, and the ids of which something is settled or accepted."""
+
+    read: Words
+    program: Program
+    said: Noting
+    progress: Progress
+    reading: whole.Reading
+    letters: Letters
+    asked: Sequence[Machine]
+    ids: Collection[str]
+
+    def scan(self, known: Known, lists: Lists, of: type[Scan] = Scan) -> Scan:
+        read = self.read
+        return of(self.program, known, lists, self.letters, self.progress, read.has("--why"), read.has("--strict"), has_hardware(read))
+
+
+@dataclass(frozen=True)
+class _Ready:
+    """What is known for a scan; and from a store the verdicts of an earlier one, and what is kept of this one."""
+
+    known: Known
+    states: States
+    unnamed: Unnamed
+    scan: Scan
+    rows: Taken = field(default_factory=dict)
+    keeping: Keeping | None = None
+    store: StoreFound | None = None
+    doubts: Sequence[str] = ()
+
+    def keep(self, found: Sequence[Found], machines: Sequence[verdicts.Machine], hanging: Hanging, said: Noting) -> Callable[[], None]:
+        """What keeps the verdicts, before any is settled; it is called when the result is written."""
+        keeping, store, scan = self.keeping, self.store, self.scan
+        if keeping is None or store is None or scan.calling is None:
+            return lambda: None
+        decided = Decided(self.known, scan.leads, scan.calling, scan.successors, found, hanging, store.placed, store.is_whole)
+        states = {id: f"not analysed: {state}" for id, state in self.states.unanalysed.items()} | dict.fromkeys(self.states.rejected, "rejected")
+        reasons = {id: f"left out: {reason}" for id, reason, _ in said.noted}
+        after = verdicts.Verdicts(list(machines), 0, True, reasons, states, list(self.doubts), "it isn't in the feeds")
+        fleet = keeping.fleet(decided, machines, after)
+        return lambda: keeping.put(fleet, said)
+
+
+def _of_feeds(given: _Given, tables: Tables) -> _Ready:
+    read, program, said, progress = given.read, given.program, given.said, given.progress
+    progress.step("reading the dictionary")
+    entries = read_entries(read, program, said, given.reading)
+    unnamed = name_machines(given.asked, tables, entries)
+    known, states = read_known(read, entries, given.asked, program, said, progress, given.reading)
+    progress.step("reading the match feed")
+    matched = read.many("--matches")
+    feed = whole.pages(matched, said, matches.KINDS, strict=True, reading=given.reading) if matched else []
+    lists = Lists(program, matches.listed(feed, known.ranges.keys(), said))
+    return _Ready(known, states, unnamed, given.scan(known, lists))
+
+
+def _of_store(given: _Given, tables: Tables) -> _Ready:
+    read, program, asked = given.read, given.program, given.asked
+    folder, is_all = str(read.only("--store")), read.has("--all")
+    given.progress.step("reading the store")
+    with Stored(folder, program, given.said, given.reading).opened() as store:
+        unnamed = store.named(asked, tables)
+        keeping = None if is_all else Keeping(folder, _rests(given, store), [machine.name for machine in asked])
+        if keeping is not None and keeping.earlier is not None and not read.has("--fresh"):
+            prepared = Difference(store, keeping.earlier, asked, program, given.letters).prepared(given.ids)
+            if prepared is not None:
+                found = prepared.found
+                scan = given.scan(found.known, prepared.lists, _Again)
+                scan.prepare(prepared)
+                return _Ready(found.known, found.states, unnamed, scan, prepared.rows, keeping, found, given.reading.doubts())
+        found = store.take(asked, given.ids, is_all)
+        lists = Lists(program, store.listed(found.known.ranges.keys()))
+    return _Ready(found.known, found.states, unnamed, given.scan(found.known, lists), {}, keeping, found, given.reading.doubts())
+
+
+def _rests(given: _Given, store: Stored) -> Rests:
+    """What all verdicts of this scan rest on."""
+    options = [given.read.has(option) for option in ("--why", "--strict")] + [given.read.one("--hardware")]
+    return Rests(checksum_of(given.program, given.letters, options), *store.pages())
 
 
 def _lines(form: Form, result: _Result, said: Noting) -> list[str]:
@@ -427,7 +529,7 @@ def _lines(form: Form, result: _Result, said: Noting) -> list[str]:
         lines = list(affected.table_of(verdicts.Verdicts(result.machines), about))
         lines += [*reading.lines(), *(states.lines() if form.is_all else ())]
     else:
-        value: dict[str, Json] = reading.mark(json_of(result.known, result.found, result.machines, about, result.unnamed))
+        value: dict[str, Json] = reading.mark(json_of(result.known, result.found, result.machines, about, result.unnamed, about.hanging))
         value |= states.json(result.asked()) | about.threats.about()
         value["leftOut"] = said.json()
         lines = form.lines(value)

@@ -113,7 +113,7 @@ def _told_of_pages(kept: Kept, kind: str) -> Iterator[dict[str, Json]]:
 def _told_of_dictionary(kept: Kept, program: Program) -> list[dict[str, Json]]:
     """What cpe refuses of the dictionary, and what can't be read of it."""
     noted = _Noted()
-    program.accepted(candidates_of(kept, _rows_of_deprecations(kept)), noted, unsaid="exists")
+    program.accepted_entries(candidates_of(kept, _rows_of_deprecations(kept)), noted)
     return [{"left": list(one)} for one in noted.noted]
 
 

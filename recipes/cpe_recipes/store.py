@@ -3,6 +3,7 @@
     python3 store.py add --store FOLDER [--large] [PAGES..]
     python3 store.py status --store FOLDER
     python3 store.py check --store FOLDER
+    python3 store.py changes --store FOLDER [--since TIME]
     python3 store.py forget --store FOLDER FILES..
 
 - add: adds pages of NVD's API 2.0 or its feeds, of products, advisories and matches, and CVE records of format 5, plain, packed or in
@@ -12,8 +13,10 @@
   left out, as it does with what could not be read, until a good one comes. Without pages it works out what a stopped one had not.
 - status: how much is in the store, when it was last added to, which pages of a feed are missing, which runs that add have not ended, and
   what could not be read.
-- check: reads all of it again, and compares what is derived of it with that. It doesn't see a product, a list, a title or a time that is
-  another one than was added, or that a product or a list isn't there any more: of these nothing else is kept.
+- check: reads all of it again, and compares what is derived of it with that, and the records of each page with a sum of those that were
+  added.
+- changes: what the scans from it found otherwise than those before, by their feeds and lists alone: lines as changes.sh writes them, each
+  with the time of its scan before it; with --since those of that time and later ones. A scan with --all finds none.
 - forget: of files that could not be read, or not be added to their end, and won't come any more, no scan says so after this.
 
 `scan.py --store FOLDER` scans from it (kept.py, adding.py and stored.py say how). The status is 0 if all was added, or nothing is missing or
@@ -27,11 +30,12 @@ from collections.abc import Callable, Iterator, Mapping, Sequence
 
 from . import checking, feeds
 from .adding import KINDS, Adding
+from .earlier import Fleets
 from .kept import Kept
 from .latest import time_of
 from .program import Program
 from .progress import Progress
-from .said import Fatal, Output, Said
+from .said import Fatal, Output, Said, shown
 from .settling import settle, say_faults, say_unended, say_unread, told_of
 from .table import counted
 from .unpack import LARGE, TOLD_LIMITS
@@ -40,18 +44,28 @@ from .words import FLAG, ONE, Words, read_words
 
 USAGE = (
     "store.py add --store FOLDER [--large] [PAGES..] | store.py status --store FOLDER | store.py check --store FOLDER | "
-    "store.py forget --store FOLDER FILES.."
+    "store.py changes --store FOLDER [--since TIME] | store.py forget --store FOLDER FILES.."
 )
-OPTIONS = {"--store": ONE, "--large": FLAG}
+# What each word takes beside the folder: options, and whether it takes files.
+_TAKES: Mapping[str, tuple[Mapping[str, int], bool | None]] = {
+    "add": ({"--large": FLAG}, None),
+    "status": ({}, False),
+    "check": ({}, False),
+    "changes": ({"--since": ONE}, False),
+    "forget": ({}, True),
+}
 
 
 def run(words: Sequence[str]) -> int:
-    verbs: Mapping[str, Callable[[str, Words, Said, Output], None]] = {"add": _add, "status": _status, "check": _check, "forget": _forget}
+    verbs: Mapping[str, Callable[[str, Words, Said, Output], None]] = {
+        "add": _add, "status": _status, "check": _check, "changes": _changes, "forget": _forget,
+    }
     if not words or words[0] not in verbs:
         raise Fatal(f"usage: {USAGE}")
-    read = read_words(words[1:], OPTIONS, USAGE)
+    options, takes_files = _TAKES[words[0]]
+    read = read_words(words[1:], {"--store": ONE, **options}, USAGE)
     folder = read.only("--store")
-    if folder is None or words[0] != "add" and (bool(read.files) != (words[0] == "forget") or read.has("--large")):
+    if folder is None or takes_files not in (None, bool(read.files)):
         raise Fatal(f"usage: {USAGE}")
     said, output = Said(), Output()
     verbs[words[0]](folder, read, said, output)
@@ -138,6 +152,17 @@ def _check(folder: str, read: Words, said: Said, output: Output) -> None:
         count = checking.check(kept, Program(), said)
     kept.close()
     output.line(f"{counted(count, 'record')} read again, {said.left} wrong")
+
+
+def _changes(folder: str, read: Words, said: Said, output: Output) -> None:
+    since = read.only("--since")
+    first = time_of(since or "")
+    if since is not None and first == time_of(""):
+        raise Fatal(f"--since is {since}, and a time is expected, such as 2026-12-31 or 2026-12-31T12:00:00+00:00")
+    # (so that what is no store is said)
+    Kept(folder).close()
+    found = {(time, line) for fleet in Fleets(folder).all() for time, _, line in fleet.changes if time_of(time) >= first}
+    output.lines([shown(f"{time} {line}") for time, line in sorted(found)])
 
 
 def _forget(folder: str, read: Words, said: Said, output: Output) -> None:

@@ -73,7 +73,7 @@ def _records(read: Words, program: Program, said: Said) -> list[str]:
     records = read_entries(read.many("--records"))
     if read.has("--dictionary"):
         candidates = dictionary.candidates_of(read.many("--dictionary"), said, strict=True, reading=whole.Reading.of(read))
-        records += program.accepted(candidates, said, unsaid="exists")
+        records += program.accepted_entries(candidates, said)
     return records
 
 

@@ -29,6 +29,13 @@ class Statements:
         self.advisories = dict.fromkeys(self.whole.values())
         self.count = len(self.advisories) if count is None else count
 
+    @staticmethod
+    def of_advisories(ids: Sequence[str]) -> Statements:
+        """Those of which it is known that they were asked for, whatever parts they had."""
+        found = Statements([], len(ids))
+        found.advisories = dict.fromkeys(ids)
+        return found
+
     def has(self, advisory: str) -> bool:
         return advisory in self.advisories
 

@@ -96,7 +96,7 @@ class Reading:
 @dataclass(frozen=True)
 class Span:
     """A page as a part of its feed: the index of its first record, how many it has and says that it has, and of how many. If it hasn't
-    all of its feed, it has the ids of its records too, or numbers that stand for these."""
+    all of its feed, or is kept in a store, it has the ids of its records too, or numbers that stand for these."""
 
     name: str
     start: int
@@ -161,7 +161,12 @@ def span_of(page: Page) -> Span:
     # (the last page may tell how many it has room for)
     said = min(said, max(total - start, 0))
     span = Span(page.name, start, count, said, total, ())
-    return span if span.is_alone() else replace(span, ids=[_id(record, page.kind) for record in page.records])
+    return span if span.is_alone() else replace(span, ids=ids_of(page))
+
+
+def ids_of(page: Page) -> list[Json]:
+    """The ids of the records of a page, None in place of one that isn't there."""
+    return [_id(record, page.kind) for record in page.records]
 
 
 def _id(record: Json, kind: str) -> Json:
@@ -193,7 +198,8 @@ def odd_of(kind: str, spans: Iterable[Span]) -> Iterator[Missing]:
 
 def missing_of_runs(kind: str, runs: Iterable[Sequence[Span]], said: Said) -> list[Missing]:
     """What is missing of feeds of which runs gave pages, one after the other. What a run gave is judged by itself, and if it isn't whole,
-    with what is left of the runs before. It is no longer missing if a later feed is whole, as large, and has all that was given of it."""
+    with what is left of the runs before. It is no longer missing if a later feed is whole, as large, and has all that was given of it. The
+    feeds of one page each that a run gave, such as those of years, count as one feed for that."""
     feeds_of_runs = _Runs(kind, said)
     for spans in runs:
         feeds_of_runs.put(spans)
@@ -229,13 +235,17 @@ class _Runs:
         self.odd += [span for span in spans if any(odd_of(self._kind, [span]))]
         for feed in [*found, *joined]:
             self._end(feed)
+        self._drop([span for span in spans if span.is_alone()], self._runs)
 
     def _end(self, feed: Sequence[Span]) -> None:
         """Takes a feed that is whole, and with it what it ends."""
         list(_judged(self._kind, feed, self._said))
         self._closed.update(map(id, feed))
         self._spare = {key: span for key, span in self._spare.items() if all(span is not one for one in feed)}
-        since = min(self._last[id(span)] for span in feed)
+        self._drop(feed, min(self._last[id(span)] for span in feed))
+
+    def _drop(self, feed: Sequence[Span], since: int) -> None:
+        """Drops what a feed ends that was given since this run."""
         self.odd = [span for span in self.odd if not self._is_ended([span], feed, since)]
         left = [span for span in self.left if id(span) not in self._closed]
         self.left = [span for group in _feeds(left) if not self._is_ended(group, feed, since) for span in group]
@@ -263,8 +273,15 @@ def _parted(kind: str, spans: Sequence[Span]) -> tuple[list[list[Span]], list[Sp
 def _ends(feed: Sequence[Span], other: Sequence[Span]) -> bool:
     """Whether a feed that is whole is as large as another one, and has all that was given of it."""
     given = {id for span in other for id in span.ids}
-    is_as_large = max(span.total for span in feed) >= max(span.total for span in other)
+    is_as_large = _size(feed) >= max(span.total for span in other)
     return bool(given) and None not in given and is_as_large and given.issubset(id for span in feed for id in span.ids)
+
+
+def _size(feed: Sequence[Span]) -> int:
+    """How many records a feed that is whole has; those of feeds of one page each are counted together, each once."""
+    if all(span.is_alone() for span in feed):
+        return len({id for span in feed for id in span.ids} - {None})
+    return max(span.total for span in feed)
 
 
 def _missing(kind: str, spans: Sequence[Span], said: Said) -> Iterator[Missing]:

@@ -2,13 +2,19 @@
 import json
 import os
 import subprocess
+import tempfile
 import unittest
+from pathlib import Path
+from unittest import mock
 
+from drawn_feeds import Feeds
+from test_store import OPTIONS, ran
 from test_scan import SAMPLES, entry, deprecate, name, ranged, scanned, statement
+from cpe_recipes import scan
 from cpe_recipes.advisories import Range
 from cpe_recipes.cases import Known
 from cpe_recipes.decide import Decided
-from cpe_recipes.deciding import Told
+from cpe_recipes.deciding import Deciding, Told
 from cpe_recipes.components import Machine
 
 
@@ -87,6 +93,21 @@ class Asked(unittest.TestCase):
         ]
         self.assertGreater(len(rows), 20)
         self.assertEqual([row for row in rows if not row[2]], [])
+
+
+    def test_what_is_chosen_is_what_is_explained(self):
+        count = 0
+        for seed in range(12):
+            with tempfile.TemporaryDirectory() as folder, self.subTest(seed):
+                feeds = Feeds(seed)
+                pages = feeds.whole(Path(folder))
+                words = [word for kind, paths in pages.items() for word in (OPTIONS[kind], *paths)]
+                words += ["--json", "--why", "--machines", feeds.machines(Path(folder) / "machines", count=8)]
+                found = ran(scan.run, words)
+                with mock.patch.object(scan, "Chosen", lambda program, known, _: Deciding(program, known)):
+                    self.assertEqual(found, ran(scan.run, words))
+                count += found[1].count('"decidedBy"')
+        self.assertGreater(count, 100)
 
 
 if __name__ == "__main__":

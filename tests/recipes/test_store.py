@@ -1,5 +1,7 @@
 """A store of feeds: a scan from it writes what a scan of all pages writes, whatever was added, killed, old or twice; and bad stores."""
+import functools
 import io
+import itertools
 import json
 import os
 import shutil
@@ -20,7 +22,7 @@ from test_portions import SMALL, advisory, limited, match
 
 from test_feeds import Heard
 
-from cpe_recipes import adding, cve5, feeds, fleet, made, scan, store, stored
+from cpe_recipes import adding, cve5, feeds, fleet, made, names_table, scan, store, stored
 from cpe_recipes.kept import FILE, VERSION, Kept
 from cpe_recipes.program import Program
 from cpe_recipes.said import Fatal
@@ -136,6 +138,8 @@ def of_verdicts(said):
 
 
 @needs_cpe
+# (which never changes, and takes as long as all else)
+@mock.patch("cpe_recipes.names_table.read_table", functools.cache(names_table.read_table))
 class Sequences(unittest.TestCase):
     def test_a_scan_from_a_store_writes_what_a_scan_of_all_pages_does(self):
         kills = 0
@@ -180,9 +184,10 @@ class Stores(RecipeCase):
         super().setUp()
         self.store = str(self.folder / "store")
         self.machines = self.file("machines", f"m {HERE}\n")
+        self.pages = itertools.count()
 
     def add(self, *pages, status=0):
-        paths = [one if isinstance(one, str) else self.file(f"page-{len(os.listdir(self.folder))}.json", one) for one in pages]
+        paths = [one if isinstance(one, str) else self.file(f"page-{next(self.pages)}.json", one) for one in pages]
         found, written, said = ran(store.run, ["add", "--store", self.store, *paths])
         self.assertEqual(found, status, said)
         return written.strip(), said
@@ -384,6 +389,17 @@ class Stores(RecipeCase):
             self.assertIn("the feed has 40 advisories, 2 were given", self.scan_is_fatal())
         self.add(*(page("vulnerabilities", cve(n, match(HERE)), start=k, total=51) for k, n in enumerate(range(10, 61))))
         self.verdicts()
+
+    def test_a_gap_that_feeds_of_one_page_each_end(self):
+        self.filled()
+        self.add(page("vulnerabilities", cve(4, match(HERE)), cve(5, match(HERE)), total=4))
+        years = self.of_years()
+        # (those of one run have fewer, and those of the other one not all that was given)
+        for some in (years[:2], years[1:]):
+            self.add(*some)
+            self.assertIn("the feed has 4 advisories, 2 were given", self.scan_is_fatal())
+        self.add(*years)
+        self.assertEqual(set(self.verdicts()[0]), {"1", *map(str, range(4, 9))})
 
     def test_what_a_stopped_run_had_not_worked_out(self):
         with mock.patch("cpe_recipes.store.settle", side_effect=KeyboardInterrupt), self.assertRaises(KeyboardInterrupt):
@@ -740,12 +756,16 @@ class Stores(RecipeCase):
     def test_what_stands_beside_another_record(self):
         edits = {
             "its product": "UPDATE concerns SET product = product % 2 + 1", "none of its products": "DELETE FROM concerns",
-            "its ranges": "INSERT INTO ranged SELECT 'K', min(place), 1 FROM advisories",
+            "its ranges": "INSERT INTO ranged SELECT 'K', min(place), 1, 7 FROM advisories",
             "its state": "UPDATE advisories SET state = 'Rejected'", "its record": "UPDATE advisories SET data = x'00' WHERE place % 2",
             "its name": "UPDATE products SET product = product % 2 + 1", "its page": "DELETE FROM pages WHERE kind = 'products'",
             "what it becomes": "UPDATE made SET data = x'00'", "its id": "UPDATE advisories SET id = 'CVE-2024-0009'", "an advisory that isn't there": "DELETE FROM advisories",
             "where it leads": "DELETE FROM leads", "that it counts": "UPDATE advisories SET is_passed = 1 WHERE id LIKE '%2'",
             "that another one isn't later": "UPDATE advisories SET is_doubled = 1", "its words": "UPDATE names SET squeezed = 'other'",
+            "a product that isn't there": f"DELETE FROM products WHERE name = '{ELSEWHERE}'", "a title": "UPDATE products SET title = 'other'",
+            "when a product was modified": "UPDATE products SET modified = 'null'", "a list": "UPDATE matches SET listed = '[]'",
+            "a list that isn't there": "DELETE FROM matches", "which products it lists": "DELETE FROM listing",
+            "an advisory that isn't analysed": "DELETE FROM advisories WHERE id LIKE '%3'", "what it has beside": "INSERT INTO beside SELECT 1, min(place) FROM advisories",
             "what is missing": "UPDATE told SET text = '{\"remark\":\"other\"}'", "how many its feed has": "UPDATE pages SET total = 99",
         }
         for what, edit in edits.items():
@@ -753,7 +773,8 @@ class Stores(RecipeCase):
                 shutil.rmtree(self.store, ignore_errors=True)
                 self.filled()
                 old = product(fs("o", "p"), deprecated=True, deprecatedBy=[{"cpeName": HERE}])
-                self.add(page("products", old), page("vulnerabilities", cve(5, match(HERE)), total=2))
+                listed = {"matchString": {"matchCriteriaId": "K", "criteria": HERE, "lastModified": "2024-01-01T00:00:00.000", "matches": [{"cpeName": HERE}]}}
+                self.add(page("products", old), page("vulnerabilities", cve(5, match(HERE)), total=2), page("matchStrings", listed))
                 self.assertEqual(ran(store.run, ["check", "--store", self.store])[0], 0)
                 with sqlite3.connect(Path(self.store) / FILE) as connection:
                     connection.execute(edit)
