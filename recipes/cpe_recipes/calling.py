@@ -183,8 +183,9 @@ class Calling:
         self._beside = self._ask(program, entries, own)
 
     def of_components(self, components: Iterable[Sequence[Lead]]) -> list[Called]:
-        """The names of components, of which each perhaps has several in its list."""
-        return list({(one.name, one.kind): one for leads in components for lead in leads for one in self.of(lead)}.values())
+        """The names of components, of which each perhaps has several in its list. A name that two have in two ways is there in both."""
+        found = (one for leads in components for lead in leads for one in self.of(lead))
+        return list({(one.name, one.kind, one.sure, one.is_spelled): one for one in found}.values())
 
     def of(self, lead: Lead) -> tuple[Called, ...]:
         """The names of an item that leads so, those that are sure first."""

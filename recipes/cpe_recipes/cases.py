@@ -1,11 +1,15 @@
 """Which statements are asked of which machine, and over what, so that a run of cpe has no more to do than it must.
 
-Statements are asked in mode plain, over all names of the items (calling.py), so both as names stand and as they lead on. A machine is
-asked for those statements alone whose verdict may be another than that of a machine without items: those with a fact of the vendor,
-product and version of some name of the machine's items, or with one in which these aren't plain. Of a range that is so only where it is
-TRUE or UNKNOWN there, since where all versions are outside it is FALSE as without items. A statement is asked over those names alone
-that may fit its facts, and once for all machines that have the same ones. A name whose vendor or product is a pattern may fit every fact
-of the other one of the two.
+Statements are asked in mode plain, over all names of the items (calling.py), so both as names stand and as they lead on.
+
+A machine is asked for those statements alone whose verdict may be another than that of a machine without items: those with a fact of
+the vendor, product and version of some name of the machine's items, or with one in which these aren't plain. Of a range that is so only
+where it is TRUE or UNKNOWN there, since where all versions are outside it is FALSE as without items. A statement that asks for a part of
+which a list may be silent (asked.py), and has something negated or open, may be UNKNOWN on a machine that has none of its names, so it
+is asked of each machine.
+
+A statement is asked over those names alone that may fit its facts, and once for all machines that have the same ones. A name whose
+vendor or product is a pattern may fit every fact of the other one of the two.
 """
 from __future__ import annotations
 
@@ -29,6 +33,8 @@ from .verdicts import Statements
 # An item or several, and results of checks, over which a statement is asked.
 Items = tuple[str, ...]
 Results = tuple[tuple[str, bool], ...]
+# The ids of the checks of parts of which a list may be silent.
+_OF_PARTS = frozenset({*PARTS.values(), *OF_DEVICES.values()})
 
 
 @dataclass(frozen=True)
@@ -59,6 +65,11 @@ class Statement:
             else:
                 checks[one["check"]["id"]] = None
         return Statement(value["id"], tuple(facts), tuple(ranged), tuple(checks))
+
+    def may_be_unknown_of_parts(self) -> bool:
+        """Whether it may be UNKNOWN on a machine that has none of its names, since the list is silent of a part."""
+        others = set(self.checks).difference(self.ranges)
+        return not _OF_PARTS.isdisjoint(others) and not _OF_PARTS.issuperset(others)
 
 
 @dataclass(frozen=True, slots=True)
@@ -135,6 +146,7 @@ class Index:
     def __init__(self, known: Known, leads: Leads) -> None:
         self._near: NearProducts[int] = NearProducts()
         self._by_range: dict[str, list[int]] = {}
+        self._of_each = [place for place, statement in enumerate(known.statements) if statement.may_be_unknown_of_parts()]
         # (of each statement the products that its facts may fit, and whether these are all)
         self._products: list[tuple[set[Product], bool]] = []
         # (of what each asks for, which is looked at if an item says less; most are never asked so)
@@ -155,6 +167,7 @@ class Index:
     def concerned(self, items: Iterable[Item], decided: Decided) -> list[int]:
         """The places of the statements that may have another verdict than without items of these products and versions, in order."""
         found = self._near.near(items)
+        found.update(self._of_each)
         for key in [*(key for key, is_inside in decided.truths.items() if is_inside), *decided.unsure]:
             found.update(self._by_range.get(key, ()))
         return sorted(found)
