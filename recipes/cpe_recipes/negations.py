@@ -9,6 +9,7 @@ what is negated of such a part. Where it is known that there is no hardware to a
 from __future__ import annotations
 
 from collections.abc import Collection, Iterable, Mapping, Sequence
+from operator import itemgetter
 
 from . import names
 from .asked import OF_DEVICES, PARTS, Negated
@@ -51,9 +52,10 @@ class Negations:
 
     def put(self, components: Components, called: Sequence[Called], decided: Decided) -> None:
         """Puts what is decided of a machine whose items are called so."""
-        here: dict[str, list[Called]] = {}
-        for one in called:
-            here.setdefault(one.name, []).append(one)
+        # (with their places, so that reasons are in the order of this machine, whichever others there are)
+        here: dict[str, list[tuple[int, Called]]] = {}
+        for place, one in enumerate(called):
+            here.setdefault(one.name, []).append((place, one))
         listed = {names.part_of(name) for name in here}
         silent = [part for part in self._parts if part not in listed]
         for keys, is_told in ((PARTS, True), (OF_DEVICES, not listed.isdisjoint(PARTS))):
@@ -73,13 +75,14 @@ class Negations:
         self,
         one: Negated,
         by_name: Mapping[str, Sequence[Sequence[Lead]]],
-        here: Mapping[str, Sequence[Called]],
+        here: Mapping[str, Sequence[tuple[int, Called]]],
         decided: Decided,
         silent: Sequence[str],
     ) -> None:
         """Puts what is decided of what is negated, on a machine with these names, and components by their names."""
         fact = self._facts[one.key]
-        near = [it for name in self._near[fact] for it in here.get(name, ()) if self._stand(one, it) is not False]
+        placed = [pair for name in self._near[fact] if name in here for pair in here[name] if self._stand(one, pair[1]) is not False]
+        near = [it for _, it in sorted(placed, key=itemgetter(0))]
         if not near and names.part_of(fact) in silent:
             decided.unsure[one.key] = Unsure(one.key, "", _SILENT[names.part_of(fact)])
         # (a component that meets it by each of its names has one that is near)

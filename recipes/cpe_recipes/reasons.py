@@ -47,11 +47,13 @@ class Reasons:
         one = asked.found
         for place, facts in asked.facts.items():
             called = {it.name: it for it in (one.called if place in one.less else one.asked)}
+            # (in the order of this machine, whichever others there are)
+            places = {name: number for number, name in enumerate(called)}
             reasons: dict[str, None] = {}
             for fact, is_told in facts:
                 if any(name in called for name in covered[fact]):
                     continue
-                for it in (called[name] for name in may_be[fact] if name in called):
+                for it in (called[name] for name in sorted(called.keys() & may_be[fact], key=places.__getitem__)):
                     if it.sure is Sure.LESS and place in one.less:
                         one.perhaps[Perhaps(self._known.statements[place].id, it.item, fact)] = None
                     if not is_told:
