@@ -57,6 +57,13 @@ class Wanted:
             return frozenset(self._of_all.union(*self._by_product.values()))
         return frozenset(self._by_product.get(product, ())) | self._of_all
 
+    def other_than(self, before: Wanted) -> set[Product] | None:
+        """The products whose items may have other names by these facts than by those before; None if these may be any."""
+        if self._of_all != before._of_all or self._languages.keys() != before._languages.keys():
+            return None
+        pairs = ((self._by_product, before._by_product), (self._versions, before._versions))
+        return {product for one, other in pairs for product in {**one, **other} if one.get(product) != other.get(product)}
+
     def spelled(self, name: str, kind: str, letters: Letters) -> Iterator[tuple[str, Same]]:
         """The name with each version that facts name and that is the same, or perhaps is, each with how sure that is."""
         parts = names.components(name)
@@ -65,7 +72,8 @@ class Wanted:
         if version is None:
             return
         upward = Upward(letters, product) if letters.has(product) else None
-        for wanted, update in self._versions.get(product, ()):
+        # (in an order that isn't that of the facts)
+        for wanted, update in sorted(self._versions.get(product, ())):
             text, rest_of_fact = _version(wanted, update, product, letters)
             if text is None or wanted == parts[names.VERSION]:
                 continue
@@ -87,7 +95,7 @@ class Wanted:
         if _LANGUAGE in lacks:
             # (no language has a pattern, so there is a name for each that is asked for)
             parts = names.components(names.marked(name, others | {OTHER}))
-            for language in self._languages:
+            for language in sorted(self._languages):
                 yield names.joined([*parts[:_LANGUAGE], language, *parts[_LANGUAGE + 1 :]]), lacks
 
     def are_any(self) -> bool:
@@ -221,7 +229,7 @@ class Calling:
             if name != lead.name:
                 yield name, Sure.SURELY
         for name in known:
-            for criteria in self._feed.get(name, ()):
+            for criteria in sorted(set(self._feed.get(name, ()))):
                 yield _filled(criteria, name), Sure.SURELY
         for name in dict.fromkeys((lead.name, *lead.ends)):
             for old, is_renamed in self._before.names_of(name):

@@ -25,7 +25,8 @@ from cpe_recipes.program import Program
 from cpe_recipes.said import Fatal
 
 from . import certificates, entries, frames, queries
-from .database import connected, ground_of, note, noted, packed, reading, writing
+from .changed import Basis, Changed, merged
+from .database import GROUND, connected, ground_of, note, noted, packed, reading, unpacked, writing
 from .frames import Message
 from .ground import Ground, read_ground
 from .judge import Judge, Judged
@@ -39,6 +40,9 @@ _NEW, _OTHERS = 4, 16
 _TRIES, _SECONDS = 3, 30
 # How long it waits after what it couldn't do.
 _PAUSE = 5
+# Of how many grounds before is kept what changed since then, and of which share of the advisories that is worth it.
+_GROUNDS, _SHARE = 8, 0.5
+_SINCE = "CASE WHEN result_put = put AND fault = '' AND result IS NOT NULL AND instr(counts, '\"no items\"') = 0 THEN result_ground ELSE 0 END"
 
 
 class NoResult(Exception):
@@ -52,6 +56,9 @@ class Worker:
         self._folder, self._shard, self._shards = folder, shard, shards
         self._database, self._program = connected(folder), Program()
         self._judge: Judge | None = None
+        # (of grounds before, by their edits, what changed since then)
+        self._basis: Basis | None = None
+        self._changed: dict[int, Changed] = {}
         # (one before it may have noted what it couldn't do)
         self._is_troubled = True
         self._inbox: queue.SimpleQueue[Message] = queue.SimpleQueue()
@@ -120,12 +127,33 @@ class Worker:
             ground = read_ground(self._database, self._program, self._machines)
             self._note(ground)
             self._judge = Judge(self._program, ground)
+            self._note_changed(self._judge.basis)
             # (the ground is large and stays, so Python needn't look through it for garbage again and again)
             gc.unfreeze()
             gc.collect()
             gc.freeze()
             self._send({"done": 0})
         return self._judge
+
+    def _note_changed(self, basis: Basis | None) -> None:
+        """Notes what changed since the grounds before, of which machines may have verdicts. If more than advisories may have, nothing is."""
+        before, self._basis = self._basis, basis
+        if before is not None and basis is not None and before.edit == basis.edit:
+            return
+        changed = None
+        if before is not None and basis is not None and self._are_advisories(before.edit, basis.edit):
+            changed = Changed.between(before, basis)
+        if changed is None or len(changed.ids) > _SHARE * len(basis.sums):
+            self._changed = {}
+            return
+        older = list(self._changed.items())[1 - _GROUNDS :]
+        self._changed = {edit: one.joined(changed) for edit, one in older} | {before.edit: changed}
+
+    def _are_advisories(self, since: int, edit: int) -> bool:
+        """Whether the edits between these changed advisories alone."""
+        marks = ", ".join("?" * len(GROUND))
+        question = f"SELECT 1 FROM edits WHERE id > ? AND id <= ? AND kind IN ({marks}) AND NOT (kind = 'feed' AND what LIKE 'advisories %')"
+        return self._database.execute(question, (since, edit, *GROUND)).fetchone() is None
 
     def _end(self) -> None:
         if self._judge is not None:
@@ -138,7 +166,7 @@ class Worker:
 
     def _waiting(self, ground: int) -> list[Waiting]:
         """Some machines that wait, those with new lists first."""
-        columns = f"SELECT id, name, put, list FROM machines WHERE shard % {self._shards} = {self._shard} AND"
+        columns = f"SELECT id, name, put, list, {_SINCE} FROM machines WHERE shard % {self._shards} = {self._shard} AND"
         with reading(self._database) as database:
             rows = database.execute(f"{columns} put <> judged_put ORDER BY put LIMIT {_NEW}").fetchall()
             rows = rows or database.execute(f"{columns} judged_ground <> ? ORDER BY judged_ground LIMIT {_OTHERS}", (ground,)).fetchall()
@@ -164,7 +192,7 @@ class Worker:
             # (what can't be read of the ground is no fault of a list)
             judge = self._ready()
             try:
-                return judge.judge([one.machine() for one in waiting])
+                return self._judged(judge, waiting)
             except (sqlite3.Error, OSError):
                 raise
             except (Fatal, FeedFault) as fault:
@@ -176,6 +204,18 @@ class Worker:
                 raise NoResult(f"the recipes have a fault: {type(fault).__name__} {fault}") from fault
         raise AssertionError("there is a last try")
 
+    def _judged(self, judge: Judge, waiting: Sequence[Waiting]) -> list[Judged]:
+        """The results of machines: of those that were judged by a ground before, what changed, as far as that is known."""
+        whole, found = list(waiting), []
+        for since, changed in self._changed.items():
+            some = [one for one in whole if one.since == since]
+            if some:
+                results = judge.judge_changed([one.machine() for one in some], changed)
+                found += [one for one in results if one is not None]
+                rest = {one.name for one, result in zip(some, results) if result is None}
+                whole = [one for one in whole if one.since != since or one.name in rest]
+        return found + (judge.judge([one.machine() for one in whole]) if whole else [])
+
     def _write_fault(self, one: Waiting, fault: str, ground: int) -> None:
         """Writes why there is no result. What was known before stays, and the fault is beside it."""
         columns = "judged_put = ?, judged_ground = ?, judged_at = ?, fault = ?"
@@ -184,23 +224,36 @@ class Worker:
     def _write(self, one: Waiting, judged: Judged) -> None:
         """Writes the result of a machine, if it is still there."""
         database = self._database
-        row = database.execute("SELECT result_put, result_ground, fault, counts FROM machines WHERE id = ?", (one.id,)).fetchone()
+        row = database.execute("SELECT result_put, result_ground, fault, counts, result FROM machines WHERE id = ?", (one.id,)).fetchone()
         if row is None:
             return
+        if judged.ids is not None and (row["result_put"], row["result_ground"]) != (one.put, one.since):
+            # (what it is to be put into is another result by now, so the machine waits on)
+            return
         at = time.time()
-        self._write_changes(one, judged, row, at)
-        result = packed(whole(queries.result_text(judged.row | {"said": judged.said})).encode())
-        counts = json.dumps(Counter(judged.kinds.values()) if judged.has_items else {"no items": 1})
+        kinds = self._write_changes(one, judged, row, at)
+        result = packed(whole(self._result(judged, row)).encode())
+        counts = json.dumps(Counter(kinds.values()) if judged.has_items else {"no items": 1})
         columns = "judged_put = ?, judged_ground = ?, result_put = ?, result_ground = ?, judged_at = ?, fault = '', counts = ?, result = ?"
         edits = one.put, judged.judge.ground.edit
         database.execute(f"UPDATE machines SET {columns} WHERE id = ?", (*edits, *edits, at, counts, result, one.id))
 
-    def _write_changes(self, one: Waiting, judged: Judged, row: sqlite3.Row, at: float) -> None:
-        database = self._database
-        before = dict(database.execute("SELECT advisory, kind FROM verdicts WHERE machine = ?", (one.id,)).fetchall())
+    def _result(self, judged: Judged, row: sqlite3.Row) -> str:
+        """The result as the database keeps it."""
+        found = judged.row | {"said": judged.said}
+        if judged.ids is None:
+            return queries.result_text(found)
+        return merged(unpacked(row["result"]).decode(), found, judged.ids, judged.judge.order)
+
+    def _write_changes(self, one: Waiting, judged: Judged, row: sqlite3.Row, at: float) -> dict[str, str]:
+        """Writes what changed, and the verdicts as they are now, which are the answer."""
+        database, ids = self._database, judged.ids
+        known = dict(database.execute("SELECT advisory, kind FROM verdicts WHERE machine = ?", (one.id,)).fetchall())
+        before = known if ids is None else {id: kind for id, kind in known.items() if id in ids}
+        now_all = judged.kinds if ids is None else {id: kind for id, kind in known.items() if id not in ids} | judged.kinds
         changes = list(self._changes(before, judged, row))
         if not changes:
-            return
+            return now_all
         cause, edit = self._cause(one, row, judged.judge.ground.edit)
         database.executemany(
             "INSERT INTO history (at, machine, advisory, before, after, cause, edit, reason) VALUES (?, ?, ?, ?, ?, ?, ?, ?)",
@@ -213,6 +266,7 @@ class Worker:
             "INSERT INTO verdicts VALUES (?, ?, ?, ?) ON CONFLICT DO UPDATE SET kind = excluded.kind, since = excluded.since",
             [(one.id, id, now, at) for id, _, now, _ in changes if id in judged.kinds],
         )
+        return now_all
 
     def _changes(self, before: dict[str, str], judged: Judged, row: sqlite3.Row) -> Iterator[tuple[str, str, str, str]]:
         """The advisories whose verdicts changed, with the verdicts before and now, and why there is none now."""
