@@ -1,7 +1,8 @@
-"""The process that judges the machines of a shard: python3 -m cpe_service.worker DATA SHARD SHARDS.
+"""The process that judges machines, those of its shard first: python3 -m cpe_service.worker DATA SHARD SHARDS.
 
 It takes what waits from the database, and writes the verdicts and what changed of them in one transaction. So whenever it is killed,
-the next one finds what is left. Machines with new lists come before those that wait for another ground.
+the next one finds what is left. Machines with new lists come before those that wait for another ground. If none of its shard waits, it
+takes one of another shard that no other worker has claimed.
 """
 from __future__ import annotations
 
@@ -26,6 +27,7 @@ from cpe_recipes.said import Fatal
 
 from . import certificates, entries, frames, queries
 from .changed import Basis, Changed, merged
+from .claims import Claims
 from .database import GROUND, connected, ground_of, note, noted, packed, reading, unpacked, writing
 from .frames import Message
 from .ground import Ground, read_ground
@@ -34,8 +36,8 @@ from .quiet import pathless
 from .texts import whole
 from .waiting import Waiting
 
-# How many machines are judged together: of new lists, on whose answers clients wait, and of others.
-_NEW, _OTHERS = 4, 16
+# How many machines are judged together at most: of new lists, on whose answers clients wait, and of others. And how many are looked at.
+_NEW, _OTHERS, _LOOKED_AT = 4, 16, 256
 # How often the same machines are tried if cpe dies, and how long a worker waits before it looks again.
 _TRIES, _SECONDS = 3, 30
 # How long it waits after what it couldn't do.
@@ -50,11 +52,11 @@ class NoResult(Exception):
 
 
 class Worker:
-    """Judges the machines of a shard."""
+    """Judges machines, those of a shard first."""
 
     def __init__(self, folder: Path, shard: int, shards: int) -> None:
         self._folder, self._shard, self._shards = folder, shard, shards
-        self._database, self._program = connected(folder), Program()
+        self._database, self._program, self._claims = connected(folder), Program(), Claims(folder)
         self._judge: Judge | None = None
         # (of grounds before, by their edits, what changed since then)
         self._basis: Basis | None = None
@@ -103,6 +105,13 @@ class Worker:
         if self._is_troubled:
             self._database.execute("DELETE FROM notes WHERE name = ?", (f"trouble {self._shard}",))
             self._is_troubled = False
+        try:
+            return self._judge_some(judge)
+        finally:
+            self._claims.end()
+
+    def _judge_some(self, judge: Judge) -> bool:
+        """Judges some of the machines that wait by this ground, or by one of more advisories, if they need that."""
         waiting = self._waiting(judge.ground.edit)
         if waiting and judge.ground.is_before(max(one.put for one in waiting)):
             # (it has the advisories alone that may concern the machines of then)
@@ -165,12 +174,26 @@ class Worker:
         return [Waiting(*row) for row in self._database.execute("SELECT id, name, put, list FROM machines ORDER BY id")]
 
     def _waiting(self, ground: int) -> list[Waiting]:
-        """Some machines that wait, those with new lists first."""
-        columns = f"SELECT id, name, put, list, {_SINCE} FROM machines WHERE shard % {self._shards} = {self._shard} AND"
-        with reading(self._database) as database:
-            rows = database.execute(f"{columns} put <> judged_put ORDER BY put LIMIT {_NEW}").fetchall()
-            rows = rows or database.execute(f"{columns} judged_ground <> ? ORDER BY judged_ground LIMIT {_OTHERS}", (ground,)).fetchall()
-        return [Waiting(*row) for row in rows]
+        """Some machines that wait and that no other worker judges, those with new lists first, and those of this shard before others."""
+        new, old = "put <> judged_put", "judged_ground <> ?"
+        count = self._database.execute(f"SELECT count(*) FROM machines WHERE {new}").fetchone()[0]
+        # (who waits for an answer waits for no other list, if there are as many workers as lists)
+        most = max(1, min(_NEW, count // (2 * self._shards)))
+        return self._claimed(new, (), "put", most) or self._claimed(old, (ground,), "judged_ground", _OTHERS)
+
+    def _claimed(self, waits: str, values: tuple[int, ...], order: str, most: int) -> list[Waiting]:
+        """Some machines that wait so, which are claimed."""
+        for shard in ("=", "<>"):
+            where = f"{waits} AND shard % {self._shards} {shard} {self._shard}"
+            rows = self._database.execute(f"SELECT id FROM machines WHERE {where} ORDER BY {order} LIMIT {_LOOKED_AT}", values).fetchall()
+            ids = self._claims.take((row["id"] for row in rows), most)
+            # (another worker may have judged it before it was claimed)
+            question = f"SELECT id, name, put, list, {_SINCE} FROM machines WHERE id = ? AND {waits}"
+            found = [Waiting(*row) for id in ids if (row := self._database.execute(question, (id, *values)).fetchone())]
+            if found:
+                return found
+            self._claims.end()
+        return []
 
     def _tried(self, waiting: Sequence[Waiting]) -> tuple[dict[str, Judged], dict[str, str]]:
         """The results of machines. If there is none of all together, each is judged alone, and the reasons are there of those without one."""

@@ -5,6 +5,7 @@ CPE_FLEETS is how many fleets are drawn, and CPE_SEED the first of their seeds.
 import json
 import os
 import random
+import subprocess
 import sys
 import unittest
 from collections import Counter
@@ -218,6 +219,55 @@ class DrawnTest(ChangedCase):
                 self.draw(seed)
         found = self.counts
         self.assertGreater(found["changed"], 4 * FLEETS, found)
+
+
+# Another process claims the first machine until its input ends.
+CLAIMING = """
+import sys
+from pathlib import Path
+from cpe_service.claims import Claims
+claims = Claims(Path(sys.argv[1]))
+print(claims.take([1], 1), flush=True)
+sys.stdin.read()
+"""
+
+
+class ClaimsTest(WorkerCase):
+    def test_a_machine_that_another_process_judges_is_left_to_it(self):
+        self.feed("products", product(NAME % "1"))
+        self.feed("vulnerabilities", advisory("CVE-2024-1", NAME % "1"))
+        for name in "mn":
+            self.put(name, NAME % "1")
+        words = [sys.executable, "-B", "-c", CLAIMING, str(self.folder / "data")]
+        with subprocess.Popen(words, cwd=ROOT / "service", stdin=subprocess.PIPE, stdout=subprocess.PIPE, text=True) as other:
+            self.assertEqual(other.stdout.readline(), "[1]\n")
+            self.judge()
+            self.assertEqual(self.rows("name, judged_put = put"), [("m", 0), ("n", 1)])
+            self.assertEqual(self.judges._claims._held, set())
+            # (a claim ends with the process)
+            other.kill()
+            other.wait()
+            self.judge()
+        self.assertEqual(self.rows("name, judged_put = put"), [("m", 1), ("n", 1)])
+
+    def test_workers_take_what_waits_of_other_shards_too(self):
+        self.feed("products", product(NAME % "1"))
+        self.feed("vulnerabilities", advisory("CVE-2024-1", NAME % "1"))
+        for number in range(12):
+            self.put(f"m-{number}", NAME % "1")
+        shards = [row[0] % 3 for row in self.rows("shard")]
+        self.assertEqual(set(shards), {0, 1, 2})
+        one = worker.Worker(self.folder / "data", 1, 3)
+        one._send = [].append
+        self.addCleanup(one._end)
+        order = []
+        while one._step():
+            done = self.rows("shard % 3, judged_put = put")
+            order.append([shard for shard, is_judged in done if is_judged])
+        self.assertEqual(sorted(order[-1]), sorted(shards))
+        # (its own come first)
+        own = shards.count(1)
+        self.assertEqual(next(found for found in order if len(found) >= own)[:own].count(1), own)
 
 
 if __name__ == "__main__":
