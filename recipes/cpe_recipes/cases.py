@@ -204,7 +204,7 @@ def _items(facts: Iterable[str], plain: Collection[Product]) -> Iterator[Item]:
             yield product, version_key(parts[names.VERSION])
 
 
-def _by_product(called: Iterable[Called]) -> dict[Product, Items]:
+def names_by_product(called: Iterable[Called]) -> dict[Product, Items]:
     """Names by the keys of their products, in order."""
     found: dict[Product, set[str]] = {}
     for one in called:
@@ -221,7 +221,7 @@ class Cases:
 
     def put(self, called: Sequence[Called], decided: Decided) -> dict[int, int]:
         """The cases of a machine whose items are called so, by the places of the statements that are asked of it."""
-        by_product = _by_product(called)
+        by_product = names_by_product(called)
         if self._is_all_asked:
             places = list(range(len(self._known.statements)))
         else:

@@ -7,15 +7,18 @@ advisories alone are asked that changed since then (changed.py).
 from __future__ import annotations
 
 import functools
-from collections.abc import Collection, Iterable, Sequence
+from collections.abc import Collection, Hashable, Iterable, Iterator, Sequence
 from dataclasses import dataclass, replace
 
 from cpe_recipes import affected, names, unlisted
 from cpe_recipes.advisories import Range
+from cpe_recipes.called import Called
 from cpe_recipes.calling import Calling, Wanted, listed_by_name
-from cpe_recipes.cases import Index, Items, Results, lines_of_cases, lines_of_known, portions_of, questions_of, verdicts_of
+from cpe_recipes.cases import (
+    Index, Items, Known, Results, lines_of_cases, lines_of_known, names_by_product, portions_of, questions_of, verdicts_of,
+)
 from cpe_recipes.components import Machine
-from cpe_recipes.decide import Decider, Leads, leads_of
+from cpe_recipes.decide import Decided, Decider, Leads, leads_of
 from cpe_recipes.deciding import Deciding
 from cpe_recipes.feeds import Json
 from cpe_recipes.naming import name_machines
@@ -32,7 +35,7 @@ from .resident import Resident
 
 ACCEPTED = "accepted"
 # Of how many names and cases what is known is kept.
-_MOST_KEPT = 500_000
+_MOST_KEPT = 300_000
 
 
 @dataclass(frozen=True)
@@ -87,7 +90,7 @@ class KeptScan(Scan):
     def _ask_bare(self) -> None:
         """Asks the statements without items."""
         known = self._known
-        self._kept_index = Index(known, self._fixed)
+        self.index = Index(known, self._fixed)
         self._by_product = _ranges_by_product(known.ranges.values(), self._fixed)
         self._truths: dict[tuple[Items, Results, int], str] = {}
         self._ends: set[str] = set()
@@ -111,7 +114,7 @@ class KeptScan(Scan):
         return Calling(self._dictionary, [], self._leads, self._old, own.values(), self.feed, self.wanted, self._letters)
 
     def _index(self) -> Index:
-        return self._kept_index
+        return self.index
 
     def _decider(self, ends: Iterable[str]) -> Decider:
         """How a name relates to a range is the same on each machine, so it is kept."""
@@ -150,6 +153,34 @@ class KeptScan(Scan):
             one.end()
 
 
+class KeptDeciding(Deciding):
+    """Says which items decide, and keeps that: of a statement it is the same over the same names of items and the same results."""
+
+    def __init__(self, program: Program, known: Known, index: Index) -> None:
+        super().__init__(program, known)
+        self._index = index
+        self._kept: dict[Hashable, list[str]] = {}
+
+    def reasons(self, called: Sequence[Called], decided: Decided, places: Sequence[int]) -> dict[int, list[str]]:
+        if len(self._kept) > _MOST_KEPT:
+            self._kept.clear()
+        keys = dict(zip(places, self._keys(called, decided, places)))
+        new = [place for place in places if keys[place] not in self._kept]
+        self._kept.update((keys[place], found) for place, found in super().reasons(called, decided, new).items())
+        return {place: self._kept[key] for place, key in keys.items()}
+
+    def _keys(self, called: Sequence[Called], decided: Decided, places: Iterable[int]) -> Iterator[Hashable]:
+        """What the words of each statement come from: the names that its facts may cover, in their order and with their items, and of its
+        checks the truths, with the items that make these so."""
+        items = {one.name: one.item for one in reversed(called)}
+        order = {name: number for number, name in enumerate(items)}
+        by_product, all_items = names_by_product(called), tuple(items)
+        for place in places:
+            near = sorted(self._index.items(place, by_product, all_items), key=order.__getitem__)
+            checks = [(decided.truths.get(key), decided.inside.get(key)) for key in self._known.statements[place].checks]
+            yield place, tuple([(name, items[name]) for name in near]), tuple(checks)
+
+
 def _ranges_by_product(ranges: Iterable[Range], leads: Leads) -> dict[tuple[str, str] | None, list[Range]]:
     """The ranges by the vendor and product of their names; under None those that may concern each product."""
     found: dict[tuple[str, str] | None, list[Range]] = {}
@@ -168,7 +199,7 @@ class Judge:
         """If `whole` is given, it judges by all advisories, of which the ground has some."""
         self.ground, self._program = ground, program
         self._scan = KeptScan(program, ground, whole._scan if whole else None)
-        self._deciding = Deciding(program, ground.known)
+        self._deciding = KeptDeciding(program, ground.known, self._scan.index)
         self._asked = frozenset(ground.known.ids.advisories)
         self._parts: dict[frozenset[str], Judge] = {}
         self._basis: Basis | None = None
