@@ -211,7 +211,7 @@ class Decider:
             if lead is None:
                 continue
             # (by its name as cpe writes it, of which vendor and product can be told)
-            asked = _asked(replace(one, criteria=lead.name), letters)
+            asked = _asked(one if one.criteria == lead.name else replace(one, criteria=lead.name), letters)
             self.criteria[one.key] = lead.name
             if near_in_part.ends(lead.name):
                 asked_of_patterns.append(asked)

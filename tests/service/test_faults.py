@@ -4,6 +4,7 @@ is answered.
 CPE_KILLS is how often a process is killed, and CPE_SEED the seed by which it is drawn which and when. CPE_MEGABYTES is how large a large
 list is.
 """
+import contextlib
 import json
 import os
 import random
@@ -11,6 +12,7 @@ import resource
 import shutil
 import signal
 import socket
+import sqlite3
 import subprocess
 import sys
 import threading
@@ -281,6 +283,29 @@ class DiskTest(ServiceCase):
         )
         self.assertEqual(run.returncode, 1)
         self.assertIn("version 99", run.stderr)
+
+    def test_the_version_before_of_the_database(self):
+        """It is made this one, with all that it has."""
+        server = self.with_samples()
+        server.put("m", (RANGES / "legacy-1.txt").read_bytes())
+        server.put("n", (RANGES / "app-1.txt").read_bytes())
+        server.settled()
+        paths = ("/advisories?limit=1000", "/advisories?kind=UNKNOWN", "/machines?kind=TRUE", "/machines/m")
+        before = [server.ask("GET", path) for path in paths]
+        server.kill()
+        with contextlib.closing(sqlite3.connect(server.folder / "service.db")) as database:
+            for name in ("verdict_begins", "verdict_ends", "verdict_changes"):
+                database.execute(f"DROP TRIGGER {name}")
+            database.execute("DROP TABLE affected")
+            database.execute("DROP INDEX verdicts_by_advisory")
+            database.execute("CREATE INDEX verdicts_by_advisory ON verdicts (advisory, kind)")
+            database.execute("PRAGMA user_version = 2")
+        again = self.server()
+        again.settled()
+        self.assertEqual([again.ask("GET", path) for path in paths], before)
+        self.assertEqual(again.ask("DELETE", "/machines/m")[0], 200)
+        rest = {row["id"]: row["counts"] for row in again.ask("GET", "/advisories?limit=1000")[1]["advisories"]}
+        self.assertEqual({id for id, _ in rest.items()}, {one["id"] for one in again.ask("GET", "/machines/n")[1]["verdicts"]})
 
     def test_a_backup_is_restored(self):
         server = self.with_samples()
