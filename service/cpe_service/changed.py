@@ -18,7 +18,7 @@ from cpe_recipes.calling import Wanted
 from cpe_recipes.cases import Known
 from cpe_recipes.feeds import Json
 from cpe_recipes.near_products import Product
-from cpe_recipes.outcome import Found, Hanging
+from cpe_recipes.outcome import Found
 from cpe_recipes.versions import Letters
 
 from .ground import Ground
@@ -115,8 +115,8 @@ def part_of(ground: Ground, ids: Iterable[str]) -> Ground:
 class Order:
     """The order of the verdicts of a machine, as a scan has it: by what they are, by their scores, and then as they are in the feeds."""
 
-    def __init__(self, ground: Ground) -> None:
-        self._about = affected.About(ground.known.details, ground.suppressed, Hanging(ground.known, ()))
+    def __init__(self, ground: Ground, about: affected.About) -> None:
+        self._about = about
         self._places = {id: places[0] for id, places in ground.known.parts.items()}
 
     def place(self, id: str) -> int:

@@ -200,6 +200,7 @@ class Judge:
         self.ground, self._program = ground, program
         self._scan = KeptScan(program, ground, whole._scan if whole else None)
         self._deciding = KeptDeciding(program, ground.known, self._scan.index)
+        self._about = affected.About(ground.known.details, ground.suppressed, Hanging(ground.known, ()))
         self._asked = frozenset(ground.known.ids.advisories)
         self._parts: dict[frozenset[str], Judge] = {}
         self._basis: Basis | None = None
@@ -214,7 +215,7 @@ class Judge:
     @functools.cached_property
     def order(self) -> Order:
         """The order of the verdicts of a machine."""
-        return Order(self.ground)
+        return Order(self.ground, self._about)
 
     def judge(self, machines: Sequence[Machine], asked: Deciding | None = None) -> list[Judged]:
         """The results of the machines. If it is given, `asked` is asked in place of what says which items decide."""
@@ -247,8 +248,8 @@ class Judge:
         verdicts = machines_with_verdicts(ground.known, self._scan.bare, found)
         # (which lines settle nothing can be said of all machines together alone)
         ground.settled.settle(verdicts, Quiet())
-        about = affected.About(ground.known.details, ground.suppressed, Hanging(ground.known, found))
-        return found, verdicts, json_of(ground.known, found, verdicts, about, unnamed)["machines"]
+        self._about.hanging = Hanging(ground.known, found)
+        return found, verdicts, json_of(ground.known, found, verdicts, self._about, unnamed)["machines"]
 
     def _judged(self, found: Found, machine: Verdicts, row: dict[str, Json], said: Quiet) -> Judged:
         kinds = {one["id"]: ACCEPTED if "accepted" in one else machine.kind(one["id"]) for one in row.get("verdicts", ())}

@@ -229,15 +229,14 @@ class Worker:
 
     def _judged(self, judge: Judge, waiting: Sequence[Waiting]) -> list[Judged]:
         """The results of machines: of those that were judged by a ground before, what changed, as far as that is known."""
-        whole, found = list(waiting), []
+        found: list[Judged] = []
         for since, changed in self._changed.items():
-            some = [one for one in whole if one.since == since]
-            if some:
-                results = judge.judge_changed([one.machine() for one in some], changed)
-                found += [one for one in results if one is not None]
-                rest = {one.name for one, result in zip(some, results) if result is None}
-                whole = [one for one in whole if one.since != since or one.name in rest]
-        return found + (judge.judge([one.machine() for one in whole]) if whole else [])
+            some = [one for one in waiting if one.since == since]
+            results = judge.judge_changed([one.machine() for one in some], changed) if some else []
+            found += [one for one in results if one is not None]
+        done = {one.name for one in found}
+        rest = [one.machine() for one in waiting if one.name not in done]
+        return found + (judge.judge(rest) if rest else [])
 
     def _write_fault(self, one: Waiting, fault: str, ground: int) -> None:
         """Writes why there is no result. What was known before stays, and the fault is beside it."""
