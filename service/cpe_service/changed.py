@@ -7,6 +7,7 @@ sure of a machine, all of it is judged anew.
 """
 from __future__ import annotations
 
+import functools
 import hashlib
 import json
 from collections.abc import Iterable, Mapping, Sequence
@@ -125,8 +126,13 @@ class Order:
 
     def key(self, verdict: Mapping[str, Json]) -> tuple[int, tuple[bool, float, float], int]:
         id = verdict["id"]
-        machine = verdicts.Machine(None, shown={id: verdict["verdict"]}, perhaps={id} if verdict.get("perhaps") else set())
-        return machine.rank(id), self._about.told(id).order, self.place(id)
+        return _rank(verdict["verdict"], "perhaps" in verdict), self._about.told(id).order, self.place(id)
+
+
+@functools.cache
+def _rank(truth: str, is_perhaps: bool) -> int:
+    """The place of a verdict in the order of verdicts."""
+    return verdicts.Machine(None, shown={"": truth}, perhaps={""} if is_perhaps else set()).rank("")
 
 
 def merged(before: str, row: dict[str, Json], ids: frozenset[str], order: Order) -> str:
