@@ -149,6 +149,7 @@ class Index:
         self._of_each = [place for place, statement in enumerate(known.statements) if statement.may_be_unknown_of_parts()]
         # (of each statement the products that its facts may fit, and whether these are all)
         self._products: list[tuple[set[Product], bool]] = []
+        self._keys: dict[int, tuple[Product, ...]] = {}
         # (of what each asks for, which is looked at if an item says less; most are never asked so)
         self._names: list[list[str]] = []
         self._wanted: dict[int, Wanted] = {}
@@ -184,7 +185,9 @@ class Index:
         products, is_all = self._products[place]
         if is_all:
             return all_items
-        keys = dict.fromkeys(key for product in products for key in keys_of(product))
+        keys = self._keys.get(place)
+        if keys is None:
+            keys = self._keys[place] = tuple(dict.fromkeys(key for product in products for key in keys_of(product)))
         found = [by_product[key] for key in keys if key in by_product]
         # (mostly it is one product)
         return found[0] if len(found) == 1 else tuple(sorted({item for items in found for item in items}))
