@@ -96,7 +96,7 @@ def percentiles(what, took, most=None):
     some = {share: found[min(len(found) - 1, len(found) * share // 100)] for share in (50, 95, 99)}
     words = ", ".join(f"{share} % in {1000 * seconds:,.0f} ms" for share, seconds in some.items())
     target = "" if most is None else f"; wanted 99 % below {1000 * most:,.0f} ms: {'met' if some[99] < most else 'MISSED'}"
-    print(f"{what}: {len(found):,}, {words}{target}", flush=True)
+    print(f"{what}: {len(found):,}, {words}{target}; load {os.getloadavg()[0]:.1f}", flush=True)
 
 
 def put_all(server, machines, clients):
@@ -141,6 +141,7 @@ def asked(server, names, rounds=200):
     for what, paths in (
         ("GET /machines/NAME", [f"/machines/{name}" for name in names]),
         ("GET /machines", ["/machines"]),
+        ("GET /advisories", ["/advisories", "/advisories?offset=200", "/advisories?kind=UNKNOWN"]),
         ("GET /advisories/ID", [f"/advisories/{id}" for id in advisories]),
         ("GET /changes", ["/changes?after=1000"]),
         ("GET /names", ["/names?q=linux", "/names?q=server%202"]),

@@ -121,6 +121,25 @@ has_units() {
     done
 }
 
+# What the units run serves with the user, the files and the system calls that they leave it. (systemd needn't run for that.)
+runs_units() {
+    what='what the units run'
+    needs "$what" systemd-analyze unshare mount findmnt || return
+    [ "$(id -u)" = 0 ] || { skip "$what" 'root alone can shut it off'; return; }
+    python=/usr/bin/python3
+    "$python" -c 'import seccomp, starlette, uvicorn' 2> /dev/null ||
+        { skip "$what" "$python has no seccomp, starlette and uvicorn (apt-get install python3-seccomp python3-starlette python3-uvicorn)"; return; }
+    unshare --mount --net true 2> /dev/null || { skip "$what" 'this system gives no namespaces'; return; }
+    mkdir "$room/as-units"
+    limited unshare --mount --net "$python" -B tests/service/as_unit.py "$fresh" "$room/as-units" > "$room/said" 2>&1
+    status=$?
+    tail -n 1 "$room/said" > "$room/out"
+    echo "the end, by a signal: (0, '')" > "$room/wanted"
+    : > "$room/error"
+    judge "$what serves, shut off as they say" "$status" 0 "$room/wanted"
+    [ "$status" = 0 ] || tail -n 5 "$room/said"
+}
+
 # The service, where nothing but the package is, begins with the samples and has their verdicts.
 serves_unpacked() {
     what='the service of the package'
@@ -227,6 +246,7 @@ if unpacks; then
     has_modes
     has_fields
     has_units
+    runs_units
     answers_unpacked
     serves_unpacked
     links_unpacked

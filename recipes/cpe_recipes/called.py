@@ -26,7 +26,8 @@ class Sure(Enum):
 class Called:
     """A name of an item: as it is put, the item, the name that is meant, how sure that is, in words why it isn't, the attributes of
     which nothing is said, by their places, and the kind of the component. `is_spelled` is one whose version is only spelled as a fact
-    spells it, and ranges are decided without that; `release` is what a distribution's package has behind this version."""
+    spells it: ranges are decided without that, and what is negated with it. `release` is what a distribution's package has behind
+    this version."""
 
     name: str
     item: str

@@ -64,6 +64,13 @@ class Wanted:
         products = self._languages if any(map(names.has_special, product)) else (product, None)
         return sorted({language for one in products for language in self._languages.get(one, ())})
 
+    def other_than(self, before: Wanted) -> set[Product] | None:
+        """The products whose items may have other names by these facts than by those before; None if these may be any."""
+        if self._of_all != before._of_all or self._languages != before._languages:
+            return None
+        pairs = ((self._by_product, before._by_product), (self._versions, before._versions))
+        return {product for one, other in pairs for product in {**one, **other} if one.get(product) != other.get(product)}
+
     def spelled(self, name: str, kind: str, letters: Letters) -> Iterator[tuple[str, Same]]:
         """The name with each version that facts name and that is the same, or perhaps is, each with how sure that is."""
         parts = names.components(name)
@@ -72,7 +79,7 @@ class Wanted:
         if version is None:
             return
         upward = Upward(letters, product) if letters.has(product) else None
-        # (in an order that isn't that of the advisories)
+        # (in an order that isn't that of the facts)
         for wanted, update in sorted(self._versions.get(product, ())):
             text, rest_of_fact = _version(wanted, update, product, letters)
             if text is None or wanted == parts[names.VERSION]:
@@ -191,8 +198,9 @@ class Calling:
         self._beside = self._ask(program, entries, own)
 
     def of_components(self, components: Iterable[Sequence[Lead]]) -> list[Called]:
-        """The names of components, of which each perhaps has several in its list."""
-        return list({(one.name, one.kind): one for leads in components for lead in leads for one in self.of(lead)}.values())
+        """The names of components, of which each perhaps has several in its list. A name that two have in two ways is there in both."""
+        found = (one for leads in components for lead in leads for one in self.of(lead))
+        return list({(one.name, one.kind, one.sure, one.is_spelled): one for one in found}.values())
 
     def put(self, found: Mapping[tuple[str, str, str], tuple[Called, ...]]) -> None:
         """Puts the names of items that are known, each by its name, its kind and why it only perhaps has that name."""
@@ -232,7 +240,7 @@ class Calling:
             if name != lead.name:
                 yield name, Sure.SURELY
         for name in known:
-            for criteria in self._feed.get(name, ()):
+            for criteria in sorted(set(self._feed.get(name, ()))):
                 yield _filled(criteria, name), Sure.SURELY
         for name in dict.fromkeys((lead.name, *lead.ends)):
             for old, is_renamed in self._before.names_of(name):

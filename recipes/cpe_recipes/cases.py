@@ -1,11 +1,15 @@
 """Which statements are asked of which machine, and over what, so that a run of cpe has no more to do than it must.
 
-Statements are asked in mode plain, over all names of the items (calling.py), so both as names stand and as they lead on. A machine is
-asked for those statements alone whose verdict may be another than that of a machine without items: those with a fact of the vendor,
-product and version of some name of the machine's items, or with one in which these aren't plain. Of a range that is so only where it is
-TRUE or UNKNOWN there, since where all versions are outside it is FALSE as without items. A statement is asked over those names alone
-that may fit its facts, and once for all machines that have the same ones. A name whose vendor or product is a pattern may fit every fact
-of the other one of the two.
+Statements are asked in mode plain, over all names of the items (calling.py), so both as names stand and as they lead on.
+
+A machine is asked for those statements alone whose verdict may be another than that of a machine without items: those with a fact of
+the vendor, product and version of some name of the machine's items, or with one in which these aren't plain. Of a range that is so only
+where it is TRUE or UNKNOWN there, since where all versions are outside it is FALSE as without items. A statement that asks for a part of
+which a list may be silent (asked.py), and has something negated or open, may be UNKNOWN on a machine that has none of its names, so it
+is asked of each machine.
+
+A statement is asked over those names alone that may fit its facts, and once for all machines that have the same ones. A name whose
+vendor or product is a pattern may fit every fact of the other one of the two.
 """
 from __future__ import annotations
 
@@ -29,6 +33,8 @@ from .verdicts import Statements
 # An item or several, and results of checks, over which a statement is asked.
 Items = tuple[str, ...]
 Results = tuple[tuple[str, bool], ...]
+# The ids of the checks of parts of which a list may be silent.
+_OF_PARTS = frozenset({*PARTS.values(), *OF_DEVICES.values()})
 
 
 @dataclass(frozen=True)
@@ -59,6 +65,11 @@ class Statement:
             else:
                 checks[one["check"]["id"]] = None
         return Statement(value["id"], tuple(facts), tuple(ranged), tuple(checks))
+
+    def may_be_unknown_of_parts(self) -> bool:
+        """Whether it may be UNKNOWN on a machine that has none of its names, since the list is silent of a part."""
+        others = set(self.checks).difference(self.ranges)
+        return not _OF_PARTS.isdisjoint(others) and not _OF_PARTS.issuperset(others)
 
 
 @dataclass(frozen=True, slots=True)
@@ -136,8 +147,10 @@ class Index:
     def __init__(self, known: Known, leads: Leads) -> None:
         self._near: NearProducts[int] = NearProducts()
         self._by_range: dict[str, list[int]] = {}
+        self._of_each = [place for place, statement in enumerate(known.statements) if statement.may_be_unknown_of_parts()]
         # (of each statement the products that its facts may fit, and whether these are all)
         self._products: list[tuple[set[Product], bool]] = []
+        self._keys: dict[int, tuple[Product, ...]] = {}
         # (of what each asks for, which is looked at if an item says less; most are never asked so)
         self._names: list[list[str]] = []
         self._wanted: dict[int, Wanted] = {}
@@ -156,6 +169,7 @@ class Index:
     def concerned(self, items: Iterable[Item], decided: Decided) -> list[int]:
         """The places of the statements that may have another verdict than without items of these products and versions, in order."""
         found = self._near.near(items)
+        found.update(self._of_each)
         for key in [*(key for key, is_inside in decided.truths.items() if is_inside), *decided.unsure]:
             found.update(self._by_range.get(key, ()))
         return sorted(found)
@@ -172,7 +186,9 @@ class Index:
         products, is_all = self._products[place]
         if is_all:
             return all_items
-        keys = dict.fromkeys(key for product in products for key in keys_of(product))
+        keys = self._keys.get(place)
+        if keys is None:
+            keys = self._keys[place] = tuple(dict.fromkeys(key for product in products for key in keys_of(product)))
         found = [by_product[key] for key in keys if key in by_product]
         # (mostly it is one product)
         return found[0] if len(found) == 1 else tuple(sorted({item for items in found for item in items}))
@@ -192,7 +208,7 @@ def _items(facts: Iterable[str], plain: Collection[Product]) -> Iterator[Item]:
             yield product, version_key(parts[names.VERSION])
 
 
-def _by_product(called: Iterable[Called]) -> dict[Product, Items]:
+def names_by_product(called: Iterable[Called]) -> dict[Product, Items]:
     """Names by the keys of their products, in order."""
     found: dict[Product, set[str]] = {}
     for one in called:
@@ -209,7 +225,7 @@ class Cases:
 
     def put(self, called: Sequence[Called], decided: Decided) -> dict[int, int]:
         """The cases of a machine whose items are called so, by the places of the statements that are asked of it."""
-        by_product = _by_product(called)
+        by_product = names_by_product(called)
         if self._is_all_asked:
             places = list(range(len(self._known.statements)))
         else:

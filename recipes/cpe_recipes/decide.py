@@ -205,16 +205,23 @@ class Decider:
         plain: list[Range] = []
         odd: list[tuple[Range, str]] = []
         asked_of_patterns: list[Range] = []
+        # (many ranges have the same name)
+        is_near: dict[str, tuple[bool, bool]] = {}
         for one in ranges:
             lead = leads.found.get(one.criteria)
             if lead is None:
                 continue
-            # (by its name as cpe writes it, of which vendor and product can be told)
-            asked = _asked(replace(one, criteria=lead.name), letters)
             self.criteria[one.key] = lead.name
-            if near_in_part.ends(lead.name):
+            if lead.name not in is_near:
+                is_near[lead.name] = bool(near.ends(lead.name)), bool(near_in_part.ends(lead.name))
+            if not any(is_near[lead.name]):
+                continue
+            # (by its name as cpe writes it, of which vendor and product can be told)
+            asked = _asked(one if one.criteria == lead.name else replace(one, criteria=lead.name), letters)
+            is_asked, is_asked_in_part = is_near[lead.name]
+            if is_asked_in_part:
                 asked_of_patterns.append(asked)
-            if near.ends(lead.name):
+            if is_asked:
                 reason = _oddness(asked)
                 if reason:
                     odd.append((asked, reason))

@@ -269,9 +269,9 @@ class _Names:
         self._is_strict, self._calling = words.has("--strict"), calling
         self._components = {machine.name: list(self._leads_of(machine)) for machine in machines}
         called = calling.of_components(leads for of in self._components.values() for leads in of)
-        ends = (one.name for one in called if not one.is_spelled)
-        self._decider = decide.Decider(program, ranges.values(), self.leads, ends, letters)
-        self._negations = Negations(program, records.negated, self.leads, called, self._decider, self._lists, has_hardware(words))
+        names = list(dict.fromkeys(one.name for one in called))
+        self._decider = decide.Decider(program, ranges.values(), self.leads, names, letters)
+        self._negations = Negations(program, records.negated, self.leads, names, self._decider, self._lists, has_hardware(words))
 
     def items(self, machine: Machine) -> dict[str, decide.Lead]:
         """Where its items lead; what is no item is said where it is put."""

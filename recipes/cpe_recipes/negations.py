@@ -9,6 +9,7 @@ what is negated of such a part. Where it is known that there is no hardware to a
 from __future__ import annotations
 
 from collections.abc import Collection, Iterable, Mapping, Sequence
+from operator import itemgetter
 
 from . import names
 from .asked import OF_DEVICES, PARTS, Negated
@@ -26,14 +27,14 @@ _SILENT = {"o": "no operating system is listed", "h": "no hardware is listed"}
 
 
 class Negations:
-    """Tells of machines what is decided of these checks."""
+    """Tells of machines what is decided of these checks; `items` are all names that their items have or perhaps have."""
 
     def __init__(
         self,
         program: Program,
         negated: Collection[Negated],
         leads: Leads,
-        called: Iterable[Called],
+        items: Iterable[str],
         decider: Decider,
         lists: Lists,
         has_hardware: bool = True,
@@ -44,7 +45,6 @@ class Negations:
         self._facts = {one.key: leads.found[one.fact].name for one in negated if one.fact in leads.found}
         self._ends = {one.key: leads.found[one.fact].ends for one in negated if one.fact in leads.found}
         self._negated = [one for one in negated if one.key in self._facts]
-        items = dict.fromkeys(one.name for one in called) if self._negated else {}
         asked = dict.fromkeys([*self._facts.values(), *(end for ends in self._ends.values() for end in ends)])
         covered, may_be = items_met(program, items, asked) if self._negated else ({}, {})
         self._covered = {fact: set(found) for fact, found in covered.items()}
@@ -52,7 +52,10 @@ class Negations:
 
     def put(self, components: Components, called: Sequence[Called], decided: Decided) -> None:
         """Puts what is decided of a machine whose items are called so."""
-        here = {one.name: one for one in called}
+        # (with their places, so that reasons are in the order of this machine, whichever others there are)
+        here: dict[str, list[tuple[int, Called]]] = {}
+        for place, one in enumerate(called):
+            here.setdefault(one.name, []).append((place, one))
         listed = {names.part_of(name) for name in here}
         silent = [part for part in self._parts if part not in listed]
         for keys, is_told in ((PARTS, True), (OF_DEVICES, not listed.isdisjoint(PARTS))):
@@ -65,20 +68,21 @@ class Negations:
         for leads in components if self._negated else ():
             for lead in leads:
                 by_name.setdefault(lead.name, []).append(leads)
-        for one in self._negated:
-            self._put_negated(one, by_name, here, decided, silent)
+        for negated in self._negated:
+            self._put_negated(negated, by_name, here, decided, silent)
 
     def _put_negated(
         self,
         one: Negated,
         by_name: Mapping[str, Sequence[Sequence[Lead]]],
-        here: Mapping[str, Called],
+        here: Mapping[str, Sequence[tuple[int, Called]]],
         decided: Decided,
         silent: Sequence[str],
     ) -> None:
         """Puts what is decided of what is negated, on a machine with these names, and components by their names."""
         fact = self._facts[one.key]
-        near = [here[name] for name in self._near[fact] if name in here and self._stand(one, here[name]) is not False]
+        placed = [pair for name in self._near[fact] if name in here for pair in here[name] if self._stand(one, pair[1]) is not False]
+        near = [it for _, it in sorted(placed, key=itemgetter(0))]
         if not near and names.part_of(fact) in silent:
             decided.unsure[one.key] = Unsure(one.key, "", _SILENT[names.part_of(fact)])
         # (a component that meets it by each of its names has one that is near)
@@ -112,7 +116,7 @@ class Negations:
     def _in_range(self, key: str, name: str, meant: str, kind: str) -> Stand:
         if key in self._lists.keys(meant):
             return True
-        stand = self._decider.stands(name, kind).get(key, "nothing is told of its range")
+        stand = self._decider.stands(name, kind).get(key, "nothing is said of its range")
         # (what it was mended of doesn't make its version another)
         return True if isinstance(stand, Backported) else stand
 

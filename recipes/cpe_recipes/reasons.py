@@ -47,13 +47,13 @@ class Reasons:
         one = asked.found
         for place, facts in asked.facts.items():
             called = {it.name: it for it in (one.called if place in one.less else one.asked)}
+            # (in the order of this machine, whichever others there are)
+            places = {name: number for number, name in enumerate(called)}
             reasons: dict[str, None] = {}
             for fact, is_told in facts:
                 if any(name in called for name in covered[fact]):
                     continue
-                there = set(may_be[fact])
-                # (in the order of this machine, whatever the other ones have)
-                for it in (it for name, it in called.items() if name in there):
+                for it in (called[name] for name in sorted(called.keys() & may_be[fact], key=places.__getitem__)):
                     if it.sure is Sure.LESS and place in one.less:
                         one.perhaps[Perhaps(self._known.statements[place].id, it.item, fact)] = None
                     if not is_told:

@@ -189,10 +189,10 @@ class Scan:
         """Puts what is decided of the ranges, and the verdicts."""
         self._progress.step("deciding ranges of versions")
         cases = Cases(self._known, self._index(), is_all_asked)
-        called = list({it.name: it for one in found for it in one.called}.values())
-        decider = self._decider(_ends(called))
+        items = list(dict.fromkeys(it.name for one in found for it in one.called))
+        decider = self._decider(items)
         negated = list(self._known.negated.values())
-        negations = Negations(self._program, negated, self._leads, called, decider, self._lists, self._has_hardware)
+        negations = Negations(self._program, negated, self._leads, items, decider, self._lists, self._has_hardware)
         asked = [self._asked(one, decider, negations, cases) for one in found]
         truths = self._ask(cases.in_order())
         for one, of_machine in zip(found, asked):
@@ -278,11 +278,6 @@ class _Again(Scan):
     def _lead(self, items: Collection[str]) -> Calling:
         self._leads, self.successors = self._prepared.leads, self._prepared.successors
         return self._prepared.calling
-
-
-def _ends(called: Iterable[Called]) -> list[str]:
-    """The names that are held against ranges."""
-    return [one.name for one in called if not one.is_spelled]
 
 
 def _next(answers: Iterator[str]) -> str:

@@ -16,13 +16,19 @@ from collections.abc import Iterator
 from pathlib import Path
 
 NAME = "service.db"
-VERSION = 2
+VERSION = 3
 # How long a writer waits for another one.
 _SECONDS = 300
 
 # The edits that change what each machine is judged by.
 GROUND = ("feed", "names", "letters", "suppression", "settled")
 
+# How many machines have a verdict of a kind is counted where verdicts are written, since there may be millions of these.
+_ONE_MORE = "INSERT INTO affected VALUES (new.advisory, new.kind, 1) ON CONFLICT DO UPDATE SET machines = machines + 1;"
+_ONE_LESS = (
+    "UPDATE affected SET machines = machines - 1 WHERE advisory = old.advisory AND kind = old.kind; "
+    "DELETE FROM affected WHERE advisory = old.advisory AND kind = old.kind AND machines = 0;"
+)
 _SCHEMA = """
 CREATE TABLE edits (
     id INTEGER PRIMARY KEY AUTOINCREMENT, at REAL NOT NULL, kind TEXT NOT NULL, what TEXT NOT NULL, client TEXT NOT NULL);
@@ -38,7 +44,11 @@ CREATE TABLE advisories (id TEXT PRIMARY KEY, asked INTEGER, state TEXT NOT NULL
 CREATE TABLE verdicts (
     machine INTEGER NOT NULL, advisory TEXT NOT NULL, kind TEXT NOT NULL, since REAL NOT NULL, PRIMARY KEY (machine, advisory))
     WITHOUT ROWID;
-CREATE INDEX verdicts_by_advisory ON verdicts (advisory, kind);
+CREATE INDEX verdicts_by_advisory ON verdicts (advisory, kind, since);
+CREATE TABLE affected (advisory TEXT NOT NULL, kind TEXT NOT NULL, machines INTEGER NOT NULL, PRIMARY KEY (advisory, kind)) WITHOUT ROWID;
+CREATE TRIGGER verdict_begins AFTER INSERT ON verdicts BEGIN {ONE_MORE} END;
+CREATE TRIGGER verdict_ends AFTER DELETE ON verdicts BEGIN {ONE_LESS} END;
+CREATE TRIGGER verdict_changes AFTER UPDATE OF kind ON verdicts WHEN old.kind <> new.kind BEGIN {ONE_LESS} {ONE_MORE} END;
 CREATE TABLE history (
     id INTEGER PRIMARY KEY AUTOINCREMENT, at REAL NOT NULL, machine TEXT NOT NULL, advisory TEXT NOT NULL, before TEXT NOT NULL,
     after TEXT NOT NULL, cause TEXT NOT NULL, edit INTEGER NOT NULL, reason TEXT NOT NULL);
@@ -56,7 +66,14 @@ CREATE INDEX records_by_key ON records (kind, key);
 CREATE INDEX records_by_feed ON records (feed);
 CREATE TABLE tables (name TEXT PRIMARY KEY, text TEXT NOT NULL);
 CREATE TABLE notes (name TEXT PRIMARY KEY, text TEXT NOT NULL);
-"""
+""".replace("{ONE_MORE}", _ONE_MORE).replace("{ONE_LESS}", _ONE_LESS)
+_STATEMENTS = [one for one in _SCHEMA.split(";\n") if one.strip()]
+# What makes this version of the one before: what is new, and what it counts.
+_SINCE_2 = [
+    "DROP INDEX verdicts_by_advisory",
+    *(one for one in _STATEMENTS if "verdicts_by_advisory" in one or "affected" in one),
+    "INSERT INTO affected SELECT advisory, kind, count(*) FROM verdicts GROUP BY advisory, kind",
+]
 
 
 class OtherVersion(Exception):
@@ -78,16 +95,16 @@ def connected(folder: Path, is_reader: bool = False) -> sqlite3.Connection:
 
 
 def made(folder: Path) -> None:
-    """Makes the database of a data folder, if there is none."""
+    """Makes the database of a data folder, if there is none, or this version of one of the version before."""
     with contextlib.closing(connected(folder)) as database, writing(database):
         version = database.execute("PRAGMA user_version").fetchone()[0]
-        if version == 0:
-            for statement in _SCHEMA.split(";\n"):
-                if statement.strip():
-                    database.execute(statement)
-            database.execute(f"PRAGMA user_version = {VERSION}")
-        elif version != VERSION:
+        if version == VERSION:
+            return
+        if version not in (0, 2):
             raise OtherVersion(f"the database has version {version}, and this service reads {VERSION}")
+        for statement in _SINCE_2 if version else _STATEMENTS:
+            database.execute(statement)
+        database.execute(f"PRAGMA user_version = {VERSION}")
 
 
 @contextlib.contextmanager

@@ -33,7 +33,7 @@ def machines(database: sqlite3.Connection, q: str, kind: str, limit: int, offset
     where = "instr(lower(name), lower(?)) > 0"
     values: list[Json] = [q]
     if kind:
-        where += " AND EXISTS (SELECT 1 FROM verdicts WHERE machine = machines.id AND kind = ?)"
+        where += " AND json_extract(counts, '$.' || ?) > 0"
         values.append(kind)
     with reading(database):
         ground = ground_of(database)
@@ -151,22 +151,30 @@ def settled(database: sqlite3.Connection, lists: Sequence[tuple[str, int]]) -> s
 
 def advisories(database: sqlite3.Connection, q: str, kind: str, limit: int, offset: int) -> tuple[list[Json], int]:
     """The advisories with a verdict that isn't FALSE on some machine, the most affected first, and how many there are."""
-    where, values = "instr(lower(advisory), lower(?)) > 0", [q]
+    where, values = ("instr(lower(advisory), lower(?)) > 0", [q]) if q else ("true", [])
     if kind:
         where, values = f"{where} AND kind = ?", [*values, kind]
     with reading(database):
-        count = database.execute(f"SELECT count(DISTINCT advisory) FROM verdicts WHERE {where}", values).fetchone()[0]
+        count = database.execute(f"SELECT count(DISTINCT advisory) FROM affected WHERE {where}", values).fetchone()[0]
         rows = database.execute(
-            f"SELECT advisory, sum(kind = 'TRUE') affected, count(*) rows, min(since) since FROM verdicts WHERE {where} "
-            "GROUP BY advisory ORDER BY affected DESC, rows DESC, advisory LIMIT ? OFFSET ?",
+            f"SELECT advisory, total(machines) FILTER (WHERE kind = 'TRUE') true, sum(machines) machines FROM affected WHERE {where} "
+            "GROUP BY advisory ORDER BY true DESC, machines DESC, advisory LIMIT ? OFFSET ?",
             (*values, limit, offset),
         ).fetchall()
-        return [_advisory(database, row) for row in rows], count
+        return [_advisory(database, row["advisory"], kind) for row in rows], count
 
 
-def _advisory(database: sqlite3.Connection, row: sqlite3.Row) -> dict[str, Json]:
-    kinds = database.execute("SELECT kind, count(*) FROM verdicts WHERE advisory = ? GROUP BY kind", (row["advisory"],)).fetchall()
-    return {"id": row["advisory"], **_details(database, row["advisory"]), "counts": dict(map(tuple, kinds)), "since": time_text(row["since"])}
+def _advisory(database: sqlite3.Connection, id: str, kind: str) -> dict[str, Json]:
+    """An advisory with its machines by the kinds of their verdicts, and since when the first has one, or one of this kind."""
+    counts = _counts(database, id)
+    question = "SELECT min(since) FROM verdicts WHERE advisory = ? AND kind = ?"
+    since = min(database.execute(question, (id, one)).fetchone()[0] for one in counts if one == kind or not kind)
+    return {"id": id, **_details(database, id), "counts": counts, "since": time_text(since)}
+
+
+def _counts(database: sqlite3.Connection, id: str) -> dict[str, int]:
+    """How many machines have a verdict of each kind."""
+    return dict(map(tuple, database.execute("SELECT kind, machines FROM affected WHERE advisory = ?", (id,))))
 
 
 def _details(database: sqlite3.Connection, id: str) -> dict[str, Json]:
@@ -191,7 +199,7 @@ def advisory(database: sqlite3.Connection, id: str, kind: str, limit: int, offse
             f"ORDER BY CASE kind {_RANKS} END, since DESC, name LIMIT ? OFFSET ?",
             (*values, limit, offset),
         ).fetchall()
-        counts = Counter(dict(map(tuple, database.execute("SELECT kind, count(*) FROM verdicts WHERE advisory = ? GROUP BY kind", (id,)))))
+        counts = Counter(_counts(database, id))
         is_known = database.execute("SELECT 1 FROM advisories WHERE id = ?", (id,)).fetchone() is not None
         if not is_known and not counts and not is_read(database):
             raise Unread

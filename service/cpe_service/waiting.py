@@ -12,12 +12,13 @@ from .quiet import Quiet
 
 @dataclass(frozen=True)
 class Waiting:
-    """A machine that waits for its verdicts."""
+    """A machine that waits for its verdicts. `since` is the ground of its result, if that is of the same list and has verdicts, else 0."""
 
     id: int
     name: str
     put: int
     list: bytes
+    since: int = 0
 
     def machine(self) -> Machine:
         """What its list has. (What isn't read of it was said when it was put.)"""

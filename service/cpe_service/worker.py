@@ -1,7 +1,8 @@
-"""The process that judges the machines of a shard: python3 -m cpe_service.worker DATA SHARD SHARDS.
+"""The process that judges machines, those of its shard first: python3 -m cpe_service.worker DATA SHARD SHARDS.
 
 It takes what waits from the database, and writes the verdicts and what changed of them in one transaction. So whenever it is killed,
-the next one finds what is left. Machines with new lists come before those that wait for another ground.
+the next one finds what is left. Machines with new lists come before those that wait for another ground. If none of its shard waits, it
+takes one of another shard that no other worker has claimed.
 """
 from __future__ import annotations
 
@@ -25,7 +26,9 @@ from cpe_recipes.program import Program
 from cpe_recipes.said import Fatal
 
 from . import certificates, entries, frames, queries
-from .database import connected, ground_of, note, noted, packed, reading, writing
+from .changed import Basis, Changed, merged
+from .claims import Claims
+from .database import GROUND, connected, ground_of, note, noted, packed, reading, unpacked, writing
 from .frames import Message
 from .ground import Ground, read_ground
 from .judge import Judge, Judged
@@ -33,12 +36,15 @@ from .quiet import pathless
 from .texts import whole
 from .waiting import Waiting
 
-# How many machines are judged together: of new lists, on whose answers clients wait, and of others.
-_NEW, _OTHERS = 4, 16
+# How many machines are judged together at most: of new lists, on whose answers clients wait, and of others. And how many are looked at.
+_NEW, _OTHERS, _LOOKED_AT = 4, 16, 256
 # How often the same machines are tried if cpe dies, and how long a worker waits before it looks again.
 _TRIES, _SECONDS = 3, 30
 # How long it waits after what it couldn't do.
 _PAUSE = 5
+# Of how many grounds before is kept what changed since then, and of which share of the advisories that is worth it.
+_GROUNDS, _SHARE = 8, 0.5
+_SINCE = "CASE WHEN result_put = put AND fault = '' AND result IS NOT NULL AND instr(counts, '\"no items\"') = 0 THEN result_ground ELSE 0 END"
 
 
 class NoResult(Exception):
@@ -46,12 +52,15 @@ class NoResult(Exception):
 
 
 class Worker:
-    """Judges the machines of a shard."""
+    """Judges machines, those of a shard first."""
 
     def __init__(self, folder: Path, shard: int, shards: int) -> None:
         self._folder, self._shard, self._shards = folder, shard, shards
-        self._database, self._program = connected(folder), Program()
+        self._database, self._program, self._claims = connected(folder), Program(), Claims(folder)
         self._judge: Judge | None = None
+        # (of grounds before, by their edits, what changed since then)
+        self._basis: Basis | None = None
+        self._changed: dict[int, Changed] = {}
         # (one before it may have noted what it couldn't do)
         self._is_troubled = True
         self._inbox: queue.SimpleQueue[Message] = queue.SimpleQueue()
@@ -96,6 +105,13 @@ class Worker:
         if self._is_troubled:
             self._database.execute("DELETE FROM notes WHERE name = ?", (f"trouble {self._shard}",))
             self._is_troubled = False
+        try:
+            return self._judge_some(judge)
+        finally:
+            self._claims.end()
+
+    def _judge_some(self, judge: Judge) -> bool:
+        """Judges some of the machines that wait by this ground, or by one of more advisories, if they need that."""
         waiting = self._waiting(judge.ground.edit)
         if waiting and judge.ground.is_before(max(one.put for one in waiting)):
             # (it has the advisories alone that may concern the machines of then)
@@ -120,12 +136,33 @@ class Worker:
             ground = read_ground(self._database, self._program, self._machines)
             self._note(ground)
             self._judge = Judge(self._program, ground)
+            self._note_changed(self._judge.basis)
             # (the ground is large and stays, so Python needn't look through it for garbage again and again)
             gc.unfreeze()
             gc.collect()
             gc.freeze()
             self._send({"done": 0})
         return self._judge
+
+    def _note_changed(self, basis: Basis | None) -> None:
+        """Notes what changed since the grounds before, of which machines may have verdicts. If more than advisories may have, nothing is."""
+        before, self._basis = self._basis, basis
+        if before is not None and basis is not None and before.edit == basis.edit:
+            return
+        changed = None
+        if before is not None and basis is not None and self._are_advisories(before.edit, basis.edit):
+            changed = Changed.between(before, basis)
+        if changed is None or len(changed.ids) > _SHARE * len(basis.sums):
+            self._changed = {}
+            return
+        older = list(self._changed.items())[1 - _GROUNDS :]
+        self._changed = {edit: one.joined(changed) for edit, one in older} | {before.edit: changed}
+
+    def _are_advisories(self, since: int, edit: int) -> bool:
+        """Whether the edits between these changed advisories alone."""
+        marks = ", ".join("?" * len(GROUND))
+        question = f"SELECT 1 FROM edits WHERE id > ? AND id <= ? AND kind IN ({marks}) AND NOT (kind = 'feed' AND what LIKE 'advisories %')"
+        return self._database.execute(question, (since, edit, *GROUND)).fetchone() is None
 
     def _end(self) -> None:
         if self._judge is not None:
@@ -137,12 +174,26 @@ class Worker:
         return [Waiting(*row) for row in self._database.execute("SELECT id, name, put, list FROM machines ORDER BY id")]
 
     def _waiting(self, ground: int) -> list[Waiting]:
-        """Some machines that wait, those with new lists first."""
-        columns = f"SELECT id, name, put, list FROM machines WHERE shard % {self._shards} = {self._shard} AND"
-        with reading(self._database) as database:
-            rows = database.execute(f"{columns} put <> judged_put ORDER BY put LIMIT {_NEW}").fetchall()
-            rows = rows or database.execute(f"{columns} judged_ground <> ? ORDER BY judged_ground LIMIT {_OTHERS}", (ground,)).fetchall()
-        return [Waiting(*row) for row in rows]
+        """Some machines that wait and that no other worker judges, those with new lists first, and those of this shard before others."""
+        new, old = "put <> judged_put", "judged_ground <> ?"
+        count = self._database.execute(f"SELECT count(*) FROM machines WHERE {new}").fetchone()[0]
+        # (who waits for an answer waits for no other list, if there are as many workers as lists)
+        most = max(1, min(_NEW, count // (2 * self._shards)))
+        return self._claimed(new, (), "put", most) or self._claimed(old, (ground,), "judged_ground", _OTHERS)
+
+    def _claimed(self, waits: str, values: tuple[int, ...], order: str, most: int) -> list[Waiting]:
+        """Some machines that wait so, which are claimed."""
+        for shard in ("=", "<>"):
+            where = f"{waits} AND shard % {self._shards} {shard} {self._shard}"
+            rows = self._database.execute(f"SELECT id FROM machines WHERE {where} ORDER BY {order} LIMIT {_LOOKED_AT}", values).fetchall()
+            ids = self._claims.take((row["id"] for row in rows), most)
+            # (another worker may have judged it before it was claimed)
+            question = f"SELECT id, name, put, list, {_SINCE} FROM machines WHERE id = ? AND {waits}"
+            found = [Waiting(*row) for id in ids if (row := self._database.execute(question, (id, *values)).fetchone())]
+            if found:
+                return found
+            self._claims.end()
+        return []
 
     def _tried(self, waiting: Sequence[Waiting]) -> tuple[dict[str, Judged], dict[str, str]]:
         """The results of machines. If there is none of all together, each is judged alone, and the reasons are there of those without one."""
@@ -164,7 +215,7 @@ class Worker:
             # (what can't be read of the ground is no fault of a list)
             judge = self._ready()
             try:
-                return judge.judge([one.machine() for one in waiting])
+                return self._judged(judge, waiting)
             except (sqlite3.Error, OSError):
                 raise
             except (Fatal, FeedFault) as fault:
@@ -176,6 +227,17 @@ class Worker:
                 raise NoResult(f"the recipes have a fault: {type(fault).__name__} {fault}") from fault
         raise AssertionError("there is a last try")
 
+    def _judged(self, judge: Judge, waiting: Sequence[Waiting]) -> list[Judged]:
+        """The results of machines: of those that were judged by a ground before, what changed, as far as that is known."""
+        found: list[Judged] = []
+        for since, changed in self._changed.items():
+            some = [one for one in waiting if one.since == since]
+            results = judge.judge_changed([one.machine() for one in some], changed) if some else []
+            found += [one for one in results if one is not None]
+        done = {one.name for one in found}
+        rest = [one.machine() for one in waiting if one.name not in done]
+        return found + (judge.judge(rest) if rest else [])
+
     def _write_fault(self, one: Waiting, fault: str, ground: int) -> None:
         """Writes why there is no result. What was known before stays, and the fault is beside it."""
         columns = "judged_put = ?, judged_ground = ?, judged_at = ?, fault = ?"
@@ -184,23 +246,36 @@ class Worker:
     def _write(self, one: Waiting, judged: Judged) -> None:
         """Writes the result of a machine, if it is still there."""
         database = self._database
-        row = database.execute("SELECT result_put, result_ground, fault, counts FROM machines WHERE id = ?", (one.id,)).fetchone()
+        row = database.execute("SELECT result_put, result_ground, fault, counts, result FROM machines WHERE id = ?", (one.id,)).fetchone()
         if row is None:
             return
+        if judged.ids is not None and (row["result_put"], row["result_ground"]) != (one.put, one.since):
+            # (what it is to be put into is another result by now, so the machine waits on)
+            return
         at = time.time()
-        self._write_changes(one, judged, row, at)
-        result = packed(whole(queries.result_text(judged.row | {"said": judged.said})).encode())
-        counts = json.dumps(Counter(judged.kinds.values()) if judged.has_items else {"no items": 1})
+        kinds = self._write_changes(one, judged, row, at)
+        result = packed(whole(self._result(judged, row)).encode())
+        counts = json.dumps(Counter(kinds.values()) if judged.has_items else {"no items": 1})
         columns = "judged_put = ?, judged_ground = ?, result_put = ?, result_ground = ?, judged_at = ?, fault = '', counts = ?, result = ?"
         edits = one.put, judged.judge.ground.edit
         database.execute(f"UPDATE machines SET {columns} WHERE id = ?", (*edits, *edits, at, counts, result, one.id))
 
-    def _write_changes(self, one: Waiting, judged: Judged, row: sqlite3.Row, at: float) -> None:
-        database = self._database
-        before = dict(database.execute("SELECT advisory, kind FROM verdicts WHERE machine = ?", (one.id,)).fetchall())
+    def _result(self, judged: Judged, row: sqlite3.Row) -> str:
+        """The result as the database keeps it."""
+        found = judged.row | {"said": judged.said}
+        if judged.ids is None:
+            return queries.result_text(found)
+        return merged(unpacked(row["result"]).decode(), found, judged.ids, judged.judge.order)
+
+    def _write_changes(self, one: Waiting, judged: Judged, row: sqlite3.Row, at: float) -> dict[str, str]:
+        """Writes what changed, and the verdicts as they are now, which are the answer."""
+        database, ids = self._database, judged.ids
+        known = dict(database.execute("SELECT advisory, kind FROM verdicts WHERE machine = ?", (one.id,)).fetchall())
+        before = known if ids is None else {id: kind for id, kind in known.items() if id in ids}
+        now_all = judged.kinds if ids is None else {id: kind for id, kind in known.items() if id not in ids} | judged.kinds
         changes = list(self._changes(before, judged, row))
         if not changes:
-            return
+            return now_all
         cause, edit = self._cause(one, row, judged.judge.ground.edit)
         database.executemany(
             "INSERT INTO history (at, machine, advisory, before, after, cause, edit, reason) VALUES (?, ?, ?, ?, ?, ?, ?, ?)",
@@ -213,6 +288,7 @@ class Worker:
             "INSERT INTO verdicts VALUES (?, ?, ?, ?) ON CONFLICT DO UPDATE SET kind = excluded.kind, since = excluded.since",
             [(one.id, id, now, at) for id, _, now, _ in changes if id in judged.kinds],
         )
+        return now_all
 
     def _changes(self, before: dict[str, str], judged: Judged, row: sqlite3.Row) -> Iterator[tuple[str, str, str, str]]:
         """The advisories whose verdicts changed, with the verdicts before and now, and why there is none now."""

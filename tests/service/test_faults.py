@@ -1,8 +1,10 @@
 """Processes that are killed, disks that are full, folders that can only be read, and slow clients. What was accepted stays, and all else
 is answered.
 
-CPE_KILLS is how often a process is killed, and CPE_SEED the seed by which it is drawn which and when.
+CPE_KILLS is how often a process is killed, and CPE_SEED the seed by which it is drawn which and when. CPE_MEGABYTES is how large a large
+list is.
 """
+import contextlib
 import json
 import os
 import random
@@ -10,6 +12,7 @@ import resource
 import shutil
 import signal
 import socket
+import sqlite3
 import subprocess
 import sys
 import threading
@@ -20,6 +23,7 @@ from pathlib import Path
 from service_case import CPE, PATIENCE, ROOT, SAMPLES, ServiceCase, feed
 
 KILLS, SEED = int(os.environ.get("CPE_KILLS", "8")), int(os.environ.get("CPE_SEED", "1"))
+MEGABYTES = int(os.environ.get("CPE_MEGABYTES", "20"))
 RANGES = SAMPLES / "ranges"
 VERSIONS = ("0.9.8zh", "1.0.2k", "1.1.1", "3.0.7", "3.0.8", "8.9p1", "1.*", "*")
 PRODUCTS = ("openssl:openssl", "openbsd:openssh", "proftpd:proftpd", "redis:redis", "ntp:ntp")
@@ -183,18 +187,82 @@ class DiskTest(ServiceCase):
         again = self.server()
         self.assertEqual(again.put("large", data)[0], 201)
 
-    @unittest.skipIf(os.geteuid() == 0 and shutil.which("setpriv") is None, "root may write everywhere, and there is no setpriv")
-    def test_a_folder_that_can_only_be_read(self):
+    def disk(self, megabytes):
+        """A disk of this size as the data folder. (Root alone may make one.)"""
         folder = self.folder / "data"
         folder.mkdir()
+        words = ["mount", "-t", "tmpfs", "-o", f"size={megabytes}m,mode=700", "small", str(folder)]
+        if os.geteuid() or subprocess.run(words, capture_output=True).returncode:
+            self.skipTest("no disk can be made here")
+        self.addCleanup(subprocess.run, ["umount", "--lazy", str(folder)], check=True)
+        return folder
+
+    def test_a_disk_that_is_full_until_there_is_room_again(self):
+        """Nothing is kept of what it doesn't take, all else is answered, and what waits is judged when there is room, by the same server."""
+        folder = self.disk(24)
+        server = self.with_samples()
+        self.assertEqual(server.put("before", "cpe:/a:ntp:ntp:4.2.8")[0], 201)
+        server.settled()
+        filling = folder / "filling"
+        with filling.open("wb", buffering=0) as file:
+            with self.assertRaises(OSError):
+                while True:
+                    file.write(bytes(4_096))
+        for method, path, body in (
+            ("PUT", "/machines/after", "cpe:/a:ntp:ntp:4.2.8"), ("DELETE", "/machines/before", None), ("PUT", "/tables/suppress", "CVE-1 * x"),
+            ("POST", "/feeds", (RANGES / "advisories.json").read_bytes()),
+        ):
+            status, value = server.ask(method, path, body)
+            self.assertEqual((status, value["detail"].partition(":")[0]), (507, "it could not be kept"), value)
+        self.assertEqual([one["name"] for one in server.ask("GET", "/machines")[1]["machines"]], ["before"])
+        self.assertEqual(server.ask("GET", "/machines/before")[1]["state"], "judged")
+        self.assertEqual(server.ask("GET", "/health")[0], 200)
+        filling.unlink()
+        self.assertEqual(server.put("after", "cpe:/a:ntp:ntp:4.2.8")[0], 201)
+        self.assertEqual(self.judged(server, "after"), {**self.judged(server, "before"), "name": "after"})
+
+    def test_verdicts_that_the_disk_does_not_take_are_written_later(self):
+        """The worker says that it is in trouble, and tries again."""
+        folder = self.disk(24)
+        server = self.with_samples()
+        server.put("m", "cpe:/a:ntp:ntp:4.2.8")
+        server.settled()
+        pids = server.children("cpe_service.worker")
+        for pid in pids:
+            os.kill(pid, signal.SIGSTOP)
+        record = json.loads((RANGES / "advisories.json").read_bytes())["vulnerabilities"][0]
+        record["cve"]["lastModified"] = "2026-01-01T00:00:00.000"
+        self.assertEqual(server.feed(feed("vulnerabilities", record))[0], 202)
+        filling = folder / "filling"
+        with filling.open("wb", buffering=0) as file, self.assertRaises(OSError):
+            while True:
+                file.write(bytes(4_096))
+        for pid in pids:
+            os.kill(pid, signal.SIGCONT)
+        time.sleep(6)
+        self.assertEqual(server.ask("GET", "/machines/m")[1]["state"], "waiting")
+        self.assertEqual(server.ask("GET", "/machines")[1]["waiting"], 1)
+        filling.unlink()
+        self.assertEqual(server.settled()["trouble"], [])
+        self.assertEqual(server.ask("GET", "/machines/m")[1]["state"], "judged")
+
+    @unittest.skipIf(os.geteuid() == 0 and shutil.which("setpriv") is None, "root may write everywhere, and there is no setpriv")
+    def test_a_folder_that_can_only_be_read(self):
+        """Neither a new one is used, nor one that a service has used."""
+        new, used = self.folder / "new", self.folder / "data"
+        new.mkdir()
+        self.with_samples().kill()
         self.folder.chmod(0o755)
-        folder.chmod(0o555)
-        words = [sys.executable, "-B", "-m", "cpe_service", "--data", str(folder), "--port", "0"]
-        if os.geteuid() == 0:
-            words = ["setpriv", "--reuid=65534", "--regid=65534", "--clear-groups", *words]
-        run = subprocess.run(words, cwd=ROOT / "service", capture_output=True, text=True, timeout=PATIENCE, env={**os.environ, "CPE": CPE})
-        self.assertEqual(run.returncode, 1)
-        self.assertIn(f"the data folder {folder} can not be used", run.stderr)
+        for folder in (new, used):
+            for path in folder.iterdir():
+                path.chmod(0o444)
+            folder.chmod(0o555)
+            words = [sys.executable, "-B", "-m", "cpe_service", "--data", str(folder), "--port", "0"]
+            if os.geteuid() == 0:
+                words = ["setpriv", "--reuid=65534", "--regid=65534", "--clear-groups", *words]
+            run = subprocess.run(words, cwd=ROOT / "service", capture_output=True, text=True, timeout=PATIENCE, env={**os.environ, "CPE": CPE})
+            self.assertEqual(run.returncode, 1)
+            self.assertIn(f"the data folder {folder} can not be used", run.stderr)
 
     def test_a_folder_that_another_service_has(self):
         server = self.server()
@@ -215,6 +283,29 @@ class DiskTest(ServiceCase):
         )
         self.assertEqual(run.returncode, 1)
         self.assertIn("version 99", run.stderr)
+
+    def test_the_version_before_of_the_database(self):
+        """It is made this one, with all that it has."""
+        server = self.with_samples()
+        server.put("m", (RANGES / "legacy-1.txt").read_bytes())
+        server.put("n", (RANGES / "app-1.txt").read_bytes())
+        server.settled()
+        paths = ("/advisories?limit=1000", "/advisories?kind=UNKNOWN", "/machines?kind=TRUE", "/machines/m")
+        before = [server.ask("GET", path) for path in paths]
+        server.kill()
+        with contextlib.closing(sqlite3.connect(server.folder / "service.db")) as database:
+            for name in ("verdict_begins", "verdict_ends", "verdict_changes"):
+                database.execute(f"DROP TRIGGER {name}")
+            database.execute("DROP TABLE affected")
+            database.execute("DROP INDEX verdicts_by_advisory")
+            database.execute("CREATE INDEX verdicts_by_advisory ON verdicts (advisory, kind)")
+            database.execute("PRAGMA user_version = 2")
+        again = self.server()
+        again.settled()
+        self.assertEqual([again.ask("GET", path) for path in paths], before)
+        self.assertEqual(again.ask("DELETE", "/machines/m")[0], 200)
+        rest = {row["id"]: row["counts"] for row in again.ask("GET", "/advisories?limit=1000")[1]["advisories"]}
+        self.assertEqual({id for id, _ in rest.items()}, {one["id"] for one in again.ask("GET", "/machines/n")[1]["verdicts"]})
 
     def test_a_backup_is_restored(self):
         server = self.with_samples()
@@ -271,6 +362,33 @@ class ClientsTest(ServiceCase):
             self.addCleanup(connection.close)
         self.assertEqual(server.put("m", "cpe:/a:ntp:ntp:4.2.8")[0], 201)
         self.assertEqual(server.ask("GET", "/machines/m")[0], 200)
+
+    def test_a_large_list_keeps_nobody_waiting(self):
+        """It is judged, or refused by its name, and meanwhile each question is answered."""
+        server = self.with_samples("ranges", "--most-list", str(400 << 20), "--rate", "10000", "--workers", "2")
+        self.assertEqual(server.put("other", "cpe:/a:ntp:ntp:4.2.8")[0], 201)
+        component = json.dumps({"type": "library", "name": "ntp", "description": "x" * 4_000, "cpe": "cpe:2.3:a:ntp:ntp:4.2.8:*:*:*:*:*:*:*"})
+        count = (MEGABYTES << 20) // len(component)
+        answers = []
+        data = f'{{"bomFormat":"CycloneDX","components":[{",".join([component] * count)}]}}'.encode()
+        thread = threading.Thread(target=lambda: answers.append(server.put("large", data)))
+        thread.start()
+        took = []
+        while thread.is_alive():
+            begin = time.monotonic()
+            for path in ("/machines/other", "/health", "/machines"):
+                self.assertEqual(server.ask("GET", path)[0], 200)
+            took.append(time.monotonic() - begin)
+            time.sleep(0.05)
+        self.assertLess(max(took), 10)
+        self.assertIn(answers[0][0], (201, 202), answers)
+        server.settled()
+        self.assertEqual(self.judged(server, "large"), {**self.judged(server, "other"), "name": "large"})
+        # (and where less is taken, it is refused while it arrives)
+        server.kill()
+        server = self.server("--most-list", "1000000", name="less")
+        status, value = server.put("large", data)
+        self.assertEqual((status, value["detail"]), (413, "the body has more than 1,000,000 bytes"))
 
     def test_a_client_that_leaves_leaves_nothing_half_done(self):
         server = self.with_samples()

@@ -270,7 +270,7 @@ class CertificateTest(WorkerCase):
         self.judge()
         self.feed("vulnerabilities", advisory("CVE-2024-10", OTHER))
         self.assertEqual(self.certificate("CVE-2024-10")["state"], "waiting")
-        with mock.patch.object(worker.Judge, "judge", side_effect=KeyError("odd")):
+        with mock.patch.object(worker.Judge, "judge_changed", side_effect=KeyError("odd")):
             self.judge()
         self.assertEqual(self.certificate("CVE-2024-10")["state"], "fault")
 

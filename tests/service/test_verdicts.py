@@ -1,4 +1,5 @@
-"""The verdicts of the service are those of scan.py, over the samples and over drawn fleets, after any order of puts, deletes and feeds.
+"""The verdicts of the service are those of scan.py, over the samples and over drawn fleets, after any order of puts, deletes and feeds,
+and whichever machines are judged together.
 
 CPE_FLEETS is how many fleets are drawn, and CPE_SEED the first of their seeds.
 """
@@ -8,11 +9,28 @@ import random
 import re
 import sys
 import unittest
+from collections import Counter
+from unittest import mock
 
-from service_case import ROOT, SAMPLES, ServiceCase, feed
+from service_case import CPE, ROOT, SAMPLES, ServiceCase, feed
 
-sys.path.insert(0, str(ROOT / "bench"))
+sys.path[:0] = [str(ROOT / folder) for folder in ("bench", "service", "tests/recipes")]
 import scan as drawing  # noqa: E402
+from test_alone import VERSIONS, DrawnParts, scanned  # noqa: E402
+from test_scan import NO_LETTERS  # noqa: E402
+
+from cpe_recipes import affected  # noqa: E402
+from cpe_recipes.components import Machine  # noqa: E402
+from cpe_recipes.decide import Lists  # noqa: E402
+from cpe_recipes.names_table import read_tables  # noqa: E402
+from cpe_recipes.outcome import Hanging, json_of, machines_with_verdicts  # noqa: E402
+from cpe_recipes.program import Program  # noqa: E402
+from cpe_recipes.settled import read_settled  # noqa: E402
+from cpe_recipes.suppressed import Suppressed  # noqa: E402
+from cpe_recipes.unanalysed import States  # noqa: E402
+from cpe_service.ground import Ground  # noqa: E402
+from cpe_service.judge import Judge  # noqa: E402
+from cpe_service.quiet import Quiet  # noqa: E402
 
 FLEETS, SEED = int(os.environ.get("CPE_FLEETS", "5")), int(os.environ.get("CPE_SEED", "1"))
 _LISTS = (".cdx.json", ".spdx.json", ".txt")
@@ -158,6 +176,25 @@ class Fleet:
             _, told = self.server.ask("GET", f"/advisories/{id}?limit=1000")
             of = {(one["name"], id): one["verdict"] for one in told["machines"]}
             self.case.assertEqual(of, {key: kind for key, kind in kinds.items() if key[1] == id})
+        self.check_lists(kinds)
+
+    def check_lists(self, kinds):
+        """The lists of advisories and of machines have them by their kinds."""
+        of_each = {id: Counter(kind for (_, one), kind in kinds.items() if one == id) for _, id in kinds}
+        for kind in ("", *dict.fromkeys(kinds.values()), "ERROR"):
+            _, told = self.server.ask("GET", f"/advisories?limit=1000{f'&kind={kind}' if kind else ''}")
+            of_kind = {id: found for id, found in of_each.items() if not kind or found[kind]}
+            count = lambda id: of_kind[id][kind] if kind else of_kind[id].total()  # noqa: E731
+            is_true = kind in ("", "TRUE")
+            wanted = sorted(of_kind, key=lambda id: (-of_kind[id]["TRUE"] * is_true, -count(id), id))
+            self.case.assertEqual([(one["id"], one["counts"]) for one in told["advisories"]], [(id, dict(of_kind[id])) for id in wanted])
+            self.case.assertEqual(told["total"], len(wanted))
+            for one in told["advisories"]:
+                _, about = self.server.ask("GET", f"/advisories/{one['id']}?limit=1000{f'&kind={kind}' if kind else ''}")
+                self.case.assertEqual(one["since"], min(machine["since"] for machine in about["machines"]))
+            _, told = self.server.ask("GET", f"/machines?limit=1000{f'&kind={kind}' if kind else ''}")
+            wanted = sorted({name for (name, _), found in kinds.items() if found == kind} if kind else self.lists)
+            self.case.assertEqual([one["name"] for one in told["machines"]], wanted)
 
     def history(self):
         """The verdicts to which the changes lead, one after the other."""
@@ -181,6 +218,42 @@ class Fleet:
             if number % 12 == 0:
                 self.check()
         self.server.kill()
+
+
+@unittest.skipUnless(CPE, "there is no cpe")
+class TogetherTest(unittest.TestCase):
+    """What a judge learned of machines changes nothing of the next ones."""
+
+    def rows(self, known, machines, listed):
+        """What scan.py has of machines, by their names."""
+        made, found = scanned(known, machines, listed, has_why=True)
+        about = affected.About({}, Suppressed([]), Hanging(known, found))
+        value = json_of(known, found, machines_with_verdicts(known, made.bare, found), about)
+        return {row["name"]: row for row in value["machines"]}
+
+    def check(self, drawn, known, machines, listed):
+        with mock.patch.dict(os.environ, {"CPE": CPE}):
+            program = Program()
+            parts = (States(), Lists(program, listed), NO_LETTERS, read_tables([]), Suppressed([]), read_settled([], Quiet()), Quiet())
+            judge = Judge(program, Ground(1, known.entries, known, *parts))
+            self.addCleanup(judge.end)
+            alone = {name: row for one in machines for name, row in self.rows(known, [one], listed).items()}
+            self.assertEqual(self.rows(known, machines, listed), alone)
+            for _ in range(2):
+                waiting = drawn.draw.sample(machines, len(machines))
+                while waiting:
+                    count = drawn.draw.randint(1, 3)
+                    some, waiting = waiting[:count], waiting[count:]
+                    for judged in judge.judge([Machine(one.name, one.components) for one in some]):
+                        for key in ("unnamed", "notNamed"):
+                            judged.row.pop(key, None)
+                        self.assertEqual(judged.row, alone[judged.name])
+
+    def test_drawn_machines(self):
+        for seed in range(SEED, SEED + 2 * FLEETS):
+            drawn = DrawnParts(seed)
+            with self.subTest(seed=seed):
+                self.check(drawn, drawn.known(), drawn.machines(VERSIONS + ["1.*"] * (seed % 2)), drawn.listed())
 
 
 class FleetsTest(ServiceCase):
