@@ -6,7 +6,7 @@ mod changes;
 mod proofs;
 mod records;
 mod save;
-mod verdicts;
+mod table;
 
 pub use records::RecordCommand;
-pub use verdicts::pour_verdicts;
+pub use table::pour_verdicts;

@@ -12,7 +12,7 @@ ghost use Rattle.record_lines.specs.Records.{by_proof, by_step, edit_text, proof
 use crate::changes::say_changes;
 use crate::proofs::{pour_certificates, say_checked};
 use crate::save::pour_snapshot;
-use crate::verdicts::pour_verdicts;
+use crate::table::pour_verdicts;
 use checked_certificates::Proof;
 use cpe_engine::Engine;
 use cpe_io::{Sink, SinkFault};

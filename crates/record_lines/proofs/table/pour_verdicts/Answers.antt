@@ -1,6 +1,6 @@
 use Rattle.std.proofs.lemmas.Result.{on_ok_weaker}
 use Rattle.record_lines.proofs.TableRows.{table-poured, table-begun}
-use Rattle.record_lines.proofs.verdicts.pour_verdicts.Goals as goal
+use Rattle.record_lines.proofs.table.pour_verdicts.Goals as goal
 
 pub returns-in-Ok-clause-ok : goal.returns-in-Ok-clause-ok
 returns-in-Ok-clause-ok g c =
