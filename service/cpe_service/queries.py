@@ -151,7 +151,7 @@ def settled(database: sqlite3.Connection, lists: Sequence[tuple[str, int]]) -> s
 
 def advisories(database: sqlite3.Connection, q: str, kind: str, limit: int, offset: int) -> tuple[list[Json], int]:
     """The advisories with a verdict that isn't FALSE on some machine, the most affected first, and how many there are."""
-    where, values = ("instr(lower(advisory), lower(?)) > 0", [q]) if q else ("true", [])
+    where, values = ("instr(lower(advisory), lower(?)) > 0", [q]) if q else ("1", [])
     if kind:
         where, values = f"{where} AND kind = ?", [*values, kind]
     with reading(database):
