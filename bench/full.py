@@ -1,13 +1,13 @@
 #!/usr/bin/env python3
 """Measures scans over feeds of NVD's size: a store that is filled, a scan from it, and a day later.
 
-    python3 bench/full.py PROGRAM [--share S] [--machines N] [--items N] [--of N] [--whole]
+    python3 bench/full.py PROGRAM [--share S] [--machines N] [--items N] [--of N] [--whole] [--fresh]
 
 It makes a share of 1,436,460 products and 300,000 advisories (a tenth if left out), in the form of NVD's API 2.0, the same at every run,
 below build/bench/full: few products have many names and advisories, and most have few; a tenth of the names is deprecated, and three in
 ten advisories aren't analysed. Machines have items of a number of products, each machine other ones. A day later 1,000 advisories changed,
 and three machines. Of each run it prints the processor time of Python and of cpe together, by phases, and the most memory that one
-process held; --whole adds a scan without a store. Python 3 (standard library alone) and Linux.
+process held; --whole adds a scan without a store, and --fresh one a day later that decides all. Python 3 (standard library alone) and Linux.
 """
 import argparse
 import bisect
@@ -207,6 +207,7 @@ def main():
     words.add_argument("--items", type=int, default=ITEMS)
     words.add_argument("--of", type=int, default=PRODUCTS)
     words.add_argument("--whole", action="store_true")
+    words.add_argument("--fresh", action="store_true")
     options = words.parse_args()
     products, advisories, window, machines = made(options)
     print(f"{options.share:g} of NVD: {len(products)} pages of products, {len(advisories)} of advisories; {options.machines} machines of {options.items} items")
@@ -220,7 +221,10 @@ def main():
         whole = measured("a scan without it", options, "scan", *pages)
         print("    it writes the same" if whole == found else "    it writes something ELSE")
     measured("what changed is added", options, "store", "add", *store, *window)
-    measured("a day later", options, "scan", *store, "--machines", machines[1])
+    found = measured("a day later", options, "scan", *store, "--machines", machines[1])
+    if options.fresh:
+        whole = measured("a day later, if all is decided", options, "scan", *store, "--machines", machines[1], "--fresh")
+        print("    it writes the same" if whole == found else "    it writes something ELSE")
 
 
 if __name__ == "__main__":

@@ -1,4 +1,4 @@
-"""Which items make verdicts TRUE, for scan.py --why, and how `cpe explain` tells it.
+"""Which items make verdicts TRUE, for scan.py --why, as a certificate of `cpe explain` has it.
 
 A certificate of `cpe explain` names an item for each fact that it needs. Of a range it has the fact and the check, and the item is the
 one whose version decided the check. `Deciding` explains the statements that are TRUE on a machine, over the names of its items and what

@@ -3,8 +3,8 @@
 What a verdict of a machine and an advisory depends on:
 
 1. The recipes, the program, Python, the letters, and the options that change verdicts: these have one checksum for all verdicts of a scan.
-2. The record of the advisory. A record that is changed is put at another place of the store, so the place stands for it. If a record of
-   the same id is added, all records of that id are decided again, since another one may count.
+2. The record of the advisory. A record that is changed is put at another place of the store, so a place is that of one record alone.
+   If a record of the same id is added, all records of that id are decided again, since another one may count.
 3. The names that the items of the machine have (`Called`), of the products that the advisory names, in their order; and of the products
    that the match feed lists for its matches.
 4. The lists of the match feed for its matches.
@@ -24,9 +24,9 @@ d. What its list says of it: its names, its kind, and the names that it perhaps 
 
 So a page that was added touches products: those of the entries in it, of the names in its advisories and in the records that these
 replace, and of the lists in it and their matches. The names of items of other products, seen by a. and c., are those of before. For the
-others, and for items that a machine has anew, all that they depend on is read, and their names are made. A verdict is decided again
+others, and for items that a machine hadn't before, all that they depend on is read, and their names are made. A verdict is decided again
 
-- if its advisory was changed, or isn't plain, or its lists were;
+- if its advisory or one of its lists changed, or its advisory isn't plain;
 - if it names a product of which an item was added to a machine or isn't there any more, or has other names than before;
 - on each machine that has an item of another part than before, or its items in another order.
 
@@ -140,7 +140,7 @@ class Difference:
 
 
 class _Taken:
-    """What is read for that, where these machines are decided whole."""
+    """What is read for that. These machines are decided whole."""
 
     def __init__(self, of: Difference, whole: Collection[str]) -> None:
         self._of = of
@@ -223,7 +223,7 @@ class _Taken:
         return Prepared(found, self.lists, self._leads, self.calling, self._successors, rows)
 
     def _products(self) -> set[Product]:
-        """The products of the items that a machine has anew, had, or that have other names now."""
+        """The products of the items that a machine hadn't before, or has no more, or that have other names now."""
         before, now = self._of.earlier.called, self._called
         keys = self._others | {key for key, called in now.items() if key[0] in self._of.open and before.get(key) != called}
         return {item_of(one.name)[0] for key in keys for one in (*before.get(key, ()), *now.get(key, ()))}

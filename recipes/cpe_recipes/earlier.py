@@ -1,4 +1,4 @@
-"""What an earlier scan from a store decided, kept beside the store, so that the next one decides anew only what may have changed.
+"""What an earlier scan from a store decided, kept beside the store, so that the next one decides again only what may have changed.
 
 A file has one fleet: its machines by their names, each with the verdicts that aren't FALSE, and of the names of their items what the
 dictionary and the feeds made of them. Beside that it has what all of it rests on (`Rests`), and what changed from scan to scan, with dates.
@@ -41,7 +41,7 @@ Key = tuple[str, str, str]
 
 
 class Row(NamedTuple):
-    """A verdict that isn't FALSE, or that is another one where an item says less (`is_perhaps`). `place` is that of the advisory in the
+    """A verdict that isn't FALSE, or that is another one if an item says less (`is_perhaps`). `place` is that of the advisory in the
     store, or 0 if the verdict is decided by each scan. The others are what is written beside it: what it hangs on, remarks, the items and
     facts of `perhaps`, and which items decide."""
 
@@ -231,7 +231,8 @@ def _fleet_of(lines: Sequence[Json]) -> Earlier:
     found = {name: Lead(written, is_entry, tuple(ends), tuple(steps)) for name, written, is_entry, ends, steps in leads}
     keys = [tuple(key) for key, _ in called]
     products = {(vendor, name): list(map(tuple, others)) for vendor, name, *others in successors}
-    fleet = Earlier(Rests(head["checksum"], head["last"], head["pages"]), head["time"], Leads(found, dict(refused)), is_whole=head["isWhole"])
+    rests = Rests(head["checksum"], head["last"], head["pages"])
+    fleet = Earlier(rests, head["time"], Leads(found, dict(refused)), is_whole=head["isWhole"])
     fleet.called = {key: tuple(map(_called_of, rows)) for key, (_, rows) in zip(keys, called)}
     fleet.successors, fleet.changes, fleet.advisories = products, changes, advisories
     for name, places, parts, has_items, rows in machines:

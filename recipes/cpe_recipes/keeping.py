@@ -2,7 +2,7 @@
 from __future__ import annotations
 
 from collections.abc import Iterator, Mapping, Sequence
-from dataclasses import dataclass
+from dataclasses import dataclass, replace
 from pathlib import Path
 
 from . import changes, names, verdicts
@@ -84,7 +84,7 @@ class Keeping:
         news = {machine.name or "": machine for machine in after.machines}
         for name in {**olds, **news}:
             before = Verdicts([olds[name]] if name in olds else [])
-            now_there = verdicts.Verdicts([news[name]] if name in news else [], 0, True, after.reasons, after.states, after.doubts, after.asked_of)
+            now_there = replace(after, machines=[news[name]] if name in news else [])
             found += [(fleet.time, name, line) for line in changes.changes(before, now_there, Mute())]
         return found[-MOST_CHANGES:]
 
@@ -95,7 +95,7 @@ def _machine(name: str, then: Then, asked: verdicts.Statements) -> verdicts.Mach
 
 
 def _rows(one: Found, machine: verdicts.Machine, decided: Decided) -> Iterator[Row]:
-    """The verdicts of a machine that aren't FALSE, and those that are another where an item says less."""
+    """The verdicts of a machine that aren't FALSE, and those that are another if an item says less."""
     hanging, parts = decided.hanging, decided.known.parts
     perhaps = hanging.perhaps(one, machine)
     for id in dict.fromkeys((*machine.shown, *perhaps, *sorted(machine.perhaps))):
@@ -104,5 +104,6 @@ def _rows(one: Found, machine: verdicts.Machine, decided: Decided) -> Iterator[R
             truth, place = machine.shown.get(id, "FALSE"), decided.placed.get(id, 0) if decided.is_whole else 0
             hangs = hanging.on(id, machine.name) if truth == "UNKNOWN" else ()
             remarks = hanging.remarks(id, machine.name) if truth == "TRUE" else ()
-            row = Row(id, place, truth, id in machine.perhaps, hangs, remarks, perhaps.get(id, ()), decided_by(one, id, truth, parts, hanging))
+            items = decided_by(one, id, truth, parts, hanging)
+            row = Row(id, place, truth, id in machine.perhaps, hangs, remarks, perhaps.get(id, ()), items)
         yield row

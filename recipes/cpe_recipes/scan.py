@@ -470,7 +470,8 @@ class _Ready:
         if keeping is None or store is None or scan.calling is None:
             return lambda: None
         decided = Decided(self.known, scan.leads, scan.calling, scan.successors, found, hanging, store.placed, store.is_whole)
-        states = {id: f"not analysed: {state}" for id, state in self.states.unanalysed.items()} | dict.fromkeys(self.states.rejected, "rejected")
+        states = {id: f"not analysed: {state}" for id, state in self.states.unanalysed.items()}
+        states |= dict.fromkeys(self.states.rejected, "rejected")
         reasons = {id: f"left out: {reason}" for id, reason, _ in said.noted}
         after = verdicts.Verdicts(list(machines), 0, True, reasons, states, list(self.doubts), "it isn't in the feeds")
         fleet = keeping.fleet(decided, machines, after)

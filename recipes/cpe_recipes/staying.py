@@ -18,7 +18,7 @@ from .portions import MOST
 from .program import _MOST_ANSWER, _SECONDS, Candidate, Program, _id_of, _pipe, pieces
 from .said import Fatal, why
 
-# So many bytes of entries, and as many as a portion has, are far from the weight that cpe takes.
+# These bytes of entries, with those of a portion, are far from the weight that cpe takes.
 _MOST_BYTES = 2 * MOST.bytes
 
 
@@ -115,7 +115,7 @@ def _end_of(id: str) -> bytes:
 
 
 class Staying(Program):
-    """The program, with a run of `resolve` that stays. Under other words it is run anew."""
+    """The program, with a run of `resolve` that stays. Under other words it is a run of its own."""
 
     def __init__(self, path: str | None = None) -> None:
         super().__init__(path, is_tried=False)
@@ -129,7 +129,7 @@ class Staying(Program):
         self._known: Sequence[str] = ()
 
     def __enter__(self) -> Staying:
-        """Begins the run. Fatal where it is none of cpe."""
+        """Begins the run. Fatal if it isn't cpe."""
         if not self._of_entries().is_of_cpe():
             self.end()
             self._try()

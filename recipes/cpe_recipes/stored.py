@@ -46,8 +46,8 @@ class Found:
 @dataclass(frozen=True)
 class Part:
     """The advisories that are read: their places, what they become, and their statements as they are asked, if they were made before; what
-    has no verdict; the numbers of the products that were looked for, and the names of these in advisories that aren't read. If two have
-    other ranges under the same id of a match, none was made before (`is_raw`)."""
+    has no verdict; the numbers of the products that were looked for, and the names of these in the other advisories. If two have other
+    ranges under the same id of a match, none was made before (`is_raw`)."""
 
     places: list[int]
     found: advisories.Advisories
@@ -376,7 +376,8 @@ class Stored:
 
     def _reached(self, touched: Collection[int]) -> set[int] | None:
         """The numbers of the products whose names lead to one of these, as _near has it, seen from the other side. None if they may be any."""
-        keys = {key for row in self._kept.rows_of("SELECT vendor, product FROM names WHERE number IN {}", touched) for key in keys_of(row)}
+        rows = self._kept.rows_of("SELECT vendor, product FROM names WHERE number IN {}", touched)
+        keys = {key for row in rows for key in keys_of(row)}
         criteria = set(touched).union(number for number in self.numbers_of(keys).values() if number is not None)
         query = "SELECT DISTINCT listing.product FROM ranged JOIN listing USING (key) WHERE ranged.product IN {}"
         listed = {number for (number,) in self._kept.rows_of(query, criteria)}
