@@ -157,8 +157,8 @@ def advisories(database: sqlite3.Connection, q: str, kind: str, limit: int, offs
     with reading(database):
         count = database.execute(f"SELECT count(DISTINCT advisory) FROM affected WHERE {where}", values).fetchone()[0]
         rows = database.execute(
-            f"SELECT advisory, total(machines) FILTER (WHERE kind = 'TRUE') true, sum(machines) machines FROM affected WHERE {where} "
-            "GROUP BY advisory ORDER BY true DESC, machines DESC, advisory LIMIT ? OFFSET ?",
+            f"SELECT advisory, total(machines) FILTER (WHERE kind = 'TRUE') of_true, sum(machines) of_all FROM affected WHERE {where} "
+            "GROUP BY advisory ORDER BY of_true DESC, of_all DESC, advisory LIMIT ? OFFSET ?",
             (*values, limit, offset),
         ).fetchall()
         return [_advisory(database, row["advisory"], kind) for row in rows], count
