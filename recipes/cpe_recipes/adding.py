@@ -445,8 +445,11 @@ class _LatestAdvisories:
         return in_form(self._kept.read(record_of, data), self._is_of_records)
 
     def _note_gone(self, record: Json) -> None:
-        """Notes of which products a record was that counts otherwise from this page on, so that what rests on it is decided again."""
+        """Notes of which products a record was that counts otherwise from this page on, so that what rests on it is decided again. The
+        match feed lists items of other products too, which have names by its ranges."""
         products = {NO_PRODUCT if one is None else self._number_of(one) for one in products_named(record)}
+        keys = {key for key, _, _ in ranges_of(record)}
+        products.update(number for (number,) in self._kept.rows_of("SELECT DISTINCT product FROM listing WHERE key IN {}", keys))
         self._kept.put("INSERT OR IGNORE INTO gone VALUES (?, ?)", ((self._page_number, number) for number in products))
 
     def _insert(self, place: int, id: str | None, modified: str, record: Json) -> None:

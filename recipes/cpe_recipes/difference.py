@@ -23,8 +23,9 @@ d. What its list says of it: its names, its kind, and the names that it perhaps 
    scan, as its list is read again.
 
 So a page that was added touches products: those of the entries in it, of the names in its advisories and in the records that these
-replace, and of the lists in it and their matches. The names of items of other products, seen by a. and c., are those of before. For the
-others, and for items that a machine hadn't before, all that they depend on is read, and their names are made. A verdict is decided again
+replace, of the lists in it and their matches, and of the lists that the replaced records asked for. The names of items of other products,
+seen by a. and c., are those of before. For the others, and for items that a machine hadn't before, all that they depend on is read, with
+the advisories of the names that they had before, and their names are made. A verdict is decided again
 
 - if its advisory or one of its lists changed, or its advisory isn't plain;
 - if it names a product of which an item was added to a machine or isn't there any more, or has other names than before;
@@ -150,6 +151,9 @@ class _Taken:
             then = of.earlier.machines.get(machine.name)
             self._others |= _others(then, of.keys[machine.name], machine.name in whole)
         products = {_product(name) for name in (*of.open, *(key[0] for key in self._others))}
+        # (also of names that items had before: nothing in the store may lead to these any more)
+        before = (called for key, called in of.earlier.called.items() if key[0] in of.open or key in self._others)
+        products.update(item_of(one.name)[0] for called in before for one in called)
         self._part = of.store.part(products)
         self._leads = Leads()
         self._successors: dict[Product, list[Product]] = {}

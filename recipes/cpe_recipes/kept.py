@@ -78,6 +78,7 @@ CREATE TABLE ranged (
     key TEXT NOT NULL, place INTEGER NOT NULL, product INTEGER NOT NULL, range INTEGER NOT NULL, PRIMARY KEY (key, place, product, range)
 ) WITHOUT ROWID;
 CREATE TABLE listing (product INTEGER NOT NULL, key TEXT NOT NULL, PRIMARY KEY (product, key)) WITHOUT ROWID;
+CREATE INDEX listing_by_key ON listing (key);
 CREATE TABLE unsettled (kind TEXT PRIMARY KEY) WITHOUT ROWID;
 CREATE TABLE told (kind TEXT NOT NULL, number INTEGER NOT NULL, text TEXT NOT NULL, PRIMARY KEY (kind, number)) WITHOUT ROWID;
 """

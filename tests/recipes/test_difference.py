@@ -27,6 +27,8 @@ from cpe_recipes.said import Fatal
 
 SEQUENCES = int(os.environ.get("DIFFERENCE_SEQUENCES", "50"))
 FIRST = int(os.environ.get("DIFFERENCE_FIRST", "0"))
+# In these a match that listed an item isn't asked for any more, nor does anything lead from the item to the product of its old name.
+LOST = (5126, 5128)
 FORMS = ([], ["--why"], ["--strict", "--hardware", "none"], ["--platform", "cpe:2.3:o:v:s:1.0:*:*:*:*:*:*:*"])
 
 
@@ -208,7 +210,7 @@ class Sequences(unittest.TestCase):
 
     def test_what_is_taken_is_what_would_be_decided(self):
         kills = taken = scans = 0
-        for seed in range(FIRST, FIRST + SEQUENCES):
+        for seed in (*range(FIRST, FIRST + SEQUENCES), *LOST):
             with tempfile.TemporaryDirectory() as folder, self.subTest(seed):
                 sequence = Sequence(seed, folder)
                 form = FORMS[seed % len(FORMS)]
