@@ -7,9 +7,8 @@ ghost use Rattle.cpe_cover.specs.Lines.{cover_session, most_steps};
 
 use crate::speaker::Cover;
 use crate::names::Names;
-use cpe_io::{Sink, Source};
-use cpe_session::{Status, answer_from};
-use cpe_steps::Steps;
+use cpe_session::{Sink, Source, Status, answer_from};
+use name_index::Steps;
 use std::alloc::Global;
 use std::sync::ledger::Ledger;
 

@@ -32,3 +32,4 @@ pub use dictionary::Dictionary;
 pub use plans::Plan;
 pub use sources::Sources;
 pub use store::KeptDictionary;
+pub use deprecation_graph::{FillFault};

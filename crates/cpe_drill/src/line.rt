@@ -7,7 +7,7 @@ use crate::record::{
     push_verdict,
 };
 use cpe_session::Page;
-use cpe_values::Memory;
+use cpe_rows::Memory;
 use itoa::Buffer;
 use std::alloc::{AllocError, Global};
 

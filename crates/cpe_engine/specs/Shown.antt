@@ -1,12 +1,12 @@
 -- The items that fact references show by where they lead.
 use Rattle.std.specs.Prelude.{◌≡◌, List, true}
 use Rattle.std.specs.List.{list_any}
-use Rattle.cpe_name.specs.Eleven.{Values}
+use Rattle.cpe_rows.specs.cpe_name.Eleven.{Values}
 use Rattle.cpe_rows.specs.Chains.{ends}
 use Rattle.cpe_rows.specs.Names.{is_same}
 use Rattle.cpe_rows.specs.Rows.{Rows}
-use Rattle.checked_certificates.specs.Relates.{related}
-use Rattle.checked_certificates.specs.declared.relates.Relates.{Relates}
+use Rattle.cpe_explain.specs.checked_certificates.Relates.{related}
+use Rattle.cpe_explain.specs.checked_certificates.declared.relates.Relates.{Relates}
 
 -- of the items these are those to an end of which one of the names stands so
 abbrev pub AreShown : Rows → Relates → List Values → List Values → Type 0

@@ -1,13 +1,12 @@
 // Items by their slots, and the first to which a name stands so.
 ghost use Rattle.std.specs.Prelude.{◌≡◌, IfOk, find, length, slice_get, filter_map, option_copied};
-ghost use Rattle.cpe_name.specs.Lower.{IsLower};
-ghost use Rattle.checked_certificates.specs.Relates.{related};
+ghost use Rattle.cpe_rows.specs.cpe_name.Lower.{IsLower};
+ghost use Rattle.cpe_explain.specs.checked_certificates.Relates.{related};
 
-use checked_certificates::Relates;
-use cpe_inventory::ItemSlots;
-use cpe_name::Wfn;
-use cpe_values::Memory;
-use items_in_order::Items;
+use cpe_explain::Relates;
+use engine_edits::ItemSlots;
+use cpe_rows::{Memory, Wfn};
+use verdicts::Items;
 use std::alloc::Global;
 
 // The item at a place, where some slots may be empty.

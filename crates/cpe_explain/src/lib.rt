@@ -14,3 +14,4 @@ mod rows;
 
 pub use certificate::explain;
 pub use rows::ExplainedRows;
+pub use checked_certificates::{Checked, PlainRows, Proof, Relates};

@@ -37,3 +37,4 @@ pub use words::{
     attribute_word, kind_of, kind_word, mode_of, mode_word, note_kind_of, note_kind_word,
     operator_word, truth_of, truth_word,
 };
+pub use cpe_uri::{UriFault};

@@ -7,10 +7,9 @@ ghost use Rattle.cpe_ranges.specs.Rows.{no_rows};
 ghost use Rattle.cpe_ranges.specs.Records.{advice_session, most_steps};
 
 use crate::speaker::Advise;
-use cpe_io::{Sink, Source};
+use cpe_session::{Sink, Source, Status, answer_from};
 use crate::advisories::Advisories;
-use cpe_session::{Status, answer_from};
-use cpe_steps::Steps;
+use name_index::Steps;
 use std::alloc::Global;
 use std::sync::ledger::Ledger;
 

@@ -1,7 +1,7 @@
 -- A registry: one table of names, of which entries (NIST IR 7697) and items (NIST IR 7698) keep numbers.
 use Rattle.std.specs.Prelude.{◌∷◌, ◌++◌, [], List, filter, if◌then◌else◌, map}
 use Rattle.std.specs.List.{AllByRecursion, list_any}
-use Rattle.cpe_name.specs.Eleven.{Values}
+use Rattle.cpe_rows.specs.cpe_name.Eleven.{Values}
 use Rattle.cpe_rows.specs.Chains.{leads_to}
 use Rattle.cpe_rows.specs.Names.{is_same}
 use Rattle.cpe_rows.specs.Rows.{is_named}

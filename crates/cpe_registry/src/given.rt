@@ -4,7 +4,7 @@ ghost use Rattle.cpe_registry.specs.Moved.{AllDeprecated};
 
 use crate::registry::Registry;
 use cpe_rows::{Deprecation, List};
-use deprecation_graph::FillFault;
+use cpe_dictionary::FillFault;
 
 impl Registry {
     /// Gives each entry the deprecation at its place, or none, all at once, in the place of what it had; names and notes stay. It costs

@@ -13,3 +13,6 @@ mod given;
 mod registry;
 
 pub use registry::Registry;
+pub use cpe_dictionary::{FillFault};
+pub use cpe_inventory::{Checks};
+pub use items_in_order::{Items};

@@ -14,3 +14,4 @@ pub use change::push_change;
 pub use proof::{push_checked, push_proof};
 pub use reason::{RecordReason, push_record_fault};
 pub use reply::{push_reply, push_verdict};
+pub use cpe_session::{LONGEST, Page, Reason, Stateless};

@@ -2,7 +2,7 @@
 ghost use Rattle.std.specs.Prelude.{◌≡◌, IfOk};
 
 use cpe_snapshot::PlacedDeprecation;
-use cpe_values::Memory;
+use cpe_rows::Memory;
 use std::alloc::Global;
 use std::marker::Model;
 

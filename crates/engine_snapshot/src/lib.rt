@@ -18,3 +18,4 @@ mod write;
 
 pub use read::{MOST_BYTES, read_snapshot};
 pub use write::write_snapshot;
+pub use cpe_engine::{Engine};

@@ -16,3 +16,4 @@ mod users;
 
 pub use facts::Facts;
 pub use lead::Led;
+pub use kept_facts::{Met};

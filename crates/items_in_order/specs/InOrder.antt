@@ -1,8 +1,8 @@
 -- Items in an order: their numbers in a table, and an index of targets that holds the numbers.
 use Rattle.std.specs.Prelude.{◌≡◌, ℕ, Bool, List, count_by, filter}
-use Rattle.cpe_name.specs.Eleven.{Values}
-use Rattle.cpe_relation.specs.Maybe.{meets}
-use Rattle.product_orders.specs.Elements.{SameElements}
+use Rattle.cpe_rows.specs.cpe_name.Eleven.{Values}
+use Rattle.cpe_rows.specs.cpe_relation.Maybe.{meets}
+use Rattle.name_index.specs.product_orders.Elements.{SameElements}
 use Rattle.name_index.specs.declared.table.NameId.{NameId}
 use Rattle.name_index.specs.Table.{Names}
 use Rattle.name_index.specs.Index.{ids}

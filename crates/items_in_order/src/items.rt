@@ -3,16 +3,13 @@ ghost use Rattle.std.specs.Prelude.{◌≡◌, IfOk, filter, find, length, slice
 ghost use Rattle.std.specs.List.{list_any};
 ghost use Rattle.cpe_inventory.specs.Slots.{names_kept};
 ghost use Rattle.cpe_rows.specs.Prelude.{covers, is_same, IsLower, maybe};
-ghost use Rattle.cpe_steps.specs.Within.{StepsWithin};
+ghost use Rattle.name_index.specs.cpe_steps.Within.{StepsWithin};
 ghost use Rattle.names_in_order.specs.InOrder.{AreLive, names_numbered};
 ghost use Rattle.items_in_order.specs.InOrder.{AreItems, met_count};
 
 use crate::names::ItemNames;
-use cpe_name::Wfn;
-use cpe_rows::List;
-use cpe_steps::Steps;
-use cpe_values::Memory;
-use name_index::{NameId, NameTable};
+use cpe_rows::{List, Memory, Wfn};
+use name_index::{NameId, NameTable, Steps};
 use std::alloc::Global;
 use std::marker::Model;
 use std::sync::ledger::Ledger;
@@ -27,7 +24,7 @@ pub struct Items<'t> {
 
 impl<'t> Model for Items<'t> {
     ghost use Rattle.std.specs.Prelude.{List};
-    ghost use Rattle.cpe_name.specs.Eleven.{Values};
+    ghost use Rattle.cpe_rows.specs.cpe_name.Eleven.{Values};
     ghost use Rattle.names_in_order.specs.InOrder.{names_numbered};
     ghost use Rattle.items_in_order.specs.InOrder.{AreItems};
 

@@ -1,6 +1,6 @@
 // Laws of items in an order and the table of their names. The function does nothing: its clauses are the laws.
 ghost use Rattle.std.specs.Prelude.{◌≡◌, ℕ, List};
-ghost use Rattle.cpe_name.specs.Eleven.{Values};
+ghost use Rattle.cpe_rows.specs.cpe_name.Eleven.{Values};
 ghost use Rattle.name_index.specs.declared.table.NameId.{NameId};
 ghost use Rattle.name_index.specs.Table.{Names, Holds, Releases};
 ghost use Rattle.names_in_order.specs.InOrder.{IsSafe, KeepsAll, names_numbered};

@@ -7,10 +7,8 @@ ghost use Rattle.names_in_order.specs.Marked.{numbers_in, without_first};
 ghost use Rattle.target_index.specs.Targets.{is_maybe};
 ghost use Rattle.items_in_order.specs.InOrder.{AreFound, AreItems, ItemRoll, met_count};
 
-use cpe_name::Wfn;
-use cpe_steps::Steps;
-use cpe_values::Memory;
-use name_index::{NameId, NameTable};
+use cpe_rows::{Memory, Wfn};
+use name_index::{NameId, NameTable, Steps};
 use names_in_order::{MarkedNumbers, PushNumber, find_number};
 use std::alloc::Global;
 use std::marker::{Brand, Model};

@@ -5,7 +5,7 @@ use cpe_fs::lend_fs;
 use cpe_name::{NameRef, Wfn, read_wfn, write_wfn};
 use cpe_relation::covers;
 use cpe_uri::{UriFault, bind_uri, lend_any, unbind_any};
-use cpe_values::{Edge, Memory, Pattern, Value, ValueRef};
+use cpe_rows::{Edge, Memory, Pattern, Value, ValueRef};
 use deprecation_graph::DeprecationGraph;
 use std::alloc::Global;
 use std::test::Fail;

@@ -3,7 +3,7 @@
 use crate::by_result::ByResult;
 use cpe_rows::{Statement, Truth};
 use name_index::NameId;
-use ticket_list::{Change, Ticketed};
+use cpe_inventory::{Change, Ticketed};
 
 // A statement, and the numbers of its fact references in the order of its test.
 #[derive(Drop)]

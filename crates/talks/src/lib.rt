@@ -29,3 +29,4 @@ pub use pairs::{RelationNumbers, relate, tell_covers};
 pub use speaking::Speaking;
 pub use talk::{Phase, Talk, end, repeat, say};
 pub use told::{Answer, Told};
+pub use cpe_session::{Steps};

@@ -6,7 +6,7 @@ ghost use Rattle.cpe_rows.specs.Prelude.{after, covers, is_same, IsLawful, IsLow
 ghost use Rattle.cpe_rows.specs.declared.edit.Edit.TheVariants as edit;
 ghost use Rattle.cpe_rows.specs.declared.statement.Mode.TheVariants.{Follow};
 ghost use Rattle.cpe_registry.specs.Registered.{items_leading};
-ghost use Rattle.fact_laws.specs.Shown.{name_at};
+ghost use Rattle.facts.specs.fact_laws.Shown.{name_at};
 ghost use Rattle.kept_facts.specs.Prelude.{AreLive, FitBoards, ids, is_covered, is_maybe, names_at, SameElements, target_ids};
 ghost use Rattle.facts.specs.Facts.{LeadsTo};
 ghost use Rattle.facts.specs.Looks.{item_looks};
@@ -16,16 +16,14 @@ ghost use Rattle.verdicts.specs.Verdicts.{HasVerdicts, SameStatements};
 
 use crate::refresh::refresh;
 use crate::verdicts::Verdicts;
-use cpe_name::Wfn;
+use cpe_rows::{Memory, Wfn};
 use cpe_registry::Registry;
-use cpe_steps::Steps;
-use cpe_values::Memory;
+use name_index::{NameId, NameTable, Steps};
 use kept_facts::{KeptFacts, Wanted};
-use name_index::{NameId, NameTable};
 use std::alloc::Global;
 use std::marker::Brand;
 use std::sync::ledger::{Blank, Ledger};
-use target_index::Met;
+use facts::Met;
 
 impl Verdicts {
     /// Reserves room for an item with these ends.

@@ -24,3 +24,4 @@ pub use addition::Addition;
 pub use lead::Lead;
 pub use removal::Removal;
 pub use verdicts::Verdicts;
+pub use cpe_registry::{FillFault, Items, Registry};

@@ -1,9 +1,9 @@
 use Rattle.std.proofs.Common.{sym, subst}
 use Rattle.std.specs.Prelude.{IfOk, filter}
-use Rattle.product_orders.specs.Elements.{SameElements}
+use Rattle.name_index.specs.product_orders.Elements.{SameElements}
 use Rattle.name_index.specs.Index.{ids, is_covered}
-use Rattle.target_index.specs.declared.meeting.Met.{Met}
-use Rattle.target_index.specs.Targets.{FitsTargets, held, is_maybe, Targets}
+use Rattle.facts.specs.target_index.declared.meeting.Met.{Met}
+use Rattle.facts.specs.target_index.Targets.{FitsTargets, held, is_maybe, Targets}
 use Rattle.verdicts.proofs.items.met_over.Goals as goal
 
 pub met-requires-clause-fits : goal.met-requires-clause-fits

@@ -1,5 +1,5 @@
 use Rattle.std.proofs.Common.{List, subst, sym, ◌∙◌}
-use Rattle.cpe_relation.specs.Maybe.{maybe}
+use Rattle.cpe_rows.specs.cpe_relation.Maybe.{maybe}
 use Rattle.name_index.specs.declared.table.NameId.{NameId}
 use Rattle.names_in_order.specs.InOrder.{AreLive}
 use Rattle.items_in_order.proofs.Changes.{first_passing}

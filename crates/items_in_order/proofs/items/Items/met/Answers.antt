@@ -2,8 +2,8 @@ use Rattle.std.proofs.Common.{List, ap, ◌∙◌}
 use Rattle.std.specs.List.{filter}
 use Rattle.cpe_inventory.specs.Slots.{names_kept}
 use Rattle.cpe_inventory.proofs.SlotLemmas.{kept_numbered}
-use Rattle.cpe_relation.specs.Maybe.{maybe}
-use Rattle.cpe_relation.specs.NameRelation.{covers}
+use Rattle.cpe_rows.specs.cpe_relation.Maybe.{maybe}
+use Rattle.cpe_rows.specs.cpe_relation.NameRelation.{covers}
 use Rattle.name_index.specs.declared.table.NameId.{NameId}
 use Rattle.items_in_order.proofs.items.Items.met.Goals as goal
 

@@ -2,9 +2,9 @@ use Rattle.std.proofs.Common.{◌≡◌, Bool, List, ap}
 use Rattle.std.specs.Prelude.{IfOk, Result}
 use Rattle.std.specs.List.{filter}
 use Rattle.std.proofs.lemmas.Result.{IfOk-weaker}
-use Rattle.cpe_name.specs.Eleven.{Values}
-use Rattle.cpe_relation.specs.Maybe.{maybe}
-use Rattle.cpe_relation.specs.NameRelation.{covers}
+use Rattle.cpe_rows.specs.cpe_name.Eleven.{Values}
+use Rattle.cpe_rows.specs.cpe_relation.Maybe.{maybe}
+use Rattle.cpe_rows.specs.cpe_relation.NameRelation.{covers}
 use Rattle.name_index.specs.declared.table.NameId.{NameId}
 use Rattle.name_index.specs.Table.{kept_at, Names}
 use Rattle.names_in_order.specs.InOrder.{AreLive}

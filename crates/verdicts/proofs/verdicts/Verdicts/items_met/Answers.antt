@@ -1,18 +1,18 @@
 use Rattle.std.proofs.Common.{◌≡◌, ◌∙◌, Bool, true, false, cond, List, filter, sym, ap, subst}
 use Rattle.std.specs.List.{flat_map, list_any}
 use Rattle.std.proofs.lemmas.Result.{IfOk-weaker}
-use Rattle.cpe_name.specs.Eleven.{Values}
-use Rattle.cpe_relation.specs.Maybe.{maybe}
-use Rattle.cpe_relation.specs.NameRelation.{covers}
+use Rattle.cpe_rows.specs.cpe_name.Eleven.{Values}
+use Rattle.cpe_rows.specs.cpe_relation.Maybe.{maybe}
+use Rattle.cpe_rows.specs.cpe_relation.NameRelation.{covers}
 use Rattle.cpe_rows.specs.Names.{is_same}
 use Rattle.cpe_rows.specs.declared.statement.Mode.TheVariants.{Follow}
-use Rattle.product_orders.specs.Elements.{SameElements}
+use Rattle.name_index.specs.product_orders.Elements.{SameElements}
 use Rattle.name_index.specs.declared.table.NameId.{NameId}
 use Rattle.name_index.specs.Index.{ids}
 use Rattle.name_index.specs.Table.{kept_at, Names}
-use Rattle.level_board.specs.Board.{Board, target_ids}
-use Rattle.fact_laws.specs.Shown.{names_at}
-use Rattle.fact_laws.specs.Asked.{there}
+use Rattle.facts.specs.level_board.Board.{Board, target_ids}
+use Rattle.facts.specs.fact_laws.Shown.{names_at}
+use Rattle.facts.specs.fact_laws.Asked.{there}
 use Rattle.cpe_registry.specs.Registered.{items_leading}
 use Rattle.kept_facts.specs.Kept.{AreLive, Boards, FitBoards}
 use Rattle.verdicts.specs.Verdicts.{HasVerdicts, VerdictsNow}
