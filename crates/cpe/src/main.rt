@@ -3,8 +3,7 @@
 
 ghost use Rattle.std.specs.Prelude.{◌≡◌, ◌<◌};
 
-use cpe_command::run;
-use cpe_command::{Engine, StdSink, StdSource, Steps};
+use cpe_command::{Engine, StdSink, StdSource, Steps, run};
 use std::env;
 use std::marker::Brand;
 use std::process::ExitCode;

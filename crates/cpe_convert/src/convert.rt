@@ -7,8 +7,8 @@ ghost use Rattle.written_records.specs.WrittenRecord.{record_text};
 ghost use Rattle.cpe_convert.specs.Convert.{as_line, converted};
 
 use crate::reason::ConvertReason;
-use cpe_replies::{LONGEST, Page, Stateless};
 use cpe_records::{Record, RecordFault, read_record};
+use cpe_replies::{LONGEST, Page, Stateless};
 use std::alloc::{AllocError, Global};
 use written_records::write_record;
 

@@ -7,8 +7,7 @@ ghost use Rattle.names_in_order.specs.Places.{name_at};
 ghost use Rattle.cpe_cover.specs.Marks.{AreMarks, is_marked, matches};
 ghost use Rattle.cpe_cover.specs.Names.{looks_of_patterns, pattern_looks};
 
-use cpe_rows::{Memory, Wfn};
-use cpe_rows::has_wildcards;
+use cpe_rows::{Memory, Wfn, has_wildcards};
 use name_index::Steps;
 use names_in_order::NamesInOrder;
 use std::alloc::Global;

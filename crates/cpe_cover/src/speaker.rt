@@ -5,14 +5,14 @@ ghost use Rattle.cpe_session.specs.Pages.{IsSaid};
 ghost use Rattle.cpe_cover.specs.Lines.{by_added, cover_session};
 ghost use Rattle.cpe_cover.specs.Reasons.{reason_text};
 
+use crate::fault::NamesFault;
+use crate::names::Names;
 use crate::reason::CoverReason;
 use crate::written::pour_names;
-use crate::names::Names;
-use crate::fault::NamesFault;
-use cpe_session::{Line, Page, Sink, SinkFault, Speaker};
 use cpe_rows::Wfn;
-use name_index::Steps;
+use cpe_session::{Line, Page, Sink, SinkFault, Speaker};
 use cpe_uri::{UriFault, unbind_any};
+use name_index::Steps;
 use std::alloc::{AllocError, Global};
 use std::sync::ledger::Ledger;
 

@@ -10,10 +10,13 @@ ghost use Rattle.entries_in_order.specs.names_in_order.Prelude.{IsLower, near_co
 ghost use Rattle.cpe_dictionary.specs.Kept.{IsKept, names_of};
 
 use crate::by_number::answers_by_number;
-use cpe_rows::{BoxedName, Deprecation, EditFault, Entry, List, MOST_ENTRIES, Memory, Note, Row, State, Wfn, Which};
-use name_index::Steps;
+use cpe_rows::{
+    BoxedName, Deprecation, EditFault, Entry, List, MOST_ENTRIES, Memory, Note, Row, State, Wfn,
+    Which,
+};
 use deprecation_graph::{DeprecationGraph, GraphFault};
 use entries_in_order::{Entries, active_names_at, rows_at};
+use name_index::Steps;
 use std::alloc::Global;
 use std::marker::Model;
 use std::sync::ledger::Ledger;

@@ -9,8 +9,11 @@ ghost use Rattle.cpe_rows.specs.Lent.{entry_lent};
 ghost use Rattle.name_index.specs.cpe_steps.Within.{StepsWithin};
 ghost use Rattle.cpe_engine.specs.Looks.{edit_looks, looks};
 
+use cpe_rows::{
+    Changed, CheckKey, Counts, Edit, EditFault, EntryRef, List, Memory, Query, Reply, Statement,
+    Text, Truth, Wfn,
+};
 use engine_edits::{ItemSlots, Parts, apply_numbered};
-use cpe_rows::{Changed, CheckKey, Counts, Edit, EditFault, EntryRef, List, Memory, Query, Reply, Statement, Text, Truth, Wfn};
 use name_index::Steps;
 use std::alloc::Global;
 use std::marker::Model;

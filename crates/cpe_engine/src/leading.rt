@@ -11,11 +11,11 @@ ghost use Rattle.cpe_explain.specs.checked_certificates.Relates.{related};
 ghost use Rattle.cpe_engine.specs.Shown.{AreShown};
 
 use cpe_explain::Relates;
-use engine_edits::ItemSlots;
 use cpe_rows::{Memory, Wfn};
-use verdicts::{Registry, Verdicts};
+use engine_edits::ItemSlots;
 use name_index::NameId;
 use std::alloc::Global;
+use verdicts::{Registry, Verdicts};
 
 fn alone<'a>(alloc: Global, name: &'a Wfn) -> Result<Vec<&'a Wfn>, Memory>
     ensures { IfOk result (λ names. map (λ n. n.now) names.items ≡ name.now ∷ []) }

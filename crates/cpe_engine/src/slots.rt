@@ -4,10 +4,10 @@ ghost use Rattle.cpe_rows.specs.cpe_name.Lower.{IsLower};
 ghost use Rattle.cpe_explain.specs.checked_certificates.Relates.{related};
 
 use cpe_explain::Relates;
-use engine_edits::ItemSlots;
 use cpe_rows::{Memory, Wfn};
-use verdicts::Items;
+use engine_edits::ItemSlots;
 use std::alloc::Global;
+use verdicts::Items;
 
 // The item at a place, where some slots may be empty.
 fn nth_item<'t>(slots: &ItemSlots<'t>, k: usize) -> Option<&'t Wfn>

@@ -13,5 +13,5 @@ mod paths;
 mod rows;
 
 pub use certificate::explain;
-pub use rows::ExplainedRows;
 pub use checked_certificates::{Checked, PlainRows, Proof, Relates};
+pub use rows::ExplainedRows;

@@ -24,6 +24,7 @@ mod object;
 mod provenance;
 mod words;
 
+pub use cpe_uri::UriFault;
 pub use draft::test_at;
 pub use form::{
     array_in, date_at, flag_in, flag_or_false, text_at, text_in, text_of, text_or_empty,
@@ -37,4 +38,3 @@ pub use words::{
     attribute_word, kind_of, kind_word, mode_of, mode_word, note_kind_of, note_kind_word,
     operator_word, truth_of, truth_word,
 };
-pub use cpe_uri::{UriFault};

@@ -12,11 +12,11 @@ ghost use Rattle.cpe_ranges.specs.Kept.{advisory_from, advisories_in, AreLower};
 ghost use Rattle.cpe_ranges.specs.Affected.{affects};
 ghost use Rattle.cpe_ranges.specs.Rows.{has_id};
 
+use crate::advisory::{Advisory, Bound};
 use crate::groups::Groups;
 use crate::range::is_in_range;
-use crate::advisory::{Advisory, Bound};
-use cpe_rows::{Attribute, List, Memory, Text, Value, Wfn};
 use cpe_relation::covers;
+use cpe_rows::{Attribute, List, Memory, Text, Value, Wfn};
 use indexmap::IndexMap;
 use std::alloc::Global;
 use std::marker::Model;

@@ -7,10 +7,10 @@ ghost use Rattle.cpe_ranges.specs.Gives.{Gives};
 ghost use Rattle.cpe_ranges.specs.Reading.{advice_by, advice_of, advisory_in, bound_of, bounds_in, flag_at, id_at, key_of, name_at, named, record_kind_at, version_at, version_in, required};
 ghost use Rattle.cpe_ranges.specs.Valid.{is_valid_advice};
 
-use crate::record_kind::{RecordKind, record_kind_of};
+use crate::advisory::{Advisory, Bound};
 use crate::edit::{AdviceEdit, AdviceQuery};
 use crate::member::{AdviceMember, AdviceReadFault};
-use crate::advisory::{Advisory, Bound};
+use crate::record_kind::{RecordKind, record_kind_of};
 use cpe_members::{UriFault, flag_in, lowered, text_in, unbound, value_of};
 use cpe_rows::{Text, Wfn, is_id};
 use serde_json::Value;

@@ -2,9 +2,9 @@
 ghost use Rattle.std.specs.Prelude.{◌≡◌, ◌++◌, OnOk, codes, length, flat_map};
 ghost use Rattle.cpe_ranges.specs.Lines.{advisory_line, affected_text, count_end, item_line, name_text, reply_text};
 
+use crate::edit::AdviceReply;
 use cpe_fs::append_fs;
 use cpe_rows::{List, Text, Wfn};
-use crate::edit::AdviceReply;
 use cpe_session::Page;
 use std::alloc::{AllocError, Global};
 

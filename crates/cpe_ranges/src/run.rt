@@ -6,9 +6,9 @@ ghost use Rattle.cpe_session.specs.Task.{task};
 ghost use Rattle.cpe_ranges.specs.Rows.{no_rows};
 ghost use Rattle.cpe_ranges.specs.Records.{advice_session, most_steps};
 
+use crate::advisories::Advisories;
 use crate::speaker::Advise;
 use cpe_session::{Sink, Source, Status, answer_from};
-use crate::advisories::Advisories;
 use name_index::Steps;
 use std::alloc::Global;
 use std::sync::ledger::Ledger;

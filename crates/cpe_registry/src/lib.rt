@@ -12,7 +12,7 @@ mod faults;
 mod given;
 mod registry;
 
+pub use cpe_dictionary::FillFault;
+pub use cpe_inventory::Checks;
+pub use items_in_order::Items;
 pub use registry::Registry;
-pub use cpe_dictionary::{FillFault};
-pub use cpe_inventory::{Checks};
-pub use items_in_order::{Items};

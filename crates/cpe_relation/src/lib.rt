@@ -47,10 +47,10 @@ mod seen;
 mod standing;
 mod table;
 
+pub use cpe_values::{Edge, Memory, Pattern, Value};
 pub use names::{compare_lent, compare_names, covers};
 pub use nearness::near;
 pub use order::{covers_in_order, deciding_order};
 pub use partly::maybe;
 pub use relation::{Relation, Relations, relation_of_names};
 pub use table::{compare_borrowed, compare_values};
-pub use cpe_values::{Edge, Memory, Pattern, Value};

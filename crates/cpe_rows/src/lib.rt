@@ -32,6 +32,8 @@ mod truth;
 
 pub use boxed::BoxedName;
 pub use counts::Counts;
+pub use cpe_name::{ATTRIBUTES, Attribute, NameRef, Wfn};
+pub use cpe_values::{Edge, Memory, Pattern, Value, ValueRef};
 pub use date::Date;
 pub use edit::{Edit, Query, is_id};
 pub use entry::{Deprecation, Entry, Kind, Note, NoteKind, Provenance, copy_of_deprecation};
@@ -50,5 +52,3 @@ pub use statement::{Mode, Statement};
 pub use test::{CheckKey, Operator, Test};
 pub use text::Text;
 pub use truth::{Truth, and_of, not_of, or_of};
-pub use cpe_name::{ATTRIBUTES, Attribute, NameRef, Wfn};
-pub use cpe_values::{Edge, Memory, Pattern, Value, ValueRef};

@@ -8,12 +8,12 @@ ghost use Rattle.engine_edits.specs.Parts.{AreBeside, AreKept, edit_in, rows_in}
 ghost use Rattle.engine_edits.specs.Looks.{edit_looks, made_looks};
 ghost use Rattle.engine_edits.specs.Ready.{places};
 
-use crate::made::make;
-use cpe_rows::{Changed, EditFault, List, Memory, Room};
-use name_index::Steps;
 use crate::checked::Checked;
+use crate::made::make;
 use crate::numbered::Numbered;
 use crate::parts::Parts;
+use cpe_rows::{Changed, EditFault, List, Memory, Room};
+use name_index::Steps;
 use std::alloc::Global;
 use std::sync::ledger::Ledger;
 

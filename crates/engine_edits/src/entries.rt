@@ -15,13 +15,13 @@ ghost use Rattle.cpe_dictionary.specs.Plans.{IsPlan};
 ghost use Rattle.engine_edits.specs.Looks.{made_looks};
 ghost use Rattle.engine_edits.specs.Ready.{IsReady};
 
+use crate::holds::release_all;
 use crate::numbered::{Change, Numbered, Turn};
+use crate::parts::Parts;
 use cpe_dictionary::{Plan, edits_by_number};
 use cpe_rows::{Changed, Date, EditFault, Entry, List, Memory, Provenance, Room, Text, Wfn};
 use cpe_weight::with_deprecation;
 use name_index::{NameId, Steps};
-use crate::parts::Parts;
-use crate::holds::release_all;
 use std::alloc::Global;
 use std::sync::ledger::Ledger;
 use verdicts::Lead;

@@ -12,8 +12,8 @@ ghost use Rattle.engine_edits.specs.Parts.{AreOf};
 
 use crate::numbered::Coming;
 use cpe_rows::{Memory, Test, Wfn};
-use verdicts::Registry;
 use name_index::NameId;
+use verdicts::Registry;
 
 /// Holds the names of all fact references of a test, in their order, and puts their numbers last.
 ///

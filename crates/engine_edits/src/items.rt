@@ -13,11 +13,11 @@ ghost use Rattle.verdicts.specs.facts.Looks.{item_looks};
 ghost use Rattle.engine_edits.specs.Looks.{made_looks};
 ghost use Rattle.engine_edits.specs.Ready.{IsReady};
 
-use cpe_rows::{Changed, EditFault, List, Memory, Room, Wfn};
-use name_index::{NameId, Steps};
+use crate::holds::release_all;
 use crate::numbered::Numbered;
 use crate::parts::Parts;
-use crate::holds::release_all;
+use cpe_rows::{Changed, EditFault, List, Memory, Room, Wfn};
+use name_index::{NameId, Steps};
 use std::alloc::Global;
 use std::sync::ledger::Ledger;
 

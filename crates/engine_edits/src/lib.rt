@@ -21,6 +21,6 @@ mod statements;
 
 pub use applied::apply_numbered;
 pub use checked::Checked;
+pub use cpe_inventory::ItemSlots;
 pub use numbered::{Change, Numbered, Turn};
 pub use parts::Parts;
-pub use cpe_inventory::{ItemSlots};

@@ -9,12 +9,12 @@ ghost use Rattle.engine_edits.specs.Ready.{MayBeMade};
 use crate::checks::{drop_check, set_check};
 use crate::entries::{add_entry, change_entry};
 use crate::items::{add_item, drop_item};
+use crate::numbered::Numbered;
+use crate::parts::Parts;
 use crate::statements::{drop_statement, put_statement};
 use cpe_dictionary::Plan;
 use cpe_rows::{Changed, List, Memory, Room};
 use name_index::Steps;
-use crate::numbered::Numbered;
-use crate::parts::Parts;
 use std::alloc::Global;
 use std::sync::ledger::Ledger;
 

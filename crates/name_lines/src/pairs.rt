@@ -7,8 +7,8 @@ ghost use Rattle.cpe_uri.specs.EitherBinding.{IsUriOrFs, read_any};
 ghost use Rattle.cpe_relation.specs.NameRelation.{relation_of};
 ghost use Rattle.name_lines.specs.Pairs.{relation_text, relation_line, to_target, from_source, compared, pair_reason_text};
 
-use cpe_io::cut_in_halves;
 use cpe_fs::{ATTRIBUTES, Attribute, NameRef, Wfn};
+use cpe_io::cut_in_halves;
 use cpe_relation::{Relation, Relations, compare_lent};
 use cpe_room::{put, put_byte};
 use cpe_session::{Fill, Page, Reason, Stateless};

@@ -8,8 +8,8 @@ ghost use Rattle.names_in_order.specs.Places.{looked_count, near_count, places_c
 
 use crate::added::add_number;
 use crate::numbers::NumbersInOrder;
-use name_index::{Attribute, Memory, NameId, NameIndex, NameTable, Steps, Wfn};
 use cpe_relation::{covers_in_order, deciding_order};
+use name_index::{Attribute, Memory, NameId, NameIndex, NameTable, Steps, Wfn};
 use std::alloc::Global;
 use std::marker::Model;
 use std::sync::ledger::Ledger;

@@ -8,10 +8,10 @@ ghost use Rattle.cpe_replies.specs.Reasons.{reason_text};
 ghost use Rattle.record_lines.specs.Records.{by_step, edit_text};
 
 use crate::records::RecordCommand;
-use engine_snapshot::Engine;
 use cpe_replies::{RecordReason, push_change};
 use cpe_rows::{Changed, Edit, EditFault, Text};
 use cpe_session::{Page, Steps};
+use engine_snapshot::Engine;
 use std::alloc::{AllocError, Global};
 use std::sync::ledger::Ledger;
 

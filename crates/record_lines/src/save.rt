@@ -3,9 +3,8 @@ ghost use Rattle.std.specs.Prelude.{◌++◌, OnOk};
 ghost use Rattle.cpe_session.specs.Prelude.{AppendsPrefix, HasSinkCause, Pours};
 ghost use Rattle.cpe_records.specs.cpe_snapshot.States.{snapshot};
 
-use engine_snapshot::Engine;
 use cpe_session::{Page, Sink, SinkFault, pour_text};
-use engine_snapshot::write_snapshot;
+use engine_snapshot::{Engine, write_snapshot};
 use std::alloc::Global;
 
 /// Gives what is gathered, and then the snapshot of the rows, to the sink.

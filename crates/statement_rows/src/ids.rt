@@ -10,9 +10,9 @@ ghost use Rattle.cpe_inventory.specs.ticket_list.Rising.{IsRisingBy};
 
 use crate::row::Row;
 use crate::rows::place_of;
+use cpe_inventory::TicketList;
 use cpe_rows::Text;
 use std::collections::HashMap;
-use cpe_inventory::TicketList;
 
 // The place of the row of an id, from 0.
 pub(crate) fn place_by_id(

@@ -7,8 +7,8 @@ ghost use Rattle.talks.specs.Compared.{AreRelations, IsCompared};
 ghost use Rattle.talks.specs.Pairs.{Covers, IsRelated, numbered, rank};
 
 use crate::told::Told;
-use cpe_rows::{NameRef, Wfn};
 use cpe_relation::{Relation, Relations, compare_lent};
+use cpe_rows::{NameRef, Wfn};
 use cpe_uri::{UriFault, lend_any, unbind_any};
 use std::alloc::{AllocError, Global};
 

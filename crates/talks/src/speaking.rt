@@ -3,7 +3,9 @@ ghost use Rattle.std.specs.Prelude.{◌≡◌, ◌∷◌, [], ℕ, List, IfOk, O
 ghost use Rattle.cpe_session.specs.cpe_io.Lines.{line_of};
 ghost use Rattle.talks.specs.Talks.{behind, goes_on};
 
-use cpe_command::{Advise, Advisories, Compare, Convert, Cover, Engine, NameCommand, Names, RecordCommand};
+use cpe_command::{
+    Advise, Advisories, Compare, Convert, Cover, Engine, NameCommand, Names, RecordCommand,
+};
 use cpe_session::{Each, Progress, Status, Steps, answer_given, end_given};
 use std::alloc::{AllocError, Global};
 use std::sync::ledger::Ledger;

@@ -7,8 +7,8 @@ ghost use Rattle.target_index.specs.Targets.{is_loose, covered_count, maybe_coun
 ghost use Rattle.target_index.specs.Parts.{pairs_of};
 
 use crate::parts::Loose;
-use name_index::{NameId, NameIndex, NameTable, Side, Steps, Wfn};
 use cpe_relation::{covers, maybe};
+use name_index::{NameId, NameIndex, NameTable, Side, Steps, Wfn};
 use std::sync::ledger::Ledger;
 
 /// How many targets a name covers, and how many it may cover.

@@ -20,9 +20,9 @@ mod meeting;
 mod parts;
 
 pub use counting::{Counts, is_covering, may_cover};
-use name_index::{Memory, NameId, NameTable, Steps, Wfn};
 pub use meeting::Met;
 use meeting::meet;
+use name_index::{Memory, NameId, NameTable, Steps, Wfn};
 use parts::Parts;
 pub use parts::at_least;
 use std::alloc::Global;

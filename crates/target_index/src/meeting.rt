@@ -8,8 +8,8 @@ ghost use Rattle.target_index.specs.Parts.{ArePartsOf, pairs_of, targets_of};
 
 use crate::counting::may_cover;
 use crate::parts::{Loose, Parts};
-use name_index::{Attribute, Memory, NameId, NameIndex, NameTable, Steps, Wfn};
 use cpe_relation::{covers_in_order, deciding_order};
+use name_index::{Attribute, Memory, NameId, NameIndex, NameTable, Steps, Wfn};
 use std::alloc::Global;
 use std::sync::ledger::Ledger;
 

@@ -16,14 +16,14 @@ ghost use Rattle.verdicts.specs.Verdicts.{HasVerdicts, SameStatements};
 
 use crate::refresh::refresh;
 use crate::verdicts::Verdicts;
-use cpe_rows::{Memory, Wfn};
 use cpe_registry::Registry;
-use name_index::{NameId, NameTable, Steps};
+use cpe_rows::{Memory, Wfn};
+use facts::Met;
 use kept_facts::{KeptFacts, Wanted};
+use name_index::{NameId, NameTable, Steps};
 use std::alloc::Global;
 use std::marker::Brand;
 use std::sync::ledger::{Blank, Ledger};
-use facts::Met;
 
 impl Verdicts {
     /// Reserves room for an item with these ends.

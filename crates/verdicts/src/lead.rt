@@ -22,8 +22,8 @@ use crate::verdicts::Verdicts;
 use cpe_dictionary::Plan;
 use cpe_registry::Registry;
 use cpe_rows::{Memory, Mode};
-use name_index::{NameId, NameTable, Steps};
 use facts::Led;
+use name_index::{NameId, NameTable, Steps};
 use std::alloc::Global;
 use std::sync::ledger::Ledger;
 

@@ -21,7 +21,7 @@ mod truths;
 mod verdicts;
 
 pub use addition::Addition;
+pub use cpe_registry::{FillFault, Items, Registry};
 pub use lead::Lead;
 pub use removal::Removal;
 pub use verdicts::Verdicts;
-pub use cpe_registry::{FillFault, Items, Registry};

@@ -5,8 +5,8 @@ ghost use Rattle.kept_facts.specs.level_board.Board.{AreMarked, FitsBoard, cover
 ghost use Rattle.kept_facts.specs.level_board.declared.level.Level.TheVariants.{Covered, Maybe, Free};
 ghost use Rattle.library_tests.specs.Tried.{plain};
 
-use name_index::{NameId, NameTable, Steps};
 use kept_facts::{Level, LevelBoard};
+use name_index::{NameId, NameTable, Steps};
 use std::sync::ledger::Ledger;
 
 // Five probes are on the board, of the products `p` and `q0` to `q3`. A target of the product `p` comes: two looks at most.
