@@ -197,9 +197,7 @@ impl Engine {
         ensures changes { IfOk result (λ cs. cs ≡ changes self.old edit) }
         ensures steps { StepsWithin steps.old steps.new (edit_looks self.old edit) }
     {
-        self.parts.forget_changes();
-        let numbered = self.parts.number(self.alloc, edit)?;
-        apply_numbered(&mut self.parts, self.alloc, numbered, steps)
+        self.parts.apply(self.alloc, edit, steps)
     }
 
     /// The answer to a query. That there is no entry or statement of a name or id is an answer too. The name or id is moved

@@ -1,7 +1,7 @@
 // Edits that have their numbers: they are foreseen, with room for what they change of the verdicts, and made, or refused.
-ghost use Rattle.std.specs.Prelude.{◌≡◌, ◌≤◌, [], IfErr, IfOk, OnErr, OnOk, map};
+ghost use Rattle.std.specs.Prelude.{◌≡◌, ◌≤◌, [], IfErr, IfOk, OnErr, OnOk, map, true};
 ghost use Rattle.name_index.specs.cpe_steps.Within.{StepsWithin};
-ghost use Rattle.cpe_rows.specs.Prelude.{after, Applied, changes, Refuses, step, verdict};
+ghost use Rattle.cpe_rows.specs.Prelude.{after, Applied, changes, is_valid_edit, Refuses, step, verdict};
 ghost use Rattle.verdicts.specs.Verdicts.{known_in};
 ghost use Rattle.engine_edits.specs.Checked.{IsChecked};
 ghost use Rattle.engine_edits.specs.Parts.{AreBeside, AreKept, edit_in, rows_in};
@@ -12,17 +12,41 @@ use crate::checked::Checked;
 use crate::made::make;
 use crate::numbered::Numbered;
 use crate::parts::Parts;
-use cpe_rows::{Changed, EditFault, List, Memory, Room};
+use cpe_rows::{Changed, Edit, EditFault, List, Memory, Room};
 use name_index::Steps;
 use std::alloc::Global;
 use std::sync::ledger::Ledger;
 
-/// Looks at an edit, and makes it where it has no fault; else it is let go. It answers which verdicts the edit changes. An edit that has
-/// a fault takes no step.
-///
-/// # Errors
-/// The first fault of the edit, or that memory ran out. The rows are then as they were, and no name is held for it any more.
-pub fn apply_numbered<L: Ledger>(
+impl Parts {
+    /// Makes an edit, and returns which verdicts it changes. A refused edit takes no step.
+    ///
+    /// # Errors
+    /// The first fault of the edit in the order of [`EditFault`], or that memory ran out. The rows are then the same, and no name
+    /// is held for the edit any more.
+    pub fn apply<L: Ledger>(
+        &mut self,
+        alloc: Global,
+        edit: Edit,
+        steps: &mut Steps<L>,
+    ) -> Result<List<Changed>, EditFault>
+        requires kept { AreKept self.old }
+        requires valid { is_valid_edit edit ≡ true }
+        ensures kept { AreKept self.new }
+        ensures applied { Applied (rows_in self.old) (rows_in self.new) edit result }
+        ensures changes { IfOk result (λ cs. cs ≡ changes (rows_in self.old) edit) }
+        ensures steps { StepsWithin steps.old steps.new (edit_looks (rows_in self.old) edit) }
+    {
+        self.forget_changes();
+        let numbered = self.number(alloc, edit)?;
+        apply_numbered(self, alloc, numbered, steps)
+    }
+}
+
+// Looks at an edit that has its numbers, and makes it if it has no fault.
+//
+// # Errors
+// The first fault of the edit, or that memory ran out. Its names are then released.
+fn apply_numbered<L: Ledger>(
     parts: &mut Parts,
     alloc: Global,
     numbered: Numbered,

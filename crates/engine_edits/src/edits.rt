@@ -31,7 +31,7 @@ impl Parts {
     ///
     /// # Errors
     /// That there is no such name, or that memory ran out. All is then as it was.
-    pub fn number(&mut self, alloc: Global, edit: Edit) -> Result<Numbered, EditFault>
+    pub(crate) fn number(&mut self, alloc: Global, edit: Edit) -> Result<Numbered, EditFault>
         requires kept { AreKept self.old }
         requires valid { is_valid_edit edit ≡ true }
         ensures { EditNumbered self.old self.new edit result }
@@ -92,7 +92,7 @@ impl Parts {
     }
 
     /// The fault for which an edit isn't made, which is let go.
-    pub fn refuse(&mut self, numbered: Numbered, fault: EditFault) -> EditFault
+    pub(crate) fn refuse(&mut self, numbered: Numbered, fault: EditFault) -> EditFault
         requires { AreBeside self.old numbered }
         ensures fault { result ≡ fault }
         ensures rows { rows_in self.new ≡ rows_in self.old }
@@ -110,7 +110,7 @@ impl Parts {
     ///
     /// # Errors
     /// The first fault of the edit, or that memory ran out.
-    pub fn check(&self, numbered: &Numbered) -> Result<Checked, EditFault>
+    pub(crate) fn check(&self, numbered: &Numbered) -> Result<Checked, EditFault>
         requires { AreBeside self.now numbered.now }
         ensures ok { IfOk result (IsChecked (rows_in self.now) (edit_in self.now numbered.now)) }
         ensures err { IfErr result (λ f. Refuses f (step (rows_in self.now) (edit_in self.now numbered.now))) }

@@ -98,7 +98,7 @@ pub(crate) fn release_coming(registry: &mut Registry, coming: Coming)
 }
 
 /// Lets go the names of these numbers, each of which is held besides the rows.
-pub fn release_all(registry: &mut Registry, ids: &[NameId])
+pub(crate) fn release_all(registry: &mut Registry, ids: &[NameId])
     requires live { AreLive registry.old.table ids.now }
     requires are { (v : VerdictsNow) × (rows : Rows) × (others : List Values) × AreOf registry.old v rows (names_at registry.old.table ids.now ++ others) }
     ensures { (v : VerdictsNow) (rows : Rows) (others : List Values) → AreOf registry.old v rows (names_at registry.old.table ids.now ++ others) → AreOf registry.new v rows others }

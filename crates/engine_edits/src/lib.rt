@@ -19,8 +19,5 @@ mod numbered;
 mod parts;
 mod statements;
 
-pub use applied::apply_numbered;
-pub use checked::Checked;
 pub use cpe_inventory::ItemSlots;
-pub use numbered::{Change, Numbered, Turn};
 pub use parts::Parts;

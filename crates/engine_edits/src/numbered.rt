@@ -7,7 +7,7 @@ use name_index::NameId;
 
 /// An edit of which the names of entries and items are numbers of the engine's table. A name that comes is held for it.
 #[derive(Drop)]
-pub enum Numbered {
+pub(crate) enum Numbered {
     /// Adds an entry.
     Entry {
         id: NameId,
@@ -49,7 +49,7 @@ pub(crate) enum Coming {
 
 /// What becomes of the deprecation of an entry, with a note of this date and comment.
 #[derive(Drop)]
-pub struct Change {
+pub(crate) struct Change {
     /// The number of the entry's name.
     pub id: NameId,
     /// What becomes of it.
@@ -62,7 +62,7 @@ pub struct Change {
 
 /// What becomes of a deprecation.
 #[derive(Drop)]
-pub enum Turn {
+pub(crate) enum Turn {
     /// An active entry gets this one.
     Give(Deprecation),
     /// This one stands in the place of another.
@@ -117,7 +117,7 @@ impl Turn {
 
 impl Change {
     /// The deprecation of the entry then, if it has one, and the note.
-    pub fn into_parts(self) -> (Option<Deprecation>, Note)
+    pub(crate) fn into_parts(self) -> (Option<Deprecation>, Note)
         ensures deprecation { result.0 ≡ given self.turn }
         ensures note { result.1 ≡ note_of self.turn self.date self.comment }
     {

@@ -34,7 +34,7 @@ impl Parts {
     }
 
     /// From here on changes of verdicts are told by what the verdicts are now.
-    pub fn forget_changes(&mut self)
+    pub(crate) fn forget_changes(&mut self)
         requires { AreKept self.old }
         ensures kept { AreKept self.new }
         ensures rows { rows_in self.new ≡ rows_in self.old }
