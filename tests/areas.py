@@ -5,7 +5,7 @@ usage: areas.py
 
 Ends with status 0 if all of this holds, and with 1 and the differences otherwise:
 - the table below the map has each crate of crates.txt in exactly one area;
-- each area has a section, whose table has a row for each of its crates, in the order of crates.txt;
+- each area has a section, whose list has each of its crates, in the order of crates.txt;
 - no area stands on itself through others;
 - between the areas there are the lines of LINES, which the map draws, and no others.
 """
@@ -92,7 +92,7 @@ def main() -> None:
     sections = collections.defaultdict(list)
     for section in text.split("\n### ")[1:]:
         title, body = section.split("\n", 1)
-        sections[title] += [it[0].strip("`") for it in cells(body) if re.fullmatch(r"`\w+`", it[0])]
+        sections[title] += re.findall(r"(?m)^- `(\w+)`: ", body)
     for area in of_area:
         wanted = [it for it in uses if area_of[it] == area]
         if sections[area] != wanted:
