@@ -4,13 +4,12 @@
 usage: areas.py
 
 Ends with status 0 if all of this holds, and with 1 and the differences otherwise:
-- the table below the map has each crate of crates.txt in exactly one area;
-- each area has a section, whose table has a row for each of its crates, in the order of crates.txt;
+- each area of the table below the map has a section, and each crate of crates.txt is in the list of exactly one;
+- each of these lists is in the order of crates.txt;
 - no area stands on itself through others;
 - between the areas there are the lines of LINES, which the map draws, and no others.
 """
 
-import collections
 import pathlib
 import re
 import sys
@@ -53,9 +52,10 @@ def cells(text: str) -> list[list[str]]:
 
 
 def areas(text: str) -> dict[str, list[str]]:
-    """The crates of each area, as the table below the map has them."""
+    """The crates of each area of the table below the map, as the list of its section has them."""
+    lists = {title: re.findall(r"(?m)^- `(\w+)`: ", body) for title, _, body in (it.partition("\n") for it in text.split("\n### ")[1:])}
     front = text.split("\n## ", 1)[0]
-    return {row[0]: re.findall(r"`(\w+)`", row[2]) for row in cells(front)[1:]}
+    return {row[0]: lists.get(row[0], []) for row in cells(front)[1:]}
 
 
 def lines(uses: dict[str, list[str]], area_of: dict[str, str]) -> dict[str, set[str]]:
@@ -89,14 +89,10 @@ def main() -> None:
     if said:
         sys.exit("\n".join(f"{PAGE}: {it}" for it in said))
 
-    sections = collections.defaultdict(list)
-    for section in text.split("\n### ")[1:]:
-        title, body = section.split("\n", 1)
-        sections[title] += [it[0].strip("`") for it in cells(body) if re.fullmatch(r"`\w+`", it[0])]
-    for area in of_area:
+    for area, listed in of_area.items():
         wanted = [it for it in uses if area_of[it] == area]
-        if sections[area] != wanted:
-            said.append(f"the section {area} has {sections[area]}, and not {wanted}")
+        if listed != wanted:
+            said.append(f"the section {area} has {listed}, and not {wanted}")
     found = lines(uses, area_of)
     for area in sorted(found.keys() | LINES.keys()):
         if found.get(area) != LINES.get(area):
