@@ -62,11 +62,11 @@ reasons_of_code() {
     codes edit_fault_text "$reasons" | grep -v '^full'
     codes which_word "$reasons" | sed 's/^/full /'
     codes reason_text crates/cpe_convert/specs/Convert.antt
-    reasons=crates/cpe_advise/specs/Reasons.antt
+    reasons=crates/cpe_ranges/specs/Reasons.antt
     codes read_fault_text "$reasons"
     codes edit_fault_text "$reasons" | grep -v '^full'
     codes which_word "$reasons" | sed 's/^/full /'
-    codes which_word crates/cover_lines/specs/Reasons.antt | sed 's/^/full /'
+    codes which_word crates/cpe_cover/specs/Reasons.antt | sed 's/^/full /'
 }
 
 # The limits, as a word and a number.
@@ -110,11 +110,11 @@ compares_lists() {
     heads RECORDS Members > "$room/page"
     are_one 'the members of records on the manual page are those of the code'
 
-    codes record_word crates/cpe_advisories/specs/Reading.antt > "$room/code"
+    codes record_word crates/cpe_ranges/specs/Reading.antt > "$room/code"
     heads 'RECORDS OF ADVISE' Kinds > "$room/page"
     are_one 'the kinds of records of advise on the manual page are those of the code'
 
-    codes key_of crates/cpe_advisories/specs/Reading.antt > "$room/code"
+    codes key_of crates/cpe_ranges/specs/Reading.antt > "$room/code"
     heads 'RECORDS OF ADVISE' Members > "$room/page"
     are_one 'the members of records of advise on the manual page are those of the code'
 
