@@ -17,8 +17,8 @@ use Rattle.cpe_drill.specs.Outcome.{summed}
 use Rattle.cpe_drill.specs.Drill.{drill_transcript, LeavesRows}
 use Rattle.cpe_ranges.specs.Rows.{no_rows as no_advice}
 use Rattle.cpe_convert.specs.Convert.{convert_session}
-use Rattle.cpe_advise.specs.Records.{advice_session, most_steps}
-use Rattle.cover_lines.specs.Lines.{cover_session, most_steps as most_cover_steps}
+use Rattle.cpe_ranges.specs.Records.{advice_session, most_steps}
+use Rattle.cpe_cover.specs.Lines.{cover_session, most_steps as most_cover_steps}
 use Rattle.cpe_command.specs.declared.command.Command.{Command}
 use Rattle.cpe_command.specs.declared.command.Command.TheVariants.{Name, Compare, Records, Convert, Advise, Load, Cover, Make, Drill}
 use Rattle.cpe_command.specs.Command.{command_of, usage}

@@ -5,3 +5,4 @@ mod MarkLemmas
 mod ShapeLemmas
 mod StayLemmas
 mod SortLemmas
+pub mod LineRows

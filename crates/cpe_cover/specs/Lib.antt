@@ -3,3 +3,5 @@ pub mod Laws
 pub mod Names
 pub mod Shapes
 pub mod Marks
+pub mod Reasons
+pub mod Lines

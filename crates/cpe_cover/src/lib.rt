@@ -1,4 +1,6 @@
 //! A list of names reduced to those that no other of them covers.
+//!
+//! The command that reduces names: each line is a name, and at the end those are written that no other covers.
 #![tactic(auto)]
 
 mod fault;
@@ -7,9 +9,16 @@ mod limits;
 mod marks;
 mod names;
 mod own;
+mod reason;
 mod rows;
+mod run;
 mod shapes;
+mod speaker;
+mod written;
 
 pub use fault::{NamesFault, NamesWhich};
 pub use limits::MOST_NAMES;
 pub use names::Names;
+pub use reason::CoverReason;
+pub use run::cover;
+pub use speaker::Cover;

@@ -16,7 +16,7 @@ use Rattle.cpe_rows.proofs.NameTests.{not_same}
 use Rattle.cpe_rows.proofs.Unrefused.{none_repeated}
 use Rattle.deprecation_graph.specs.Graph.{IsLawful, Node}
 use Rattle.deprecation_graph.specs.Laws.{ChainsArePaths}
-use Rattle.filled_graph.specs.Filled.{AreAllowed, IsBrief, nodes_of_lists}
+use Rattle.deprecation_graph.specs.Filled.{AreAllowed, IsBrief, nodes_of_lists}
 use Rattle.cpe_dictionary.specs.Faults.{DifferentByNumber, NamesHaveNumbers, RepeatsByNumber}
 use Rattle.cpe_dictionary.specs.Given.{are_entries, each_deprecated, may_have}
 use Rattle.cpe_dictionary.specs.Kept.{IsKept}

@@ -13,7 +13,7 @@ use Rattle.cpe_rows.specs.Rows.{is_named}
 use Rattle.cpe_rows.specs.declared.entry.Deprecation.{Deprecation}
 use Rattle.cpe_rows.specs.declared.entry.Entry.{Entry}
 use Rattle.deprecation_graph.specs.Graph.{node_of}
-use Rattle.filled_graph.specs.Filled.{nodes_of_lists}
+use Rattle.deprecation_graph.specs.Filled.{nodes_of_lists}
 use Rattle.cpe_dictionary.specs.Given.{are_entries, each_deprecated, is_counted, may_have, successors_in}
 use Rattle.cpe_dictionary.specs.Kept.{names_of}
 use Rattle.cpe_dictionary.specs.Numbers.{node_of_entry, nodes_of_entries, numbers_of}

@@ -16,8 +16,7 @@ use crate::successors::{find_repeated, is_count};
 use cpe_name::Wfn;
 use cpe_rows::{Deprecation, List};
 use cpe_values::Memory;
-use deprecation_graph::DeprecationGraph;
-use filled_graph::{FillFault, fill};
+use deprecation_graph::{DeprecationGraph, FillFault, fill};
 use name_index::NameTable;
 use std::alloc::Global;
 

@@ -34,9 +34,9 @@ use Rattle.fact_laws.specs.Shown.{holds_in, Shows}
 use Rattle.cpe_registry.specs.Registered.{Registered}
 use Rattle.verdicts.specs.Verdicts.{HasVerdicts, VerdictsNow}
 use Rattle.cpe_engine.specs.Adopting.{given_weight, IsBare, with_deprecations}
-use Rattle.engine_parts.specs.Parts.{AreKept, AreOf, rows_in}
-use Rattle.engine_parts.specs.declared.parts.Parts.{Parts}
-use Rattle.engine_parts.proofs.PartsLemmas.{by_lists, stay_kept, weight_within}
+use Rattle.engine_edits.specs.Parts.{AreKept, AreOf, rows_in}
+use Rattle.engine_edits.specs.declared.parts.Parts.{Parts}
+use Rattle.engine_edits.proofs.PartsLemmas.{by_lists, stay_kept, weight_within}
 
 -- ---- weight
 

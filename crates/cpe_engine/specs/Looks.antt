@@ -6,7 +6,7 @@ use Rattle.cpe_rows.specs.Rows.{Rows}
 use Rattle.cpe_rows.specs.declared.entry.Entry.{Entry}
 use Rattle.cpe_rows.specs.declared.edit.Query.{Query}
 use Rattle.cpe_rows.specs.declared.edit.Query.TheVariants.{Search, Items}
-pub use Rattle.made_edits.specs.Looks.{edit_looks}
+pub use Rattle.engine_edits.specs.Looks.{edit_looks}
 
 -- for a search as many as entries have a product to which the asked one is near, for items as many as have a product that the asked one
 -- meets, and for each other query none

@@ -4,13 +4,13 @@ ghost use Rattle.cpe_rows.specs.Prelude.{IsLawful};
 ghost use Rattle.cpe_rows.specs.Weight.{total};
 ghost use Rattle.cpe_weight.specs.Capped.{capped};
 ghost use Rattle.cpe_engine.specs.Adopting.{given_weight, IsBare, with_deprecations};
-ghost use Rattle.engine_parts.specs.Parts.{AreKept, rows_in};
+ghost use Rattle.engine_edits.specs.Parts.{AreKept, rows_in};
 
 use crate::engine::Engine;
 use cpe_rows::{Deprecation, List, MOST_WEIGHT};
 use cpe_weight::with_deprecation;
-use engine_parts::Parts;
-use filled_graph::FillFault;
+use engine_edits::Parts;
+use deprecation_graph::FillFault;
 
 /// Why rows can't be taken over.
 #[derive(Clone, Copy, Debug, PartialEq, Eq)]

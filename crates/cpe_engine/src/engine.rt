@@ -17,8 +17,7 @@ use cpe_rows::{
 };
 use cpe_steps::Steps;
 use cpe_values::Memory;
-use engine_parts::Parts;
-use made_edits::apply_numbered;
+use engine_edits::{Parts, apply_numbered};
 use std::alloc::Global;
 use std::marker::Model;
 use std::mem::forget;
@@ -35,7 +34,7 @@ impl Model for Engine {
     ghost use Rattle.std.specs.Coded.{codes};
     ghost use Rattle.cpe_rows.specs.Rows.{Rows};
     ghost use Rattle.cpe_rows.specs.contracts.test.Test as test;
-    ghost use Rattle.engine_parts.specs.Parts.{AreKept, rows_in};
+    ghost use Rattle.engine_edits.specs.Parts.{AreKept, rows_in};
 
     ghost Value = { Rows };
 

@@ -13,12 +13,12 @@ use Rattle.cpe_values.specs.Values.{IsValue}
 use Rattle.cpe_values.proofs.Lawful.{lone_is}
 use Rattle.cpe_grammar.specs.Scanners.{◌>>=◌, both, nothing, one}
 use Rattle.cpe_grammar.proofs.Scans.{Scans, wider, Empty, nothing_scans, OneOf, one_scans, Joined, both_scans, Either, choose_scans, chosen_yes, chosen_no, HeadFails}
-use Rattle.cpe_spelling.specs.Scanning.{is_star, is_mark, starts_body, edge_end, stem_end}
-use Rattle.cpe_spelling.specs.Stems as texts
-use Rattle.cpe_spelling.specs.Stems.{AreCharacters, IsEdgeText}
-use Rattle.cpe_spelling.proofs.Edges.{edge_scans, edge_taken}
-use Rattle.cpe_spelling.proofs.Stems as stems
-use Rattle.cpe_spelling.proofs.Stems.{stem_scans, a_letter, stem_taken, body_begins, begins_fail}
+use Rattle.cpe_values.specs.Scanning.{is_star, is_mark, starts_body, edge_end, stem_end}
+use Rattle.cpe_values.specs.Stems as texts
+use Rattle.cpe_values.specs.Stems.{AreCharacters, IsEdgeText}
+use Rattle.cpe_values.proofs.Edges.{edge_scans, edge_taken}
+use Rattle.cpe_values.proofs.Stems as stems
+use Rattle.cpe_values.proofs.Stems.{stem_scans, a_letter, stem_taken, body_begins, begins_fail}
 use Rattle.cpe_fs.specs.Grammar.{component}
 use Rattle.cpe_fs.specs.Scanning.{led_end, text_end}
 use Rattle.cpe_fs.specs.Spans.{IsSpan}

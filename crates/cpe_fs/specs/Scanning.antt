@@ -2,7 +2,7 @@
 -- `read_fs_is` fixes it by the grammar.
 use Rattle.std.specs.Prelude.{ℕ, List, [], ◌∷◌, codes, Bool, ◌||◌, ◌==◌, Ok}
 use Rattle.cpe_values.specs.declared.spelling.Style.TheVariants as style
-use Rattle.cpe_spelling.specs.Scanning.{is_star, starts_body, edge_end, stem_end}
+use Rattle.cpe_values.specs.Scanning.{is_star, starts_body, edge_end, stem_end}
 use Rattle.cpe_name.specs.declared.attribute.Attribute.{Attribute}
 use Rattle.cpe_name.specs.declared.attribute.Attribute.TheVariants.{Part, Language}
 use Rattle.cpe_name.specs.Names.{attributes}

@@ -12,8 +12,7 @@ ghost use Rattle.cpe_fs.specs.Spans.{AreComponents, behind_field, component_at, 
 
 use cpe_grammar::{prefix_of, scan_byte, scan_literal};
 use cpe_name::{Hyphen, Written, scan_language_tag};
-use cpe_spelling::{scan_edge, scan_stem, starts_body};
-use cpe_values::Style;
+use cpe_values::{Style, scan_edge, scan_stem, starts_body};
 
 // After an asterisk: the end of the component, or what the asterisk leads.
 #[tactic(auto, unfolding(crate::specs::Scanning::led_end))]

@@ -11,11 +11,11 @@ use Rattle.cpe_values.specs.Spelling.{edge_text}
 use Rattle.cpe_values.specs.Values.{IsValue}
 use Rattle.cpe_grammar.specs.Scanners.{both, choose, one, literal}
 use Rattle.cpe_grammar.proofs.Scans.{Scans, wider, OneOf, one_scans, Joined, both_scans, Either, choose_scans, Only, literal_scans, literal_taken}
-use Rattle.cpe_spelling.specs.Scanning.{is_star, is_mark, edge_end, stem_end}
-use Rattle.cpe_spelling.specs.Stems as stems
-use Rattle.cpe_spelling.specs.Stems.{AreCharacters, IsEdgeText, Ends}
-use Rattle.cpe_spelling.proofs.Edges.{edge_scans, edge_taken, no_edge}
-use Rattle.cpe_spelling.proofs.Stems.{stem_scans, a_letter, stem_taken, body_begins, begins_fail}
+use Rattle.cpe_values.specs.Scanning.{is_star, is_mark, edge_end, stem_end}
+use Rattle.cpe_values.specs.Stems as stems
+use Rattle.cpe_values.specs.Stems.{AreCharacters, IsEdgeText, Ends}
+use Rattle.cpe_values.proofs.Edges.{edge_scans, edge_taken, no_edge}
+use Rattle.cpe_values.proofs.Stems.{stem_scans, a_letter, stem_taken, body_begins, begins_fail}
 use Rattle.cpe_name.specs.Text.{value_text}
 use Rattle.cpe_name.specs.Scanning.{is_quote, quoted_end, begins_any, begins_na, value_end}
 

@@ -15,7 +15,7 @@ use Rattle.cpe_values.specs.Values.{IsValue}
 use Rattle.cpe_name.specs.Shapes.{is_part, is_part_letter, is_part_body, is_language, is_language_body, is_region}
 use Rattle.cpe_name.specs.Text.{value_text}
 use Rattle.cpe_name.specs.Scanning.{is_part_in_quotes, is_part_text, is_region_behind, is_language_in_quotes, is_language_text}
-use Rattle.cpe_spelling.proofs.Bytes.{bare_character}
+use Rattle.cpe_values.proofs.Bytes.{bare_character}
 use Rattle.cpe_name.proofs.QuotedTexts.{body_text}
 use Rattle.cpe_name.proofs.Tags.{CodeCase, letters, digits, RegionCase, none, behind, region_case}
 

@@ -8,7 +8,7 @@ use Rattle.cpe_values.specs.Parts.{is_character}
 use Rattle.cpe_values.specs.Spelling.{is_letter, is_digit, is_bare}
 use Rattle.cpe_grammar.proofs.Scans.{Scans, Empty, nothing_scans, OneOf, one_scans, Joined, both_scans, choose_scans, chosen_yes, chosen_no, HeadFails, Run, run_scans}
 use Rattle.cpe_grammar.specs.Scanners.{Scanner, ◌>>=◌, both, choose, nothing, one}
-use Rattle.cpe_spelling.proofs.Bytes.{bare_character}
+use Rattle.cpe_values.proofs.Bytes.{bare_character}
 use Rattle.cpe_name.specs.Shapes.{is_language_body, is_region}
 pub use Rattle.cpe_name.specs.Tags.{Code, Third}
 use Rattle.cpe_name.specs.Tags.{letters_end, digits_end, code_end, third_end, region_end, tag_end, Hyphen, Region, Tag, is_bare_hyphen, Leads, IsHyphen, TagEnds}

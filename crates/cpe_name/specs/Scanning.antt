@@ -4,7 +4,7 @@ use Rattle.std.specs.Prelude.{◌≡◌, ℕ, zero, suc, ◌-◌, List, [], ◌�
 use Rattle.cpe_grammar.specs.Scanners.{Scanner, ◌>>=◌, choose, one, literal}
 use Rattle.cpe_values.specs.declared.spelling.Style.TheVariants as style
 use Rattle.cpe_values.specs.Spelling.{is_letter, is_digit}
-use Rattle.cpe_spelling.specs.Scanning.{edge_end, stem_end}
+use Rattle.cpe_values.specs.Scanning.{edge_end, stem_end}
 use Rattle.cpe_name.specs.declared.attribute.Attribute.{Attribute}
 use Rattle.cpe_name.specs.declared.attribute.Attribute.TheVariants.{Part, Language}
 use Rattle.cpe_name.specs.Names.{attributes}

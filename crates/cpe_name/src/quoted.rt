@@ -6,8 +6,7 @@ ghost use Rattle.cpe_grammar.specs.Scanners.{Tells};
 ghost use Rattle.cpe_name.specs.Scanning.{quoted_end, value_end};
 
 use cpe_grammar::{scan_byte, scan_literal};
-use cpe_spelling::{scan_edge, scan_stem};
-use cpe_values::Style;
+use cpe_values::{Style, scan_edge, scan_stem};
 
 #[tactic(auto, unfolding(crate::specs::Scanning::quoted_end))]
 fn scan_in_quotes(bytes: &[u8]) -> Result<&[u8], usize>

@@ -27,7 +27,7 @@ use Rattle.cpe_ranges.specs.Found.{is_beside}
 use Rattle.cpe_ranges.specs.Groups.{Grouped, group, group_of, ids_in_group, is_in_group, is_plain}
 use Rattle.cpe_ranges.specs.Kept.{advisory_from, advisories_in, AreLower}
 use Rattle.cpe_ranges.specs.Rows.{has_id}
-use Rattle.cpe_advisories.specs.declared.advisory.Advisory.{Advisory}
+use Rattle.cpe_ranges.specs.declared.advisory.Advisory.{Advisory}
 use Rattle.cpe_ranges.proofs.KeptLemmas.{Pairs, ids-cons, one_affecting}
 
 -- ---- groups where an advisory is put or dropped

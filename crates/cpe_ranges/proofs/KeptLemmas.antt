@@ -12,7 +12,7 @@ use Rattle.cpe_ranges.specs.Affected.{affects}
 use Rattle.cpe_ranges.specs.Answers.{ids_affecting}
 use Rattle.cpe_ranges.specs.Kept.{advisory_from, advisories_in, AreLower}
 use Rattle.cpe_ranges.specs.Rows.{has_id}
-use Rattle.cpe_advisories.specs.declared.advisory.Advisory.{Advisory}
+use Rattle.cpe_ranges.specs.declared.advisory.Advisory.{Advisory}
 use Rattle.cpe_ranges.specs.declared.advised.Terms.{Terms}
 
 abbrev pub Pairs : Type 0

@@ -1,3 +1,4 @@
+pub mod ReadLemmas
 pub mod KeptLemmas
 pub mod WeightLemmas
 pub mod GroupLemmas

@@ -12,9 +12,9 @@ use Rattle.cpe_ranges.specs.declared.limits.TheConstants.{MOST_ADVISORIES}
 use Rattle.cpe_ranges.specs.Rows.{AdviceRows, has_id}
 use Rattle.cpe_ranges.specs.Weight.{advisory_weight, weight}
 use Rattle.cpe_ranges.specs.Step.{after, full, full_by}
-use Rattle.cpe_advisories.specs.declared.edit.AdviceEdit.TheVariants as edit
-use Rattle.cpe_advisories.specs.declared.edit.AdviceFault.TheVariants as fault
-use Rattle.cpe_advisories.specs.declared.edit.AdviceWhich.TheVariants as limit
+use Rattle.cpe_ranges.specs.declared.edit.AdviceEdit.TheVariants as edit
+use Rattle.cpe_ranges.specs.declared.edit.AdviceFault.TheVariants as fault
+use Rattle.cpe_ranges.specs.declared.edit.AdviceWhich.TheVariants as limit
 
 -- numbers within their limits
 record AreWithin (items advisories heavy : ℕ) : Type 0 where

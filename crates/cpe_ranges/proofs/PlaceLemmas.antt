@@ -14,7 +14,7 @@ use Rattle.cpe_values.specs.declared.value.Value.TheVariants as value
 use Rattle.cpe_values.specs.Equal.{same_value-Decides}
 use Rattle.cpe_values.specs.Same.{same_value}
 use Rattle.cpe_name.specs.Eleven.{Values}
-use Rattle.cpe_advisories.specs.declared.advisory.Advisory.{Advisory}
+use Rattle.cpe_ranges.specs.declared.advisory.Advisory.{Advisory}
 use Rattle.names_in_order.specs.Places.{rows_at}
 use Rattle.names_in_order.proofs.Rows.{rows_from}
 use Rattle.product_orders.specs.Elements.{SameElements}

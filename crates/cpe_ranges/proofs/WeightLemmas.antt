@@ -17,12 +17,12 @@ use Rattle.cpe_ranges.specs.Rows.{AdviceRows, has_id, is_item, is_advisory}
 use Rattle.cpe_ranges.specs.Kept.{IsWeight}
 use Rattle.cpe_ranges.specs.Weight.{advisory_weight, weight}
 use Rattle.cpe_ranges.specs.Step.{after, faults, full, full_by, is_any, when}
-use Rattle.cpe_advisories.specs.declared.advisory.Advisory.{Advisory}
-use Rattle.cpe_advisories.specs.declared.edit.AdviceEdit.{AdviceEdit}
-use Rattle.cpe_advisories.specs.declared.edit.AdviceEdit.TheVariants as edit
-use Rattle.cpe_advisories.specs.declared.edit.AdviceFault.{AdviceFault}
-use Rattle.cpe_advisories.specs.declared.edit.AdviceFault.TheVariants as fault
-use Rattle.cpe_advisories.specs.declared.edit.AdviceWhich.TheVariants as limit
+use Rattle.cpe_ranges.specs.declared.advisory.Advisory.{Advisory}
+use Rattle.cpe_ranges.specs.declared.edit.AdviceEdit.{AdviceEdit}
+use Rattle.cpe_ranges.specs.declared.edit.AdviceEdit.TheVariants as edit
+use Rattle.cpe_ranges.specs.declared.edit.AdviceFault.{AdviceFault}
+use Rattle.cpe_ranges.specs.declared.edit.AdviceFault.TheVariants as fault
+use Rattle.cpe_ranges.specs.declared.edit.AdviceWhich.TheVariants as limit
 
 -- ---- what is put
 

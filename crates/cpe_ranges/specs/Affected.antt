@@ -9,8 +9,8 @@ use Rattle.cpe_values.specs.Parts.{has_special}
 use Rattle.cpe_name.specs.Eleven.{Values}
 use Rattle.cpe_relation.specs.NameRelation.{covers}
 use Rattle.cpe_versions.specs.Order.{version_order}
-use Rattle.cpe_advisories.specs.declared.advisory.Bound.{Bound}
-use Rattle.cpe_advisories.specs.declared.advisory.Advisory.{Advisory}
+use Rattle.cpe_ranges.specs.declared.advisory.Bound.{Bound}
+use Rattle.cpe_ranges.specs.declared.advisory.Advisory.{Advisory}
 
 -- what is less passes, and what is equal where it isn't excluded
 abbrev pub passes : Bool → Ordering → Bool

@@ -5,11 +5,11 @@ use Rattle.cpe_name.specs.Eleven.{Values}
 use Rattle.names_in_order.specs.Places.{near_count}
 use Rattle.cpe_ranges.specs.Affected.{affects}
 use Rattle.cpe_ranges.specs.Rows.{AdviceRows, advisory_of}
-use Rattle.cpe_advisories.specs.declared.advisory.Advisory.{Advisory}
-use Rattle.cpe_advisories.specs.declared.edit.AdviceQuery.{AdviceQuery}
-use Rattle.cpe_advisories.specs.declared.edit.AdviceQuery.TheVariants as query
-use Rattle.cpe_advisories.specs.declared.edit.AdviceReply.{AdviceReply}
-use Rattle.cpe_advisories.specs.declared.edit.AdviceReply.TheVariants as reply
+use Rattle.cpe_ranges.specs.declared.advisory.Advisory.{Advisory}
+use Rattle.cpe_ranges.specs.declared.edit.AdviceQuery.{AdviceQuery}
+use Rattle.cpe_ranges.specs.declared.edit.AdviceQuery.TheVariants as query
+use Rattle.cpe_ranges.specs.declared.edit.AdviceReply.{AdviceReply}
+use Rattle.cpe_ranges.specs.declared.edit.AdviceReply.TheVariants as reply
 
 -- the ids of the advisories that affect an item of this name
 abbrev pub ids_affecting : Values → List Advisory → List (List ℕ)

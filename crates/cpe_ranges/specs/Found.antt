@@ -9,7 +9,7 @@ use Rattle.cpe_name.specs.Eleven.{Values}
 use Rattle.cpe_ranges.specs.Answers.{ids_affecting}
 use Rattle.cpe_ranges.specs.Groups.{Grouped, AreGrouped, group, is_plain, is_in_group}
 use Rattle.cpe_ranges.specs.Kept.{advisory_from, advisories_in, AreLower}
-use Rattle.cpe_advisories.specs.declared.advisory.Advisory.{Advisory}
+use Rattle.cpe_ranges.specs.declared.advisory.Advisory.{Advisory}
 use Rattle.cpe_ranges.specs.declared.advised.Terms.{Terms}
 
 -- names in lower case, and each id in the group of its product

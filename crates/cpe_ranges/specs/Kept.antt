@@ -6,9 +6,9 @@ use Rattle.cpe_name.specs.Lower.{IsLower}
 use Rattle.cpe_ranges.specs.Rows.{AdviceRows}
 use Rattle.cpe_ranges.specs.Weight.{weight}
 use Rattle.cpe_ranges.specs.Step.{most}
-use Rattle.cpe_advisories.specs.declared.advisory.Advisory.{Advisory}
+use Rattle.cpe_ranges.specs.declared.advisory.Advisory.{Advisory}
 use Rattle.cpe_ranges.specs.declared.advised.Terms.{Terms}
-use Rattle.cpe_advisories.specs.declared.edit.AdviceWhich.TheVariants as limit
+use Rattle.cpe_ranges.specs.declared.edit.AdviceWhich.TheVariants as limit
 
 abbrev pub advisory_from : (List ℕ × Terms) → Advisory
 advisory_from e = record { id = e.0; name = e.1.name; start = e.1.start; end = e.1.end }

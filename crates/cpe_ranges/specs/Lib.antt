@@ -1,3 +1,6 @@
+pub mod Valid
+pub mod Gives
+pub mod Reading
 pub mod Affected
 pub mod Rows
 pub mod Weight
@@ -7,3 +10,6 @@ pub mod Kept
 pub mod Groups
 pub mod Found
 pub mod Prelude
+pub mod Lines
+pub mod Reasons
+pub mod Records

@@ -1,5 +1,5 @@
 -- What most contracts over advisories and the items that they affect name, in one place.
-pub use Rattle.cpe_advisories.specs.Valid.{is_valid_advisory, is_valid_edit, is_valid_query}
+pub use Rattle.cpe_ranges.specs.Valid.{is_valid_advisory, is_valid_edit, is_valid_query}
 pub use Rattle.cpe_ranges.specs.Rows.{AdviceRows, has_id, no_rows}
 pub use Rattle.cpe_ranges.specs.Affected.{affects, is_in_range}
 pub use Rattle.cpe_ranges.specs.Answers.{answer, looks}

@@ -4,7 +4,7 @@ use Rattle.std.specs.List.{list_any}
 use Rattle.std.specs.Str.{bytes_eq}
 use Rattle.cpe_name.specs.Eleven.{Values}
 use Rattle.cpe_rows.specs.Names.{is_same}
-use Rattle.cpe_advisories.specs.declared.advisory.Advisory.{Advisory}
+use Rattle.cpe_ranges.specs.declared.advisory.Advisory.{Advisory}
 
 pub record AdviceRows : Type 0 where
   pub items : List Values

@@ -9,12 +9,12 @@ use Rattle.cpe_rows.specs.declared.limits.TheConstants.{MOST_ITEMS, MOST_WEIGHT}
 use Rattle.cpe_ranges.specs.declared.limits.TheConstants.{MOST_ADVISORIES}
 use Rattle.cpe_ranges.specs.Rows.{AdviceRows, has_id, is_item, is_advisory}
 use Rattle.cpe_ranges.specs.Weight.{weight}
-use Rattle.cpe_advisories.specs.declared.edit.AdviceEdit.{AdviceEdit}
-use Rattle.cpe_advisories.specs.declared.edit.AdviceEdit.TheVariants as edit
-use Rattle.cpe_advisories.specs.declared.edit.AdviceFault.{AdviceFault}
-use Rattle.cpe_advisories.specs.declared.edit.AdviceFault.TheVariants as fault
-use Rattle.cpe_advisories.specs.declared.edit.AdviceWhich.{AdviceWhich}
-use Rattle.cpe_advisories.specs.declared.edit.AdviceWhich.TheVariants as limit
+use Rattle.cpe_ranges.specs.declared.edit.AdviceEdit.{AdviceEdit}
+use Rattle.cpe_ranges.specs.declared.edit.AdviceEdit.TheVariants as edit
+use Rattle.cpe_ranges.specs.declared.edit.AdviceFault.{AdviceFault}
+use Rattle.cpe_ranges.specs.declared.edit.AdviceFault.TheVariants as fault
+use Rattle.cpe_ranges.specs.declared.edit.AdviceWhich.{AdviceWhich}
+use Rattle.cpe_ranges.specs.declared.edit.AdviceWhich.TheVariants as limit
 
 -- ---- the rows that an edit leaves, where it is accepted
 

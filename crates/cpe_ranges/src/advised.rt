@@ -14,7 +14,7 @@ ghost use Rattle.cpe_ranges.specs.Rows.{has_id};
 
 use crate::groups::Groups;
 use crate::range::is_in_range;
-use cpe_advisories::{Advisory, Bound};
+use crate::advisory::{Advisory, Bound};
 use cpe_name::{Attribute, Wfn};
 use cpe_relation::covers;
 use cpe_rows::{List, Text};
@@ -42,7 +42,7 @@ pub(crate) struct Advised {
 
 impl Model for Advised {
     ghost use Rattle.std.specs.Prelude.{List};
-    ghost use Rattle.cpe_advisories.specs.declared.advisory.Advisory.{Advisory};
+    ghost use Rattle.cpe_ranges.specs.declared.advisory.Advisory.{Advisory};
     ghost use Rattle.cpe_ranges.specs.Kept.{advisories_in};
     ghost use Rattle.cpe_ranges.specs.Found.{AreKept};
 

@@ -7,13 +7,12 @@ ghost use Rattle.cpe_weight.specs.Capped.{capped};
 ghost use Rattle.cpe_weight.specs.Gain.{weight_of_first};
 ghost use Rattle.cpe_ranges.specs.Prelude.{advisory_from, advisory_weight, affects, after, answer, Applied, bound_bytes, faults, full_by, has_id, is_any, is_in_range, is_valid_advisory, is_valid_edit, is_valid_query, IsWeight, looks, no_rows, rows_in, weight as weight_of};
 
-use crate::MOST_ADVISORIES;
+use crate::limits::MOST_ADVISORIES;
 use crate::advised::{Advised, Terms};
 use crate::items::Items;
 use crate::range::is_in_range;
-use cpe_advisories::{
-    AdviceEdit, AdviceFault, AdviceQuery, AdviceReply, AdviceWhich, Advisory, Bound,
-};
+use crate::edit::{AdviceEdit, AdviceFault, AdviceQuery, AdviceReply, AdviceWhich};
+use crate::advisory::{Advisory, Bound};
 use cpe_name::{Attribute, Wfn};
 use cpe_rows::{List, MOST_ITEMS, MOST_WEIGHT, Text, has_wildcards};
 use cpe_steps::Steps;

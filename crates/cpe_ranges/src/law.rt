@@ -4,7 +4,7 @@ ghost use Rattle.cpe_name.specs.Eleven.{Values};
 ghost use Rattle.cpe_ranges.specs.Rows.{AdviceRows};
 ghost use Rattle.cpe_ranges.specs.Step.{after, full};
 
-use cpe_advisories::AdviceEdit;
+use crate::edit::AdviceEdit;
 
 /// In rows within their limits nothing is full where something is dropped, so that such an edit needn't be asked for it. It does
 /// nothing, and tells a proof so.

@@ -1,19 +1,36 @@
 //! Advisories over the items of an inventory: which items each affects, and which advisories affect a name.
+//!
+//! Advisories that name a product and a range of its versions, edits of them and of the items of an inventory, and questions
+//! about both; and the records that say these.
+//!
+//! The command that keeps advisories: which items they affect, line by line.
 #![tactic(auto)]
 
 mod advised;
 mod advisories;
+mod advisory;
+mod edit;
 mod groups;
 mod items;
 pub mod law;
 mod limits;
+mod member;
 mod range;
+mod read;
+mod reason;
+mod record_kind;
+mod reply;
+mod run;
+mod speaker;
 mod view;
 
 pub use advisories::Advisories;
-pub use cpe_advisories::{
-    Advice, AdviceEdit, AdviceFault, AdviceMember, AdviceQuery, AdviceReadFault, AdviceReply,
-    AdviceWhich, Advisory, Bound, read_advice,
-};
+pub use advisory::{Advisory, Bound};
 pub use cpe_versions::version_cmp;
+pub use edit::{AdviceEdit, AdviceFault, AdviceQuery, AdviceReply, AdviceWhich};
 pub use limits::MOST_ADVISORIES;
+pub use member::{AdviceMember, AdviceReadFault};
+pub use read::Advice;
+pub use reason::AdviceReason;
+pub use run::advise;
+pub use speaker::Advise;

@@ -4,7 +4,7 @@ ghost use Rattle.std.specs.Option.{option_map_or};
 ghost use Rattle.cpe_values.specs.Parts.{has_special};
 ghost use Rattle.cpe_ranges.specs.Affected.{passes, is_behind, is_before, meets, has_version_in, is_in_range};
 
-use cpe_advisories::Bound;
+use crate::advisory::Bound;
 use cpe_values::{Pattern, Value};
 use cpe_versions::version_cmp;
 use std::cmp::Ordering;

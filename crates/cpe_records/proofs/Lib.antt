@@ -1,3 +1,7 @@
+mod Contents
+mod Lexemes
+pub mod Values
+pub mod Prints
 pub mod ValidLemmas
 pub mod ValidRecords
 pub mod Strings

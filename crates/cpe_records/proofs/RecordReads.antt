@@ -8,8 +8,8 @@ use Rattle.std.proofs.lemmas.Str.{IsUtf8-from_is_utf8}
 use Rattle.serde_json.specs.Data.{Data}
 use Rattle.serde_json.specs.Find.{as_object}
 use Rattle.serde_json.specs.Read.{read}
-use Rattle.json_texts.specs.Texts.{HasTexts}
-use Rattle.json_texts.proofs.Values.{values_text}
+use Rattle.cpe_records.specs.JsonTexts.{HasTexts}
+use Rattle.cpe_records.proofs.Values.{values_text}
 use Rattle.cpe_name.specs.Eleven.{Values}
 use Rattle.cpe_name.specs.Names.{IsName}
 use Rattle.cpe_rows.specs.Date.{is_date}

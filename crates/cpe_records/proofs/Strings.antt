@@ -9,7 +9,7 @@ use Rattle.std.specs.Cmp.Lexicographic.{slice_cmp}
 use Rattle.std.proofs.lemmas.Str.{is_utf8-from_IsUtf8, IsUtf8-nil}
 use Rattle.serde_json.specs.Data.{Data, null, boolean, number, string, array, object, Items, no_items, item, Members, no_members, member}
 use Rattle.serde_json.specs.Find.{get_member, get, as_str, as_array}
-use Rattle.json_texts.specs.Texts.{HasTexts, HaveTexts, MembersHaveTexts}
+use Rattle.cpe_records.specs.JsonTexts.{HasTexts, HaveTexts, MembersHaveTexts}
 use Rattle.cpe_members.specs.Forms.{or_default, text_in, text_at, text_or_empty, list_of, list_or_empty}
 use Rattle.cpe_members.specs.Keys.{key_of}
 use Rattle.cpe_members.specs.declared.member.Member.{Member}

@@ -4,7 +4,7 @@ use Rattle.std.specs.Prelude.{IfOk}
 use Rattle.std.specs.List.{AllByRecursion, flat_map}
 use Rattle.std.proofs.lemmas.List.Folds.{flat_map-map}
 use Rattle.serde_json.specs.Data.{Data}
-use Rattle.json_texts.specs.Texts.{HasTexts, HaveTexts, MembersHaveTexts}
+use Rattle.cpe_records.specs.JsonTexts.{HasTexts, HaveTexts, MembersHaveTexts}
 use Rattle.cpe_name.specs.Eleven.{Values}
 use Rattle.cpe_name.specs.Names.{IsName}
 use Rattle.cpe_rows.specs.FactNames.{fact_names, fact_names_step}

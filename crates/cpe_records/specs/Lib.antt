@@ -1,3 +1,4 @@
+pub mod JsonTexts
 pub mod RecordKinds
 pub mod Kinds
 pub mod Reading

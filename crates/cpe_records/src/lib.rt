@@ -25,8 +25,13 @@
 //!
 //! The `id` of a statement has 1 to 256 visible characters of ASCII; `system`, `href` and `id` of a check are any texts. The form
 //! of `test`, the test of a statement, stands at `cpe_members`, and the written form of a record at `written_records`.
+//!
+//! Texts in JSON (RFC 8259): the strings of a value that is read of UTF-8 are UTF-8, and so is what is printed of such strings.
+//!
+//! These are laws of the definitions by which the kit's `serde_json` reads, and its `json` prints.
 #![tactic(auto)]
 
+pub mod json_law;
 mod kinds;
 pub mod law;
 mod read;

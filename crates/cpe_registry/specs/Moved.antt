@@ -6,8 +6,8 @@ use Rattle.cpe_rows.specs.declared.entry.Deprecation.{Deprecation}
 use Rattle.cpe_rows.specs.declared.entry.Entry.{Entry}
 use Rattle.name_index.specs.declared.table.NameId.{NameId}
 use Rattle.name_index.specs.Table.{Holds, IsLive}
-use Rattle.filled_graph.specs.declared.fault.FillFault.{FillFault}
-use Rattle.filled_graph.specs.declared.fault.FillFault.TheVariants as fault
+use Rattle.deprecation_graph.specs.declared.fill_fault.FillFault.{FillFault}
+use Rattle.deprecation_graph.specs.declared.fill_fault.FillFault.TheVariants as fault
 use Rattle.cpe_dictionary.specs.Given.{each_deprecated}
 use Rattle.cpe_registry.specs.Given.{KeepsHolds}
 use Rattle.cpe_registry.specs.Registered.{AreHeld, name_in, Registered}

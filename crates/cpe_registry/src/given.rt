@@ -4,7 +4,7 @@ ghost use Rattle.cpe_registry.specs.Moved.{AllDeprecated};
 
 use crate::registry::Registry;
 use cpe_rows::{Deprecation, List};
-use filled_graph::FillFault;
+use deprecation_graph::FillFault;
 
 impl Registry {
     /// Gives each entry the deprecation at its place, or none, all at once, in the place of what it had; names and notes stay. It costs

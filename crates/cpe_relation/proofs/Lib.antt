@@ -1,3 +1,6 @@
+pub mod Orders
+pub mod Shifts
+pub mod Ranges
 pub mod Splits
 pub mod Places
 pub mod SeenLemmas

@@ -1,3 +1,5 @@
+pub mod Standing
+pub mod Folded
 pub mod Matching
 pub mod MatchTests
 pub mod Table

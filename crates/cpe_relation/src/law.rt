@@ -14,7 +14,7 @@ ghost use Rattle.cpe_relation.specs.Laws.{converse, is_plain_name};
 ghost use Rattle.cpe_relation.specs.Near.{near};
 ghost use Rattle.cpe_relation.specs.Maybe.{maybe, meets};
 
-use crate::Relation;
+use crate::relation::Relation;
 
 /// The table by a function and the table by statements are the same. The test of a match holds exactly where a split
 /// exists, and two values have exactly one relation, which the function tells.

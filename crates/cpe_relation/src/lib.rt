@@ -27,9 +27,21 @@
 //!   where there are specials.
 //! - With specials, a relation tells nothing of the other way round. `8.*` to `8.0` is SUPERSET, but `8.0` to `8.*`
 //!   UNDEFINED; `sp??` to `sp123` is DISJOINT, and back UNDEFINED; NA to `8.*` is UNDEFINED, and back DISJOINT.
+//!
+//! Whether a body stands in a text, letters without regard to case, at a place within bounds.
+//!
+//! The search is the Two-Way algorithm (Crochemore and Perrin, "Two-way string-matching", Journal of the ACM 38, 1991).
+//! It takes no memory, neither for the body nor for a copy in lower case. In the worst case it compares a number of
+//! bytes that is linear in the text and the body together, also where both are periodic, as `aaaa` in `aaaaaaaa`; where
+//! each place is tried by itself, the worst case is their product. So places are tried by themselves only where the
+//! body is short or the places are few, which is linear too, and faster there, since nothing is prepared. The bound on
+//! the comparisons is a known property of the algorithm: no clause tells it. What is proved is the answer, and that
+//! there always is one.
 #![tactic(auto)]
 
 mod above;
+mod cut;
+mod folded;
 pub mod law;
 mod matching;
 mod names;
@@ -37,7 +49,9 @@ mod nearness;
 mod order;
 mod partly;
 mod relation;
+mod search;
 mod seen;
+mod standing;
 mod table;
 
 pub use names::{compare_lent, compare_names, covers};

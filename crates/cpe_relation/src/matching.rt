@@ -3,7 +3,7 @@ ghost use Rattle.std.specs.Prelude.{◌≡◌, ◌↔◌, ℕ, ◌-◌, ◌≤�
 ghost use Rattle.cpe_values.specs.Borrowed.{text_lent};
 ghost use Rattle.cpe_relation.specs.MatchTests.{allows, matches, same_lower};
 
-use cpe_find::stands_within;
+use crate::standing::stands_within;
 use cpe_values::{Edge, TextRef};
 
 // The fewest characters that may stand before the body where `room` characters stand around it: the trail allows the rest.

@@ -2,7 +2,7 @@
 ghost use Rattle.std.specs.Prelude.{◌≡◌};
 ghost use Rattle.cpe_relation.specs.Attributes.{seen_nothing, seen_with, relation_seen};
 
-use crate::Relation;
+use crate::relation::Relation;
 
 // Whether any relation was DISJOINT, and whether all were EQUAL, SUBSET or EQUAL, and SUPERSET or EQUAL.
 #[derive(Clone, Copy, Debug)]

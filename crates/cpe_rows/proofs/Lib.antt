@@ -23,3 +23,12 @@ pub mod Within
 mod AcceptedItems
 mod AcceptedRows
 mod Deprecated
+pub mod UntouchedTests
+pub mod Reaching
+pub mod ItemChanges
+pub mod CheckChanges
+pub mod ChainChanges
+pub mod DeprecationChanges
+pub mod EntryChanges
+pub mod Untouched
+pub mod Differing

@@ -27,3 +27,4 @@ pub mod Changes
 pub mod Lawful
 pub mod Accepted
 pub mod Prelude
+pub mod Touching

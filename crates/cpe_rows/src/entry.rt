@@ -1,7 +1,9 @@
 // Entries of a dictionary (NIST IR 7697), and their copies.
 ghost use Rattle.std.specs.Prelude.{◌≡◌, IfOk};
 
-use crate::{Date, List, Text};
+use crate::date::Date;
+use crate::list::List;
+use crate::text::Text;
 use cpe_name::Wfn;
 use cpe_values::Memory;
 use std::alloc::Global;

@@ -1,5 +1,6 @@
 // An entry that is lent.
-use crate::{Deprecation, Provenance, Text};
+use crate::entry::{Deprecation, Provenance};
+use crate::text::Text;
 use cpe_name::Wfn;
 
 /// The parts of an entry that stands elsewhere, lent.

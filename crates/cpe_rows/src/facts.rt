@@ -5,7 +5,8 @@ ghost use Rattle.cpe_rows.specs.Evaluation.{test_truth, joined};
 ghost use Rattle.cpe_rows.specs.declared.truth.Truth.{Truth};
 ghost use Rattle.cpe_rows.specs.declared.test.CheckKey.{CheckKey};
 
-use crate::{CheckKey, Operator, Test, Truth, and_of, not_of, or_of};
+use crate::test::{CheckKey, Operator, Test};
+use crate::truth::{Truth, and_of, not_of, or_of};
 use cpe_name::Wfn;
 use cpe_values::Memory;
 use std::alloc::Global;

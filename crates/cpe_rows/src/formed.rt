@@ -5,7 +5,10 @@ ghost use Rattle.cpe_rows.specs.Chains.{successors_of};
 ghost use Rattle.cpe_rows.specs.FactNames.{fact_names};
 ghost use Rattle.cpe_rows.specs.Formed.{IsDated, IsFormed, IsFormedEntry, IsFormedStatement};
 
-use crate::{Edit, Entry, Note, Statement, Test};
+use crate::edit::Edit;
+use crate::entry::{Entry, Note};
+use crate::statement::Statement;
+use crate::test::Test;
 use cpe_name::Wfn;
 
 fn are_names(names: &[Wfn])

@@ -22,7 +22,7 @@ ghost use Rattle.cpe_rows.specs.declared.statement.Statement.{Statement};
 ghost use Rattle.cpe_rows.specs.declared.test.CheckKey.{CheckKey};
 ghost use Rattle.cpe_rows.specs.declared.fault.EditFault.{EditFault};
 
-use crate::Edit;
+use crate::edit::Edit;
 
 /// An entry is in the chain of a name exactly where a path leads to it: entries of which the first has the name, each is
 /// a successor of the one before, and the last is it.

@@ -1,5 +1,8 @@
 // What queries and edits answer.
-use crate::{Entry, Kind, List, Text, Truth};
+use crate::entry::{Entry, Kind};
+use crate::list::List;
+use crate::text::Text;
+use crate::truth::Truth;
 use cpe_name::Wfn;
 
 /// Whether an entry is active.

@@ -1,7 +1,8 @@
 // Statements of applicability (NIST IR 7698).
 ghost use Rattle.std.specs.Prelude.{◌≡◌, IfOk};
 
-use crate::{Test, Text};
+use crate::test::Test;
+use crate::text::Text;
 use cpe_values::Memory;
 use std::alloc::Global;
 

@@ -2,7 +2,10 @@
 ghost use Rattle.std.specs.Prelude.{◌≡◌, ◌↔◌, IsTrue, IfOk, nat_le};
 ghost use Rattle.cpe_rows.specs.Shape.{depth_of, is_sound};
 
-use crate::{BoxedName, List, Text, is_lower};
+use crate::boxed::BoxedName;
+use crate::list::List;
+use crate::text::Text;
+use crate::names::is_lower;
 use cpe_values::Memory;
 use std::alloc::Global;
 

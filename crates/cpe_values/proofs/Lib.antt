@@ -7,3 +7,7 @@ pub mod LaneLemmas
 pub mod Unspelled
 pub mod Kept
 pub mod BareBodies
+pub mod Bytes
+pub mod Bodies
+pub mod Edges
+pub mod Stems

@@ -11,3 +11,5 @@ pub mod Skipping
 pub mod Lanes
 pub mod Spelled
 pub mod Unspelling
+pub mod Scanning
+pub mod Stems

@@ -6,7 +6,7 @@ ghost use Rattle.cpe_values.specs.Lanes.{lanes_where, is_between};
 ghost use Rattle.cpe_values.specs.Spelling.{is_bare, is_letter, is_lower_word};
 ghost use Rattle.cpe_values.specs.declared.spelling.Style.TheVariants as style;
 
-use crate::{Style, is_bare_byte};
+use crate::spelling::{Style, is_bare_byte};
 use std::simd::prelude::*;
 
 // A class of bytes: the test of one byte, and of sixteen at a time.

@@ -3,8 +3,7 @@ ghost use Rattle.std.specs.Prelude.{◌≡◌};
 ghost use Rattle.cpe_values.specs.Parts.{has_special};
 ghost use Rattle.cpe_values.specs.Borrowed.{text_lent, value_lent};
 
-use crate::value::is_special;
-use crate::{Edge, Pattern, Value};
+use crate::value::{Edge, Pattern, Value, is_special};
 
 /// A text whose body is borrowed: a [`Pattern`], or a slice of a line in which the body stands as it is.
 ///

@@ -4,8 +4,8 @@ ghost use Rattle.std.specs.Str.{str_to_ascii_lowercase};
 ghost use Rattle.cpe_values.specs.Forms.{form_parts};
 ghost use Rattle.cpe_values.specs.Lower.{lower_parts, lower_value};
 
-use crate::value::Form;
-use crate::{Memory, Pattern, Value};
+use crate::value::{Form, Pattern, Value};
+use out_of_memory::Memory;
 use std::alloc::Global;
 
 fn make_lower_body(body: &mut Vec<u8>)

@@ -6,7 +6,7 @@ ghost use Rattle.std.specs.Hash.{same_Alike};
 ghost use Rattle.cpe_values.specs.Same.{same_parts, same_value, parts_input, value_input};
 ghost use Rattle.cpe_values.specs.Equal.{same_parts-Decides, same_value-Decides};
 
-use crate::{Pattern, Value};
+use crate::value::{Pattern, Value};
 use std::hash::{Hash, Hasher};
 
 impl PartialEq for Pattern {

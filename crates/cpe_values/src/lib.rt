@@ -3,12 +3,24 @@
 //! A text is made by [`Pattern::new`], which tells by name what is wrong with one. How a text is spelled in a
 //! well-formed name and in a formatted string stands in `spelling`. [`ValueRef`] is to [`Value`] as `&str` is to
 //! `String`: a value whose text lies elsewhere.
+//!
+//! Texts as they are spelled in a well-formed name (NIST IR 7695, 5.3) and in a formatted string (6.2): scanners of their
+//! leads, bodies and trails.
+//!
+//! The style in which a text is spelled is a parameter of each scanner that depends on it. The scanners take no memory.
 #![tactic(auto)]
+
+ghost use Rattle.std.specs.Prelude.{◌≡◌, ◌++◌, ℕ, List, Ok};
+ghost use Rattle.cpe_grammar.specs.Scanned.{Scans, HeadFails};
+ghost use Rattle.cpe_values.specs.declared.spelling.Style.{Style};
+ghost use Rattle.cpe_values.specs.Scanning.{is_star, is_mark, edge_end, stem_end};
+ghost use Rattle.cpe_values.specs.Stems.{IsEdgeText, IsStem, Ends};
 
 mod bare;
 mod borrowed;
 mod case;
 mod equal;
+mod scan;
 mod short;
 mod spelling;
 mod unspell;
@@ -17,8 +29,18 @@ mod value;
 pub use bare::{skip_bare, skip_lower_word, skip_word};
 pub use borrowed::{TextRef, ValueRef};
 pub use out_of_memory::Memory;
+pub use scan::{scan_edge, scan_stem, starts_body};
 pub use spelling::{
     Style, is_bare_byte, is_digit_byte, is_letter_byte, is_printable_byte, push_spelling,
 };
 pub use unspell::{lend_spelling, read_spelling};
 pub use value::{Edge, Pattern, Value, ValueFault};
+
+/// What [`scan_edge`] and [`scan_stem`] take: the texts of specials, and of bodies with their trails, each before what doesn't go on
+/// it. Where they stop, no text of theirs goes on. It does nothing.
+pub fn spelled_texts()
+    ensures edges { Scans IsEdgeText edge_end }
+    ensures edge { (u r : List ℕ) → IsEdgeText u → HeadFails is_star r → HeadFails is_mark r → edge_end (u ++ r) ≡ Ok r }
+    ensures stems { (here : Style) → Scans (IsStem here) (stem_end here) }
+    ensures stem { (here : Style) (u r : List ℕ) → IsStem here u → Ends here r → stem_end here (u ++ r) ≡ Ok r }
+{}

@@ -7,7 +7,7 @@ ghost use Rattle.cpe_values.specs.Faults.{first_fault, is_lone_hyphen, has_no_ma
 ghost use Rattle.cpe_values.specs.Values.{IsValue};
 ghost use Rattle.cpe_values.specs.Lower.{has_specials};
 
-use crate::Memory;
+use out_of_memory::Memory;
 use crate::short::{SHORT, ShortBody};
 use crate::spelling::is_printable_byte;
 use std::alloc::Global;

@@ -15,3 +15,8 @@ pub mod StoredLemmas
 pub mod CountLemmas
 pub mod GroupLemmas
 pub mod EnclosedLemmas
+pub mod BetweenLemmas
+pub mod FitLemmas
+pub mod ListLemmas
+pub mod FillingLemmas
+pub mod StepLemmas

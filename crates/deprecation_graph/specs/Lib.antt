@@ -10,3 +10,7 @@ pub mod Mirror
 pub mod Groups
 pub mod Kept
 pub mod Room
+pub mod Filled
+pub mod Between
+pub mod Fit
+pub mod Filling

@@ -10,12 +10,22 @@
 //! leaves, each with the number of its active nodes: where these are few, a change needs no search.
 //!
 //! Laws are stated as functions that do nothing: [`chains_are_paths`], [`changes_are_local`], [`additions_are_local`].
+//!
+//! A [`DeprecationGraph`](deprecation_graph::DeprecationGraph) of given nodes, all at once: [`fill`] asks for no order of the edges.
+//!
+//! Where edges are set one after the other, a state between may be refused although the last one is lawful: a node may have
+//! too many ends until its successors have theirs. Here a node gets its successors after they got theirs. So each state between is
+//! lawful where the last one is, and one that is refused shows that no graph may have these nodes.
 #![tactic(auto)]
 
 mod changes;
 mod check;
 mod fault;
 mod few;
+mod fill_fault;
+mod filled;
+mod filling;
+mod fit;
 mod graph;
 mod groups;
 mod kept;
@@ -26,6 +36,8 @@ mod mirror;
 mod search;
 
 pub use fault::GraphFault;
+pub use fill_fault::FillFault;
+pub use filled::fill;
 pub use graph::DeprecationGraph;
 pub use limits::{MOST_EDGES, MOST_ENDS, MOST_NODES, MOST_SUCCESSORS};
 pub use out_of_memory::Memory;

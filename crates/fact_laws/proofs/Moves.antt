@@ -23,8 +23,8 @@ use Rattle.cpe_rows.specs.declared.statement.Statement.{Statement}
 use Rattle.cpe_rows.proofs.Accepted.{next_ends}
 use Rattle.cpe_rows.proofs.NameTests.{same_is}
 use Rattle.cpe_rows.proofs.Unrefused.{unrefused}
-use Rattle.cpe_changes.specs.Touching.{deprecation_changed}
-use Rattle.cpe_changes.proofs.DeprecationChanges.{leaves, same_ends_after}
+use Rattle.cpe_rows.specs.Touching.{deprecation_changed}
+use Rattle.cpe_rows.proofs.DeprecationChanges.{leaves, same_ends_after}
 use Rattle.product_orders.specs.Elements.{SameElements}
 use Rattle.fact_laws.specs.Asked.{leads, fresh_facts, facts_in, asked, there, entry_names, names_kept}
 use Rattle.fact_laws.proofs.Counted.{facts_with}

@@ -19,7 +19,7 @@ ghost use Rattle.cpe_rows.specs.declared.statement.Mode.TheVariants.{Plain};
 ghost use Rattle.cpe_rows.specs.declared.statement.Statement.{Statement};
 ghost use Rattle.cpe_rows.specs.declared.test.CheckKey.{CheckKey};
 ghost use Rattle.cpe_rows.specs.declared.truth.Truth.{Truth};
-ghost use Rattle.cpe_changes.specs.Touching.{deprecation_changed};
+ghost use Rattle.cpe_rows.specs.Touching.{deprecation_changed};
 ghost use Rattle.fact_laws.specs.Asked.{asked, facts_in, facts_of, fresh_facts, is_one, is_referred, leads, names_kept, references_in, references_of, source_names, there};
 
 use cpe_rows::Edit;

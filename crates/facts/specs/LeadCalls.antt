@@ -14,7 +14,7 @@ use Rattle.cpe_rows.specs.declared.edit.Edit.{Edit}
 use Rattle.cpe_rows.specs.declared.entry.Entry.{Entry}
 use Rattle.cpe_rows.specs.declared.statement.Mode.{Mode}
 use Rattle.cpe_rows.specs.declared.statement.Mode.TheVariants.{Follow}
-use Rattle.cpe_changes.specs.Touching.{deprecation_changed}
+use Rattle.cpe_rows.specs.Touching.{deprecation_changed}
 use Rattle.fact_laws.specs.Shown.{names_at}
 use Rattle.fact_laws.specs.Asked.{facts_in}
 use Rattle.kept_facts.specs.Kept.{AreLive, ends_of_led}

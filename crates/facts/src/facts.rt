@@ -246,7 +246,7 @@ impl Facts {
         ensures { EndsChanged self.old self.new table.now items_from.now items_to.now facts_from.now facts_to.now led.items steps.old steps.new }
     {
         table.lawful();
-        cpe_changes::law::deprecations_touch();
+        cpe_rows::touching::deprecations_touch();
         kept_facts::law::few_stand();
         kept_facts::law::looks_are_by_names();
         self.plain.clear_changed();

@@ -6,7 +6,7 @@ use Rattle.cpe_session.specs.Pages.{Pours}
 use Rattle.cpe_session.specs.Table.{rows_text}
 use Rattle.cpe_rows.specs.Rows.{Rows}
 use Rattle.cpe_replies.specs.Proofs.{certificate_line, certificate_lines}
-use Rattle.cover_lines.proofs.LineRows.{row_each}
+use Rattle.cpe_cover.proofs.LineRows.{row_each}
 
 abbrev pub lines : Rows → List ℕ
 lines rows = rows_text (λ k. option_map_or (certificate_line rows) (slice_get rows.statements k) []) (length rows.statements)

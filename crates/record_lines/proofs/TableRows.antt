@@ -7,7 +7,7 @@ use Rattle.cpe_session.specs.Pages.{Pours}
 use Rattle.cpe_session.specs.Table.{rows_text}
 use Rattle.cpe_rows.specs.Rows.{Rows}
 use Rattle.cpe_replies.specs.Replies.{statement_line, verdict_table}
-use Rattle.cover_lines.proofs.LineRows.{row_each}
+use Rattle.cpe_cover.proofs.LineRows.{row_each}
 
 abbrev head : ℕ → List ℕ
 head count = codes "verdicts " ++ decimal count ++ codes "\n"

@@ -26,7 +26,7 @@ use Rattle.checked_certificates.specs.declared.proof.Why.{Why}
 use Rattle.checked_certificates.proofs.Told.{told}
 use Rattle.cpe_explain.specs.Choices.{certificate}
 use Rattle.cpe_explain.specs.Laws.{CertificatesAreGood}
-use Rattle.json_texts.specs.Texts.{PrintsAreTexts}
+use Rattle.cpe_records.specs.JsonTexts.{PrintsAreTexts}
 use Rattle.json.specs.Print.{print_from}
 use Rattle.proof_lines.specs.Reading.{proof_of}
 use Rattle.proof_lines.specs.Written.{proof_text}

@@ -18,7 +18,7 @@ pub fn converted_is_same()
     ensures { ConvertedIsSame }
 {
     cpe_convert::law::written_rows_stay();
-    json_texts::law::prints_are_texts();
+    cpe_records::json_law::prints_are_texts();
 }
 
 /// What `explain` writes of an input ends with certificates, and `check` says of each, behind the same lines, that it holds.
@@ -27,7 +27,7 @@ pub fn explained_is_checked()
 {
     cpe_explain::law::certificates_are_good();
     proof_lines::law::good_proofs_are_read();
-    json_texts::law::prints_are_texts();
+    cpe_records::json_law::prints_are_texts();
 }
 
 /// A certificate of which `check` says that it holds has the verdict of its statement. What `check` says of a line stands in its output,

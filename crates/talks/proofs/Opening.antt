@@ -15,8 +15,8 @@ use Rattle.name_lines.specs.Names.{name_session}
 use Rattle.name_lines.specs.Pairs.{pair_session}
 use Rattle.cpe_command.specs.Records.{record_session}
 use Rattle.cpe_convert.specs.Convert.{convert_session}
-use Rattle.cpe_advise.specs.Records.{advice_session}
-use Rattle.cover_lines.specs.Lines.{cover_session}
+use Rattle.cpe_ranges.specs.Records.{advice_session}
+use Rattle.cpe_cover.specs.Lines.{cover_session}
 use Rattle.cpe_rows.specs.Rows.{no_rows}
 use Rattle.cpe_ranges.specs.Rows.{no_rows as no_advice}
 use Rattle.talks.specs.declared.speaking.Speaking.{Speaking}

@@ -7,8 +7,8 @@ use Rattle.cpe_session.specs.Task.{Transcript}
 use Rattle.cpe_session.specs.Pages.{stage_of}
 use Rattle.cpe_session.specs.declared.progress.Progress.{Progress}
 use Rattle.cpe_convert.specs.Convert.{convert_session}
-use Rattle.cpe_advise.specs.Records.{advice_session}
-use Rattle.cover_lines.specs.Lines.{cover_session}
+use Rattle.cpe_ranges.specs.Records.{advice_session}
+use Rattle.cpe_cover.specs.Lines.{cover_session}
 use Rattle.name_lines.specs.Names.{name_session}
 use Rattle.name_lines.specs.Pairs.{pair_session}
 use Rattle.cpe_command.specs.Records.{record_session}

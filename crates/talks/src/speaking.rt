@@ -3,13 +3,11 @@ ghost use Rattle.std.specs.Prelude.{◌≡◌, ◌∷◌, [], ℕ, List, IfOk, O
 ghost use Rattle.cpe_io.specs.Lines.{line_of};
 ghost use Rattle.talks.specs.Talks.{behind, goes_on};
 
-use cover_lines::Cover;
-use cpe_advise::Advise;
+use cpe_cover::{Cover, Names};
+use cpe_ranges::{Advise, Advisories};
 use cpe_command::{Compare, NameCommand, RecordCommand};
 use cpe_convert::Convert;
-use cpe_cover::Names;
 use cpe_engine::Engine;
-use cpe_ranges::Advisories;
 use cpe_session::{Each, Progress, Status, answer_given, end_given};
 use cpe_steps::Steps;
 use std::alloc::{AllocError, Global};

@@ -27,7 +27,7 @@ pub fn new_entries_change_no_verdict()
 {
     kept_facts::law::boards_stay();
     cpe_rows::law::entries_stand_alone();
-    cpe_changes::law::untouched_verdicts_stay();
+    cpe_rows::touching::untouched_verdicts_stay();
 }
 
 /// Verdicts of rows that are entries alone are those of any such rows.

@@ -5,7 +5,7 @@ ghost use Rattle.name_index.specs.Prelude.{IsLive, StepsWithin};
 ghost use Rattle.cpe_rows.specs.Prelude.{after, is_named, IsLawful, Rows, Values};
 ghost use Rattle.cpe_rows.specs.declared.edit.Edit.{Edit};
 ghost use Rattle.cpe_rows.specs.declared.entry.Entry.{Entry};
-ghost use Rattle.cpe_changes.specs.Touching.{deprecation_changed};
+ghost use Rattle.cpe_rows.specs.Touching.{deprecation_changed};
 ghost use Rattle.cpe_dictionary.specs.Plans.{AreLeftBy};
 ghost use Rattle.cpe_registry.specs.Registered.{name_in};
 ghost use Rattle.name_index.specs.Table.{Names};
@@ -133,7 +133,7 @@ impl Verdicts {
             facts_to,
             facts,
         } = lead;
-        cpe_changes::law::deprecations_touch();
+        cpe_rows::touching::deprecations_touch();
         statement_rows::law::refreshes_judge();
         statement_rows::law::same_truths_judge_the_same();
         self.facts.lead(

@@ -5,9 +5,9 @@ use Rattle.cpe_rows.specs.Weight.{total}
 use Rattle.cpe_rows.specs.declared.entry.Deprecation.{Deprecation}
 use Rattle.cpe_weight.specs.Capped.{capped}
 use Rattle.cpe_engine.specs.Adopting.{given_weight, with_deprecations}
-use Rattle.engine_parts.specs.Parts.{rows_in}
+use Rattle.engine_edits.specs.Parts.{rows_in}
 use Rattle.cpe_engine.proofs.AdoptLemmas.{adopted, kept_adopted, too_heavy}
-use Rattle.engine_parts.proofs.PartsLemmas.{rows_are}
+use Rattle.engine_edits.proofs.PartsLemmas.{rows_are}
 use Rattle.cpe_engine.proofs.adopting.deprecate_all.Goals as goal
 
 pub returns-then-weight-gt-MOST_WEIGHT-clause-unlawful : goal.returns-then-weight-gt-MOST_WEIGHT-clause-unlawful

@@ -1,7 +1,7 @@
 use Rattle.std.proofs.Common.{map, sym, ap, subst, ◌∙◌}
 use Rattle.std.specs.List.{list_all}
 use Rattle.std.proofs.lemmas.Bool.{true≢false}
-use Rattle.filled_graph.specs.Filled.{AreAllowed, nodes_of_lists}
+use Rattle.deprecation_graph.specs.Filled.{AreAllowed, nodes_of_lists}
 use Rattle.cpe_dictionary.specs.Given.{may_have}
 use Rattle.cpe_dictionary.specs.Plans.{numbered}
 use Rattle.cpe_dictionary.proofs.GivenGraph.{allowed_given, kept_given}

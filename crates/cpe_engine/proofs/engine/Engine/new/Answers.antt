@@ -2,7 +2,7 @@ use Rattle.std.proofs.Common.{[], sym, ap, subst, ◌∙◌}
 use Rattle.cpe_rows.specs.Lawful.{IsLawful}
 use Rattle.cpe_rows.specs.Rows.{Rows}
 use Rattle.cpe_rows.specs.Weight.{weight}
-use Rattle.engine_parts.specs.Parts.{AreOf}
+use Rattle.engine_edits.specs.Parts.{AreOf}
 use Rattle.cpe_engine.proofs.engine.Engine.new.Goals as goal
 
 pub invariant_of-result : goal.invariant_of-result

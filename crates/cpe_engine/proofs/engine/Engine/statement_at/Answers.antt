@@ -3,7 +3,7 @@ use Rattle.std.specs.Prelude.{slice_get}
 use Rattle.std.specs.Option.{option_map}
 use Rattle.cpe_rows.specs.Rows.{Rows}
 use Rattle.cpe_rows.specs.Verdict.{verdict}
-use Rattle.engine_parts.specs.Parts.{rows_in}
+use Rattle.engine_edits.specs.Parts.{rows_in}
 use Rattle.cpe_engine.proofs.engine.Engine.statement_at.Goals as goal
 
 pub returns-clause-verdict : goal.returns-clause-verdict

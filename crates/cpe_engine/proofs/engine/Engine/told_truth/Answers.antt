@@ -1,7 +1,7 @@
 use Rattle.std.proofs.Common.{◌≡◌, IfSome, subst}
 use Rattle.cpe_rows.specs.Rows.{Rows}
 use Rattle.cpe_rows.specs.Verdict.{fact_truth}
-use Rattle.engine_parts.specs.Parts.{rows_in}
+use Rattle.engine_edits.specs.Parts.{rows_in}
 use Rattle.cpe_engine.proofs.engine.Engine.told_truth.Goals as goal
 
 pub returns : goal.returns

@@ -5,7 +5,7 @@ use Rattle.cpe_rows.specs.Rows.{has_id, Rows}
 use Rattle.cpe_rows.specs.Verdict.{verdict}
 use Rattle.cpe_rows.specs.declared.reply.Reply.TheVariants as reply
 use Rattle.cpe_rows.specs.declared.truth.Truth.{Truth}
-use Rattle.engine_parts.specs.Parts.{rows_in}
+use Rattle.engine_edits.specs.Parts.{rows_in}
 use Rattle.cpe_engine.proofs.engine.Engine.verdict_of.Goals as goal
 
 pub returns : goal.returns

@@ -1,5 +1,5 @@
 use Rattle.cpe_rows.specs.Weight.{name_weight}
-use Rattle.cpe_advisories.specs.declared.edit.AdviceEdit.TheVariants as edit
+use Rattle.cpe_ranges.specs.declared.edit.AdviceEdit.TheVariants as edit
 use Rattle.cpe_ranges.proofs.WeightLemmas.{weighs_item, weight_after}
 use Rattle.cpe_ranges.proofs.advisories.Advisories.add_item.Goals as goal
 

@@ -3,7 +3,7 @@ use Rattle.cpe_name.specs.Eleven.{Values}
 use Rattle.cpe_rows.specs.Weight.{name_weight}
 use Rattle.cpe_ranges.specs.Kept.{rows_in, IsWeight}
 use Rattle.cpe_ranges.specs.Step.{after}
-use Rattle.cpe_advisories.specs.declared.edit.AdviceEdit.TheVariants as edit
+use Rattle.cpe_ranges.specs.declared.edit.AdviceEdit.TheVariants as edit
 use Rattle.cpe_ranges.proofs.WeightLemmas.{weighs_drop_item, less_lost, weight_left}
 use Rattle.cpe_ranges.proofs.advisories.Advisories.drop_item.Goals as goal
 

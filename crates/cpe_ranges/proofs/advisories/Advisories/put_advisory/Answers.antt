@@ -1,5 +1,5 @@
 use Rattle.cpe_ranges.specs.Weight.{advisory_weight}
-use Rattle.cpe_advisories.specs.declared.edit.AdviceEdit.TheVariants as edit
+use Rattle.cpe_ranges.specs.declared.edit.AdviceEdit.TheVariants as edit
 use Rattle.cpe_ranges.proofs.WeightLemmas.{weighs_put, weight_after}
 use Rattle.cpe_ranges.proofs.advisories.Advisories.put_advisory.Goals as goal
 

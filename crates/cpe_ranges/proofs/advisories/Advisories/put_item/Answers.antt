@@ -3,7 +3,7 @@ use Rattle.cpe_name.specs.Eleven.{Values}
 use Rattle.cpe_ranges.specs.Kept.{rows_in}
 use Rattle.cpe_ranges.specs.Rows.{AdviceRows}
 use Rattle.cpe_ranges.specs.Step.{after}
-use Rattle.cpe_advisories.specs.declared.edit.AdviceEdit.TheVariants as edit
+use Rattle.cpe_ranges.specs.declared.edit.AdviceEdit.TheVariants as edit
 use Rattle.cpe_ranges.proofs.WeightLemmas.{item_within, weight_kept}
 use Rattle.cpe_ranges.proofs.advisories.Advisories.put_item.Goals as goal
 

@@ -6,7 +6,7 @@ use Rattle.cpe_rows.specs.After.{after}
 use Rattle.cpe_rows.specs.Rows.{Rows}
 use Rattle.cpe_rows.specs.Verdict.{fact_truth}
 use Rattle.cpe_rows.specs.declared.edit.Edit.{Edit}
-use Rattle.cpe_changes.specs.Touching.{deprecation_changed}
+use Rattle.cpe_rows.specs.Touching.{deprecation_changed}
 use Rattle.name_index.specs.Table.{kept_at}
 use Rattle.cpe_rows.specs.declared.statement.Mode.TheVariants.{Plain, Follow}
 use Rattle.level_board.specs.Board.{AreAnswers, Board, probe_times, target_times}

@@ -1,9 +1,0 @@
-pub mod UntouchedTests
-pub mod Reaching
-pub mod ItemChanges
-pub mod CheckChanges
-pub mod ChainChanges
-pub mod DeprecationChanges
-pub mod EntryChanges
-pub mod Untouched
-pub mod Differing

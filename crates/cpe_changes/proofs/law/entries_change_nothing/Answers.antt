@@ -1,8 +1,0 @@
-use Rattle.cpe_changes.proofs.EntryChanges.{next_verdict, no_changes}
-use Rattle.cpe_changes.proofs.law.entries_change_nothing.Goals as goal
-
-pub returns-clause-verdicts : goal.returns-clause-verdicts
-returns-clause-verdicts c rows next e s h = next_verdict rows next e h s
-
-pub returns-clause-changes : goal.returns-clause-changes
-returns-clause-changes c rows next e h = no_changes rows next e h

@@ -1,0 +1,48 @@
+-- What a line of a name says, and what stands at the end.
+use Rattle.std.specs.Prelude.{ℕ, List, [], ◌++◌, false, Ok, Err, codes}
+use Rattle.std.specs.declared.option.Option.{Option}
+use Rattle.std.specs.declared.option.Option.TheVariants.{Some, None}
+use Rattle.std.specs.declared.result.Result.{Result}
+use Rattle.std.specs.List.{flat_map}
+use Rattle.cpe_io.specs.Lines.{lines}
+use Rattle.cpe_name.specs.Eleven.{Values}
+use Rattle.cpe_name.specs.Lower.{lower_name}
+use Rattle.cpe_fs.specs.Grammar.{fs_text}
+use Rattle.cpe_uri.specs.EitherBinding.{read_any}
+use Rattle.cpe_session.specs.Session.{Session, Saying, total_cost}
+use Rattle.cpe_cover.specs.Cover.{cover}
+use Rattle.cpe_cover.specs.Names.{fault_of, looks, with_name}
+use Rattle.cpe_cover.specs.declared.fault.NamesWhich.{NamesWhich}
+use Rattle.cpe_cover.specs.declared.reason.CoverReason.TheVariants as reason
+use Rattle.cpe_cover.specs.Reasons.{reason_text}
+
+-- these names follow, unless they exceed a limit
+abbrev pub within_limits : List Values → Option NamesWhich → Saying (List Values)
+within_limits next None = Ok ([], next)
+within_limits next (Some which) = Err (reason_text (reason.Full which))
+
+-- a name is added, which writes nothing
+abbrev pub by_added : List Values → Values → Saying (List Values)
+by_added names n = within_limits (with_name names n) (fault_of (with_name names n))
+
+-- in lower case
+abbrev pub by_read : List Values → Result Values ℕ → Saying (List Values)
+by_read names (Ok n) = by_added names (lower_name n)
+by_read names (Err place) = Err (reason_text (reason.Name place))
+
+-- a name as its formatted string
+unfoldable pub name_line : Values → List ℕ
+name_line n = fs_text n ++ codes "\n"
+
+abbrev pub cover_session : Session (List Values)
+cover_session = record {
+  says = λ names number text. by_read names (read_any text);
+  quiet = false;
+  ends = λ names. flat_map name_line (cover names);
+  cost = λ names number text. 0;
+  end_cost = looks;
+}
+
+-- the most steps that the lines of these bytes may take, and their end
+abbrev pub most_steps : List ℕ → ℕ
+most_steps taken = total_cost cover_session [] (lines taken)

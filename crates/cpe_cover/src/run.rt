@@ -1,0 +1,34 @@
+// A whole run of the command.
+ghost use Rattle.std.specs.Prelude.{◌≡◌, []};
+ghost use Rattle.cpe_session.specs.Prelude.{Rose, StepsWithin};
+ghost use Rattle.cpe_session.specs.Ran.{Ran, Completes, Counted};
+ghost use Rattle.cpe_session.specs.Task.{task};
+ghost use Rattle.cpe_cover.specs.Lines.{cover_session, most_steps};
+
+use crate::speaker::Cover;
+use crate::names::Names;
+use cpe_io::{Sink, Source};
+use cpe_session::{Status, answer_from};
+use cpe_steps::Steps;
+use std::alloc::Global;
+use std::sync::ledger::Ledger;
+
+/// Adds the name of each line of the source, and writes at its end those that no other of them covers.
+///
+/// What stands written at each status is said as for every command that answers lines ([`answer_from`]). A step is a look at a name, and
+/// only the end takes some.
+pub fn cover<S: Source, K: Sink, L: Ledger>(
+    alloc: Global,
+    source: &mut S,
+    sink: &mut K,
+    steps: &mut Steps<L>,
+) -> Status
+    ensures ran { Ran (S.left source.old) (S.left source.new) (K.held sink.old) (K.held sink.new) (task cover_session [])
+        (λ taken status. StepsWithin steps.old steps.new (most_steps taken)) result }
+    ensures source { Counted Status.ReadFault (S.faults source.old) (S.faults source.new) result }
+    ensures sink { Counted Status.WriteFault (K.faults sink.old) (K.faults sink.new) result }
+    ensures complete { ¬ Rose (S.faults source.old) (S.faults source.new) → ¬ Rose (K.faults sink.old) (K.faults sink.new)
+        → Completes (S.left source.old) (task cover_session []) result }
+{
+    answer_from(alloc, &Cover, Names::new(alloc), source, sink, steps)
+}

@@ -1,0 +1,122 @@
+-- The record of a line, by its members in the order in which they are tested.
+use Rattle.std.specs.Prelude.{ℕ, List, [], ◌∷◌, codes, Bool, Option, Some, None, option_map, option_and_then, Result, Ok, Err, ok_or}
+use Rattle.serde_json.specs.Data.{Data}
+use Rattle.serde_json.specs.Find.{as_str, get}
+use Rattle.cpe_name.specs.Eleven.{Values}
+use Rattle.cpe_uri.specs.EitherBinding.{read_any}
+use Rattle.cpe_rows.specs.Valid.{is_id}
+use Rattle.cpe_members.specs.FirstFault.{◌>>=◌}
+use Rattle.cpe_members.specs.Forms.{or_default, tested, text_in, flag_in}
+use Rattle.cpe_members.specs.Line.{value_of}
+use Rattle.cpe_members.specs.Names.{lowered}
+use Rattle.cpe_members.specs.Words.{spelled}
+use Rattle.cpe_ranges.specs.declared.advisory.Bound.{Bound}
+use Rattle.cpe_ranges.specs.declared.advisory.Advisory.{Advisory}
+use Rattle.cpe_ranges.specs.declared.edit.AdviceEdit.TheVariants as edit
+use Rattle.cpe_ranges.specs.declared.edit.AdviceQuery.TheVariants as query
+use Rattle.cpe_ranges.specs.declared.member.AdviceMember.{AdviceMember}
+use Rattle.cpe_ranges.specs.declared.member.AdviceMember.TheVariants as member
+use Rattle.cpe_ranges.specs.declared.member.AdviceReadFault.{AdviceReadFault}
+use Rattle.cpe_ranges.specs.declared.member.AdviceReadFault.TheVariants as fault
+use Rattle.cpe_ranges.specs.declared.read.Advice.{Advice}
+use Rattle.cpe_ranges.specs.declared.read.Advice.TheVariants.{Edit, Query}
+use Rattle.cpe_ranges.specs.declared.read.Bounds.{Bounds}
+use Rattle.cpe_ranges.specs.declared.record_kind.RecordKind.{RecordKind}
+use Rattle.cpe_ranges.specs.declared.record_kind.RecordKind.TheVariants as record_kind
+
+-- how a member is written
+abbrev pub key_of : AdviceMember → List ℕ
+key_of member.Do = codes "do"
+key_of member.Id = codes "id"
+key_of member.Name = codes "name"
+key_of member.Start = codes "start"
+key_of member.End = codes "end"
+key_of member.StartExcluded = codes "start-excluded"
+key_of member.EndExcluded = codes "end-excluded"
+
+abbrev pub record_word : RecordKind → List ℕ
+record_word record_kind.Item = codes "item"
+record_word record_kind.DropItem = codes "drop-item"
+record_word record_kind.Advisory = codes "advisory"
+record_word record_kind.DropAdvisory = codes "drop-advisory"
+record_word record_kind.Affected = codes "affected"
+record_word record_kind.Advisories = codes "advisories"
+
+abbrev pub record_kind_of : List ℕ → Option RecordKind
+record_kind_of = spelled record_word (record_kind.Item ∷ record_kind.DropItem ∷ record_kind.Advisory ∷ record_kind.DropAdvisory ∷ record_kind.Affected ∷ record_kind.Advisories ∷ [])
+
+-- ---- forms of single members
+
+-- what the form makes of a member, or the member's fault
+abbrev pub required : {A : Type 0} → AdviceMember → Option A → Result A AdviceReadFault
+required m form = ok_or form (fault.Member m)
+
+abbrev pub record_kind_at : Data → Result RecordKind AdviceReadFault
+record_kind_at d = required member.Do (option_and_then record_kind_of (text_in (key_of member.Do) d))
+
+-- 1 to 256 visible characters
+abbrev pub id_at : Data → Result (List ℕ) AdviceReadFault
+id_at d = required member.Id (option_and_then (tested is_id) (text_in (key_of member.Id) d))
+
+-- the name in lower case, or where its text goes wrong
+abbrev pub named : Result Values ℕ → Result Values AdviceReadFault
+named (Ok w) = Ok (lowered w)
+named (Err place) = Err (fault.Name place)
+
+-- a text, and then that of a name in either binding
+unfoldable pub name_at : Data → Result Values AdviceReadFault
+name_at d = do
+  text ← required member.Name (text_in (key_of member.Name) d)
+  named (read_any text)
+
+-- a version of the form of an id
+abbrev pub version_in : Data → Option (Option (List ℕ))
+version_in d = option_map (λ v. Some v) (option_and_then (tested is_id) (as_str d))
+
+-- one that may be absent
+abbrev pub version_at : AdviceMember → Data → Result (Option (List ℕ)) AdviceReadFault
+version_at m d = required m (or_default None version_in (get (key_of m) d))
+
+-- `true` or `false`, which may be absent and is then `false`
+abbrev pub flag_at : AdviceMember → Data → Result Bool AdviceReadFault
+flag_at m d = required m (flag_in (key_of m) d)
+
+-- ---- kinds
+
+abbrev pub bound_of : Bool → Option (List ℕ) → Option Bound
+bound_of excluded version = option_map (λ v. record { version = v; excluded = excluded }) version
+
+-- the bounds: both versions, and then whether they are excluded, which says nothing where there is no version
+unfoldable pub bounds_in : Data → Result Bounds AdviceReadFault
+bounds_in d = do
+  start ← version_at member.Start d
+  end ← version_at member.End d
+  start_excluded ← flag_at member.StartExcluded d
+  end_excluded ← flag_at member.EndExcluded d
+  Ok (record { start = bound_of start_excluded start; end = bound_of end_excluded end })
+
+unfoldable pub advisory_in : Data → Result Advisory AdviceReadFault
+advisory_in d = do
+  id ← id_at d
+  name ← name_at d
+  bounds ← bounds_in d
+  Ok (record { id = id; name = name; start = bounds.start; end = bounds.end })
+
+-- the record of this kind, by its members
+abbrev pub advice_by : RecordKind → Data → Result Advice AdviceReadFault
+advice_by record_kind.Item d = name_at d >>= λ n. Ok (Edit (edit.Item n))
+advice_by record_kind.DropItem d = name_at d >>= λ n. Ok (Edit (edit.DropItem n))
+advice_by record_kind.Advisory d = advisory_in d >>= λ a. Ok (Edit (edit.Put a))
+advice_by record_kind.DropAdvisory d = id_at d >>= λ id. Ok (Edit (edit.Drop id))
+advice_by record_kind.Affected d = id_at d >>= λ id. Ok (Query (query.Affected id))
+advice_by record_kind.Advisories d = name_at d >>= λ n. Ok (Query (query.Advisories n))
+
+abbrev pub json_of : Option Data → Result Data AdviceReadFault
+json_of value = ok_or value fault.Json
+
+-- a value, its kind, and then the members of that kind
+unfoldable pub advice_of : List ℕ → Result Advice AdviceReadFault
+advice_of line = do
+  d ← json_of (value_of line)
+  v ← record_kind_at d
+  advice_by v d

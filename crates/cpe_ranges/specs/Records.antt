@@ -1,0 +1,45 @@
+-- What a line of a record says, and what it makes of the items and advisories.
+use Rattle.std.specs.Prelude.{ℕ, List, [], false, Ok, Err}
+use Rattle.std.specs.declared.result.Result.{Result}
+use Rattle.cpe_io.specs.Lines.{lines}
+use Rattle.cpe_session.specs.Session.{Session, Saying, total_cost}
+use Rattle.cpe_ranges.specs.Rows.{AdviceRows, no_rows}
+use Rattle.cpe_ranges.specs.Step.{step}
+use Rattle.cpe_ranges.specs.Answers.{answer, looks}
+use Rattle.cpe_ranges.specs.Reading.{advice_of}
+use Rattle.cpe_ranges.specs.declared.edit.AdviceFault.{AdviceFault}
+use Rattle.cpe_ranges.specs.declared.member.AdviceReadFault.{AdviceReadFault}
+use Rattle.cpe_ranges.specs.declared.read.Advice.{Advice}
+use Rattle.cpe_ranges.specs.declared.read.Advice.TheVariants.{Edit, Query}
+use Rattle.cpe_ranges.specs.Lines.{reply_text}
+use Rattle.cpe_ranges.specs.Reasons.{read_fault_text, edit_fault_text}
+
+-- an accepted edit writes nothing
+abbrev pub by_step : Result AdviceRows AdviceFault → Saying AdviceRows
+by_step (Ok next) = Ok ([], next)
+by_step (Err fault) = Err (edit_fault_text fault)
+
+-- an edit is applied, and a question is answered
+abbrev pub by_advice : AdviceRows → Result Advice AdviceReadFault → Saying AdviceRows
+by_advice rows (Ok (Edit e)) = by_step (step rows e)
+by_advice rows (Ok (Query query)) = Ok (reply_text (answer rows query), rows)
+by_advice rows (Err fault) = Err (read_fault_text fault)
+
+-- a question as many looks as its answer may take in these rows; an edit none
+abbrev pub advice_cost : AdviceRows → Result Advice AdviceReadFault → ℕ
+advice_cost rows (Ok (Edit e)) = 0
+advice_cost rows (Ok (Query query)) = looks rows query
+advice_cost rows (Err fault) = 0
+
+abbrev pub advice_session : Session AdviceRows
+advice_session = record {
+  says = λ rows number text. by_advice rows (advice_of text);
+  quiet = false;
+  ends = λ rows. [];
+  cost = λ rows number text. advice_cost rows (advice_of text);
+  end_cost = λ rows. 0;
+}
+
+-- the most steps that the lines of these bytes may take, each in the rows that the lines before it leave
+abbrev pub most_steps : List ℕ → ℕ
+most_steps taken = total_cost advice_session no_rows (lines taken)

@@ -1,0 +1,35 @@
+// A whole run of the command.
+ghost use Rattle.std.specs.Prelude.{◌≡◌};
+ghost use Rattle.cpe_session.specs.Prelude.{Rose, StepsWithin};
+ghost use Rattle.cpe_session.specs.Ran.{Ran, Completes, Counted};
+ghost use Rattle.cpe_session.specs.Task.{task};
+ghost use Rattle.cpe_ranges.specs.Rows.{no_rows};
+ghost use Rattle.cpe_ranges.specs.Records.{advice_session, most_steps};
+
+use crate::speaker::Advise;
+use cpe_io::{Sink, Source};
+use crate::advisories::Advisories;
+use cpe_session::{Status, answer_from};
+use cpe_steps::Steps;
+use std::alloc::Global;
+use std::sync::ledger::Ledger;
+
+/// Answers each line of the source as a record, over items and advisories that begin with none.
+///
+/// What stands written at each status is said as for every command that answers lines ([`answer_from`]). A step is a look at the
+/// name of an item, and only a question takes some.
+pub fn advise<S: Source, K: Sink, L: Ledger>(
+    alloc: Global,
+    source: &mut S,
+    sink: &mut K,
+    steps: &mut Steps<L>,
+) -> Status
+    ensures ran { Ran (S.left source.old) (S.left source.new) (K.held sink.old) (K.held sink.new) (task advice_session no_rows)
+        (λ taken status. StepsWithin steps.old steps.new (most_steps taken)) result }
+    ensures source { Counted Status.ReadFault (S.faults source.old) (S.faults source.new) result }
+    ensures sink { Counted Status.WriteFault (K.faults sink.old) (K.faults sink.new) result }
+    ensures complete { ¬ Rose (S.faults source.old) (S.faults source.new) → ¬ Rose (K.faults sink.old) (K.faults sink.new)
+        → Completes (S.left source.old) (task advice_session no_rows) result }
+{
+    answer_from(alloc, &Advise, Advisories::new(alloc), source, sink, steps)
+}

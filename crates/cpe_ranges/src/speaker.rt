@@ -1,0 +1,104 @@
+// What a line of a record says.
+ghost use Rattle.std.specs.Prelude.{◌≡◌, ◌++◌, [], ℕ, List, true, None, IfOk, OnErr, option_map};
+ghost use Rattle.cpe_session.specs.Prelude.{IsSaid, StepsWithin};
+ghost use Rattle.cpe_ranges.specs.Prelude.{answer, is_valid_edit, is_valid_query, looks, step};
+ghost use Rattle.cpe_ranges.specs.Lines.{reply_text};
+ghost use Rattle.cpe_ranges.specs.Reasons.{reason_text};
+ghost use Rattle.cpe_ranges.specs.Records.{by_step, advice_session};
+
+use crate::reason::AdviceReason;
+use crate::reply::push_reply;
+use cpe_io::{Sink, SinkFault};
+use crate::read::{Advice, read_advice};
+use crate::edit::{AdviceEdit, AdviceFault, AdviceQuery};
+use crate::member::AdviceReadFault;
+use crate::advisories::Advisories;
+use cpe_session::{Line, Page, Speaker};
+use cpe_steps::Steps;
+use std::alloc::{AllocError, Global};
+use std::sync::ledger::Ledger;
+
+/// Each line is a record: an edit is applied to the items and advisories, and a question is answered from them.
+#[derive(Clone, Copy, Debug, PartialEq, Eq)]
+pub struct Advise;
+
+impl Speaker for Advise {
+    type State = Advisories;
+
+    type Reason = AdviceReason;
+
+    ghost session = { λ _. advice_session };
+
+    fn is_quiet(&self) -> bool {
+        false
+    }
+
+    fn say<L: Ledger>(
+        &self,
+        alloc: Global,
+        state: &mut Advisories,
+        page: &mut Page,
+        line: &Line<'_>,
+        steps: &mut Steps<L>,
+    ) -> Result<Option<AdviceReason>, AllocError> {
+        match read_advice(alloc, line.text) {
+            Ok(Advice::Edit(edit)) => make_edit(state, edit, steps),
+            Ok(Advice::Query(query)) => say_answer(alloc, state, page, query, steps),
+            Err(AdviceReadFault::Memory) => Err(AllocError),
+            Err(fault) => Ok(Some(AdviceReason::Unread(fault))),
+        }
+    }
+
+    fn say_end<K: Sink, L: Ledger>(
+        &self,
+        _alloc: Global,
+        _state: &Advisories,
+        _page: &mut Page,
+        _sink: &mut K,
+        _steps: &mut Steps<L>,
+    ) -> Result<(), SinkFault> {
+        Ok(())
+    }
+}
+
+// Applies an edit, or tells why it can't be applied. Nothing is written for one that was.
+#[inline(never)]
+fn make_edit<L: Ledger>(
+    advisories: &mut Advisories,
+    edit: AdviceEdit,
+    steps: &mut Steps<L>,
+) -> Result<Option<AdviceReason>, AllocError>
+    requires { is_valid_edit edit ≡ true }
+    ensures said { IfOk result (λ refused.
+        (page : List ℕ) → IsSaid (by_step (step advisories.old edit)) advisories.old advisories.new page page (option_map reason_text refused)) }
+    ensures err { OnErr result (advisories.new ≡ advisories.old) }
+    ensures counts { StepsWithin steps.old steps.new 0 }
+{
+    match advisories.apply(edit, steps) {
+        Ok(()) => Ok(None),
+        Err(AdviceFault::Memory) => Err(AllocError),
+        Err(fault) => Ok(Some(AdviceReason::Refused(fault))),
+    }
+}
+
+// Puts the answer to a question after what is gathered.
+#[inline(never)]
+fn say_answer<L: Ledger>(
+    alloc: Global,
+    advisories: &Advisories,
+    page: &mut Page,
+    query: AdviceQuery,
+    steps: &mut Steps<L>,
+) -> Result<Option<AdviceReason>, AllocError>
+    requires { is_valid_query query ≡ true }
+    ensures said { IfOk result (λ refused. (refused ≡ None) × (page.new ≡ page.old ++ reply_text (answer advisories.now query))) }
+    ensures counts { StepsWithin steps.old steps.new (looks advisories.now query) }
+{
+    match advisories.answer(alloc, query, steps) {
+        Ok(reply) => {
+            push_reply(alloc, page, &reply)?;
+            Ok(None)
+        }
+        Err(_) => Err(AllocError),
+    }
+}

@@ -1,0 +1,12 @@
+// Bytes as the search reads them.
+ghost use Rattle.std.specs.Prelude.{◌≡◌, ◌<◌, length};
+ghost use Rattle.cpe_relation.specs.Folded.{folded};
+
+// The byte at a place, in lower case.
+#[inline(always)]
+pub(crate) fn byte_at(bytes: &[u8], place: usize) -> u8
+    requires { place < length bytes.now }
+    ensures { result ≡ folded bytes.now place }
+{
+    bytes[place].to_ascii_lowercase()
+}

@@ -1,4 +1,0 @@
-pub mod Bytes
-pub mod Bodies
-pub mod Edges
-pub mod Stems

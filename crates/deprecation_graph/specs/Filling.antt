@@ -1,0 +1,79 @@
+-- How far the filling of a graph has come. No public clause speaks of it.
+use Rattle.std.specs.Prelude.{◌≡◌, ℕ, ◌+◌, ◌-◌, ◌<◌, ◌≤◌, Bool, true, false, List, [], ◌∷◌, Option, Some, length, slice_get, slice_index, slice_index_or}
+use Rattle.std.specs.List.{All, Contains, sum_by}
+use Rattle.deprecation_graph.specs.Paths.{Leads}
+use Rattle.deprecation_graph.specs.Graph.{Node, next_in}
+use Rattle.deprecation_graph.specs.declared.filling.Mark.{Mark}
+use Rattle.deprecation_graph.specs.declared.filling.Mark.TheVariants.{New, Waiting, Done}
+use Rattle.deprecation_graph.specs.declared.filling.Filling.{Filling}
+use Rattle.deprecation_graph.specs.Filled.{nodes_of_lists}
+use Rattle.deprecation_graph.specs.Between.{IsBetween}
+
+abbrev pub is_new : Mark → Bool
+is_new New = true
+is_new Waiting = false
+is_new Done = false
+
+abbrev pub is_waiting : Mark → Bool
+is_waiting New = false
+is_waiting Waiting = true
+is_waiting Done = false
+
+abbrev pub is_done : Mark → Bool
+is_done New = false
+is_done Waiting = false
+is_done Done = true
+
+-- the mark of a node; past the last one it is new
+abbrev pub mark_of : List Mark → ℕ → Mark
+mark_of marks a = slice_index_or marks a New
+
+abbrev pub done_in : List Mark → ℕ → Bool
+done_in marks a = is_done (mark_of marks a)
+
+-- nothing becomes new
+abbrev pub NoneIsNewer : List Mark → List Mark → Type 0
+NoneIsNewer old marks = (a : ℕ) → is_new (mark_of marks a) ≡ true → is_new (mark_of old a) ≡ true
+
+-- the last of these
+abbrev pub IsLast : List ℕ → ℕ → Type 0
+IsLast waiting a = slice_get waiting (length waiting - 1) ≡ Some a
+
+-- some nodes are done, others wait, the last one for the node that is looked at next; some successors of each are known to be done
+pub record IsOnWay (nodes now : List Node) (marks : List Mark) (seen waiting : List ℕ) : Type 0 where
+  pub between : IsBetween nodes now (done_in marks)
+  pub marked : length marks ≡ length nodes
+  pub counted : length seen ≡ length nodes
+  pub below : All (λ a. a < length nodes) waiting
+  pub waits : (a : ℕ) → is_waiting (mark_of marks a) ≡ true → Contains waiting a
+  pub leads : (i j d : ℕ) → i ≤ j → j < length waiting → Leads (next_in nodes) (slice_index_or waiting i d) (slice_index_or waiting j d)
+  pub known : (a k d : ℕ) → k < slice_index seen a → k < length (next_in nodes a) → done_in marks (slice_index_or (next_in nodes a) k d) ≡ true
+
+abbrev pub IsFilling : List (Option (List ℕ)) → Filling → Type 0
+IsFilling lists filling = IsOnWay (nodes_of_lists lists) filling.graph.nodes filling.marks.items filling.seen.items filling.waiting.items
+
+-- ---- the steps that are left at most
+
+-- a new node is entered and left
+abbrev pub mark_work : Mark → ℕ
+mark_work New = 2
+mark_work Waiting = 0
+mark_work Done = 0
+
+-- the successors that aren't known to be done
+abbrev pub unseen : List Node → List ℕ → ℕ
+unseen [] seen = 0
+unseen (node ∷ nodes) [] = 0
+unseen (node ∷ nodes) (k ∷ seen) = (length node.next - k) + unseen nodes seen
+
+abbrev pub work_of : List Node → List Mark → List ℕ → List ℕ → ℕ
+work_of nodes marks seen waiting = sum_by mark_work marks + unseen nodes seen + length waiting
+
+abbrev pub work : List (Option (List ℕ)) → Filling → ℕ
+work lists filling = work_of (nodes_of_lists lists) filling.marks.items filling.seen.items filling.waiting.items
+
+-- a step towards the last state
+pub record IsStep (lists : List (Option (List ℕ))) (old new : Filling) : Type 0 where
+  pub filling : IsFilling lists new
+  pub less : work lists new < work lists old
+  pub newer : NoneIsNewer old.marks.items new.marks.items

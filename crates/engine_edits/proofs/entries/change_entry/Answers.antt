@@ -1,0 +1,29 @@
+use Rattle.std.proofs.Common.{sym, ap, ◌∙◌}
+use Rattle.cpe_rows.specs.After.{after}
+use Rattle.cpe_rows.specs.Rows.{Rows}
+use Rattle.cpe_registry.specs.Registered.{name_in}
+use Rattle.engine_edits.specs.Numbered.{turned}
+use Rattle.engine_edits.specs.Parts.{rows_in}
+use Rattle.engine_edits.proofs.TurnedLemmas.{after_turned, changes_turned}
+use Rattle.engine_edits.proofs.MadeLemmas.{told}
+use Rattle.engine_edits.proofs.entries.change_entry.Goals as goal
+
+pub make_change-requires-clause-left : goal.make_change-requires-clause-left
+make_change-requires-clause-left g c =
+    let p = c.args.parts.now in
+    let rows = rows_in p in
+    let change = c.args.change in
+    let e = turned (name_in p.registry.table change.id) change.turn change.date change.comment in
+    c.rows_stay_lawful.ensures.kept rows (after rows e) e c.requires.ready.accepted
+
+pub returns-in-Ok-clause-changes : goal.returns-in-Ok-clause-changes
+returns-in-Ok-clause-changes g c =
+    let p = c.args.parts.now in
+    let rows = rows_in p in
+    let change = c.args.change in
+    let n = name_in p.registry.table change.id in
+    let next = after rows (turned n change.turn change.date change.comment) in
+    let new = c.make_change.new.parts in
+    told rows next new.verdicts c.changes.result (c.changes.ensures new.registry.table next c.in-Ok.ensures.ok.verdicts) (c.in-Ok.ensures.known ∙ c.requires.ready.known)
+    (ap (λ (r : Rows). r.statements) (after_turned rows n change.date change.comment change.turn))
+    ∙ sym (changes_turned rows n change.date change.comment change.turn)

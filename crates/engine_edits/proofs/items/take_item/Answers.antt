@@ -1,0 +1,68 @@
+use Rattle.std.proofs.Common.{true, ◌≡◌, ◌∷◌, [], sym, subst}
+use Rattle.cpe_rows.specs.After.{after}
+use Rattle.cpe_rows.specs.declared.edit.Edit.TheVariants as edit
+use Rattle.name_index.specs.Table.{Names}
+use Rattle.fact_laws.specs.Shown.{holds_in, name_at}
+use Rattle.fact_laws.specs.Asked.{names_kept}
+use Rattle.cpe_steps.specs.Within.{StepsWithin}
+use Rattle.cpe_registry.specs.Registered.{name_in}
+use Rattle.facts.specs.Facts.{LeadsTo}
+use Rattle.cpe_rows.specs.declared.statement.Mode.TheVariants.{Follow}
+use Rattle.facts.specs.Looks.{item_looks}
+use Rattle.verdicts.specs.Verdicts.{HasVerdicts}
+use Rattle.engine_edits.specs.Parts.{AreOf, rows_in}
+use Rattle.std.specs.List.{list_any}
+use Rattle.cpe_rows.specs.Names.{is_same}
+use Rattle.engine_edits.proofs.MadeLemmas.{are_ends, item_dropped}
+use Rattle.engine_edits.proofs.items.take_item.Given.{Over}
+use Rattle.engine_edits.proofs.items.take_item.Goals as goal
+use Rattle.engine_edits.proofs.items.take_item.Goals.{After-drop_item}
+
+-- what the verdicts are asked, of the names that the registry lends
+module _ (g : Over) (c : After-drop_item g) where
+  there : LeadsTo c.table.result.now (rows_in c.args.parts.now).entries Follow c.args.id.0 c.deref.result.now
+  there =
+      let p = c.args.parts.now in
+      let ends = c.in_ok-ends.ensures in
+      are_ends p.registry.table c.table.result.now (rows_in p).entries c.args.id.0 c.in_ok-ends.ends.items c.deref.result.now c.table.ensures c.deref.ensures.value ends.live ends.names
+
+  stood : HasVerdicts c.table.result.now c.args.parts.now.verdicts (rows_in c.args.parts.now)
+  stood = subst (λ (t : Names). HasVerdicts t c.args.parts.now.verdicts (rows_in c.args.parts.now)) (sym c.table.ensures) c.requires.are.verdicts
+
+  -- without the item, whose name is held still
+  dropped : AreOf c.drop_item.new.self c.remove_item.new.self (after (rows_in c.args.parts.now) (edit.DropItem (name_in c.args.parts.now.registry.table c.args.id))) (name_in c.drop_item.new.self.table c.args.id ∷ [])
+  dropped =
+      let rows = rows_in c.args.parts.now in
+      let old = c.args.parts.now.registry.table in
+      let n = name_in old c.args.id in
+      let has = subst (λ (t : Names). list_any (is_same (name_at t c.args.id)) rows.items ≡ true) (sym c.table.ensures) c.requires.has in
+      item_dropped c.args.parts.now.registry c.drop_item.new.self c.remove_item.new.self rows c.args.id c.table.result.now c.drop_item.ensures.table c.drop_item.ensures.entries c.drop_item.ensures.items
+      (c.lists_are_shown.ensures.order old (holds_in old) (names_kept rows) (n ∷ names_kept (after rows (edit.DropItem n))) (c.items_arrive.ensures.kept_without rows n c.requires.has) c.requires.are.held) c.table.ensures
+      (c.remove_item.ensures.verdicts rows stood there has)
+
+pub release_all-requires-clause-are : goal.release_all-requires-clause-are
+release_all-requires-clause-are g c =
+    let p = c.args.parts.now in
+    (c.remove_item.new.self, after (rows_in p) (edit.DropItem (name_in p.registry.table c.args.id)), [], dropped g (goal.at.release_all-requires-clause-are g c).After-drop_item)
+
+pub returns-clause-ok : goal.returns-clause-ok
+returns-clause-ok g c =
+    let p = c.args.parts.now in
+    c.release_all.ensures c.remove_item.new.self (after (rows_in p) (edit.DropItem (name_in p.registry.table c.args.id))) [] (dropped g (goal.at.returns-clause-ok g c).After-drop_item)
+
+pub returns-clause-steps : goal.returns-clause-steps
+returns-clause-steps g c =
+    let rows = rows_in c.args.parts.now in
+    let at = (goal.at.returns-clause-steps g c).After-drop_item in
+    subst (λ (t : Names). StepsWithin c.args.steps.now c.remove_item.new.steps (item_looks rows (name_at t c.args.id))) c.table.ensures (c.remove_item.ensures.steps rows (stood g at) (there g at))
+
+pub remove_item-requires-clause-stood : goal.remove_item-requires-clause-stood
+remove_item-requires-clause-stood g c =
+    let p = c.args.parts.now in
+    let rows = rows_in p in
+    let ends = c.in_ok-ends.ensures in (
+      rows,
+      subst (λ (t : Names). HasVerdicts t p.verdicts rows) (sym c.table.ensures) c.requires.are.verdicts,
+      are_ends p.registry.table c.table.result.now rows.entries c.args.id.0 c.in_ok-ends.ends.items c.deref.result.now c.table.ensures c.deref.ensures.value ends.live ends.names,
+      subst (λ (t : Names). list_any (is_same (name_at t c.args.id)) rows.items ≡ true) (sym c.table.ensures) c.requires.has,
+    )

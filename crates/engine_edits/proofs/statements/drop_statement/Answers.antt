@@ -1,0 +1,18 @@
+use Rattle.std.proofs.Common.{sym, ◌∙◌}
+use Rattle.std.specs.Prelude.{find, position}
+use Rattle.cpe_rows.specs.Rows.{has_id}
+use Rattle.engine_edits.specs.Parts.{rows_in}
+use Rattle.engine_edits.specs.Told.{dropped_by}
+use Rattle.engine_edits.proofs.StatementLemmas.{dropped_told}
+use Rattle.engine_edits.proofs.statements.drop_statement.Goals as goal
+
+pub returns-in-Ok-clause-changes : goal.returns-in-Ok-clause-changes
+returns-in-Ok-clause-changes g c =
+    let p = c.args.parts.now in
+    let rows = rows_in p in
+    let id = c.args.id in
+    let truth = c.verdict-truth.ensures p.registry.table rows c.requires.beside.are.verdicts in
+    c.dropped_change-changes.ensures
+    ∙ (λ k. dropped_by (c.place_of-place.ensures k) (truth k))
+    ∙ sym (dropped_told rows (position (has_id id) rows.statements) (find (has_id id) rows.statements))
+    ∙ sym (c.statements_stand_alone.ensures.dropped_changes rows id)

@@ -1,0 +1,18 @@
+-- An edit that has no fault.
+use Rattle.std.specs.Prelude.{◌≡◌, None}
+use Rattle.cpe_rows.specs.Accepted.{IsAccepted}
+use Rattle.cpe_rows.specs.After.{after}
+use Rattle.cpe_rows.specs.Causes.{causes}
+use Rattle.cpe_rows.specs.Rows.{Rows}
+use Rattle.cpe_rows.specs.Step.{first_some}
+use Rattle.cpe_rows.specs.Weight.{weight}
+use Rattle.cpe_rows.specs.declared.edit.Edit.{Edit}
+use Rattle.engine_edits.specs.Planned.{IsPlanned}
+use Rattle.engine_edits.specs.declared.checked.Checked.{Checked}
+
+-- what it leaves is accepted, and has this weight
+pub record IsChecked (rows : Rows) (e : Edit) (c : Checked) : Type 0 where
+  pub accepted : IsAccepted rows e (after rows e)
+  pub none : first_some (causes rows e) ≡ None
+  pub planned : IsPlanned rows.entries e c.plan
+  pub weight : c.weight ≡ weight (after rows e)

@@ -1,0 +1,21 @@
+-- Names that are held for the fact references of a statement.
+use Rattle.std.specs.Prelude.{◌≡◌, ◌+◌, ◌≤◌, ◌++◌, ℕ, List, length}
+use Rattle.cpe_name.specs.Eleven.{Values}
+use Rattle.cpe_rows.specs.Rows.{Rows}
+use Rattle.name_index.specs.declared.table.NameId.{NameId}
+use Rattle.name_index.specs.Table.{Names}
+use Rattle.fact_laws.specs.Shown.{holds_in, names_at, Shows}
+use Rattle.cpe_registry.specs.Registered.{AreLive, Registered}
+use Rattle.verdicts.specs.Verdicts.{VerdictsNow}
+use Rattle.engine_edits.specs.Parts.{AreOf}
+
+-- so few are held that so many more can be
+abbrev pub AreFew : Names → ℕ → Type 0
+AreFew table n = (list : List Values) × Shows table (holds_in table) list × (length list + n ≤ 4294967295)
+
+-- more names are held, and their numbers stand after those that were there: these others, and all that is kept, stay as they were
+pub record Grows (old new : Registered) (before now : List NameId) : Type 0 where
+  pub entries : new.entries ≡ old.entries
+  pub items : new.items ≡ old.items
+  pub live : AreLive new.table now
+  pub are : (v : VerdictsNow) (rows : Rows) (others : List Values) → AreOf old v rows (names_at old.table before ++ others) → AreOf new v rows (names_at new.table now ++ others)

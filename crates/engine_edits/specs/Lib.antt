@@ -1,0 +1,10 @@
+pub mod Numbered
+pub mod Parts
+pub mod Holding
+pub mod Planned
+pub mod Checked
+pub mod Moved
+pub mod Prelude
+pub mod Ready
+pub mod Told
+pub mod Looks

@@ -1,0 +1,93 @@
+-- Edits whose names are numbers of the engine's table.
+use Rattle.std.specs.Prelude.{◌≡◌, ◌∷◌, ⊤, Bool, true, false, List, [], ℕ, Option, Some, None}
+use Rattle.cpe_name.specs.Eleven.{Values}
+use Rattle.name_index.specs.declared.table.NameId.{NameId}
+use Rattle.name_index.specs.Table.{Names, IsLive}
+use Rattle.cpe_rows.specs.FactNames.{fact_names}
+use Rattle.cpe_rows.specs.declared.edit.Edit.{Edit}
+use Rattle.cpe_rows.specs.declared.edit.Edit.TheVariants as edit
+use Rattle.cpe_rows.specs.declared.entry.Deprecation.{Deprecation}
+use Rattle.cpe_rows.specs.declared.entry.Note.{Note}
+use Rattle.cpe_rows.specs.declared.entry.NoteKind.{NoteKind}
+use Rattle.cpe_rows.specs.declared.entry.NoteKind.TheVariants as kind
+use Rattle.cpe_rows.specs.declared.statement.Statement.{Statement}
+use Rattle.fact_laws.specs.Shown.{names_at}
+use Rattle.cpe_dictionary.specs.Kept.{new_entry}
+use Rattle.cpe_registry.specs.Registered.{AreLive, name_in}
+use Rattle.engine_edits.specs.declared.numbered.Coming.{Coming}
+use Rattle.engine_edits.specs.declared.numbered.Coming.TheVariants as comes
+use Rattle.engine_edits.specs.declared.numbered.Turn.{Turn}
+use Rattle.engine_edits.specs.declared.numbered.Turn.TheVariants.{Give, Replace, TakeAway}
+use Rattle.engine_edits.specs.declared.numbered.Numbered.{Numbered}
+use Rattle.engine_edits.specs.declared.numbered.Numbered.TheVariants as numbered
+
+-- ---- what becomes of a deprecation
+
+-- that of the entry then, if it has one
+abbrev pub given : Turn → Option Deprecation
+given (Give d) = Some d
+given (Replace d) = Some d
+given TakeAway = None
+
+-- the entry has to be active before
+abbrev pub is_first : Turn → Bool
+is_first (Give d) = true
+is_first (Replace d) = false
+is_first TakeAway = false
+
+abbrev pub note_kind : Turn → NoteKind
+note_kind (Give d) = kind.Deprecation
+note_kind (Replace d) = kind.DeprecationModification
+note_kind TakeAway = kind.DeprecationModification
+
+abbrev pub note_of : Turn → (date comment : List ℕ) → Note
+note_of t date comment = record { kind = note_kind t; date = date; comment = comment }
+
+-- the edit that makes it, of the entry of this name
+abbrev pub turned : Values → Turn → (date comment : List ℕ) → Edit
+turned n (Give d) date comment = edit.Deprecate n d date comment
+turned n (Replace d) date comment = edit.Amend n d date comment
+turned n TakeAway date comment = edit.Restore n date comment
+
+-- ---- edits
+
+-- the edit that is numbered, by the names of the table
+abbrev pub edit_of : Names → Numbered → Edit
+edit_of table (numbered.Entry id title provenance) = edit.Entry (new_entry (name_in table id) title provenance)
+edit_of table (numbered.Item id) = edit.Item (name_in table id)
+edit_of table (numbered.DropItem id) = edit.DropItem (name_in table id)
+edit_of table (numbered.Change c) = turned (name_in table c.id) c.turn c.date c.comment
+edit_of table (numbered.PutStatement s ids) = edit.PutStatement s
+edit_of table (numbered.DropStatement id) = edit.DropStatement id
+edit_of table (numbered.SetCheck k t) = edit.SetCheck k t
+edit_of table (numbered.DropCheck k) = edit.DropCheck k
+
+-- the numbers are live, and are those of the names of the statement's fact references
+pub record AreNumbered (table : Names) (s : Statement) (ids : List NameId) : Type 0 where
+  pub live : AreLive table ids
+  pub names : names_at table ids ≡ fact_names s.test
+
+-- its numbers are those of its names
+abbrev pub IsFound : Names → Numbered → Type 0
+IsFound table (numbered.Entry id title provenance) = IsLive table id.0
+IsFound table (numbered.Item id) = IsLive table id.0
+IsFound table (numbered.DropItem id) = IsLive table id.0
+IsFound table (numbered.Change c) = IsLive table c.id.0
+IsFound table (numbered.PutStatement s ids) = AreNumbered table s ids.items
+IsFound table e = ⊤
+
+-- the numbers of the names that come with it, which are no rows' yet
+abbrev pub coming : Numbered → List NameId
+coming (numbered.Entry id title provenance) = id ∷ []
+coming (numbered.Item id) = id ∷ []
+coming (numbered.PutStatement s ids) = ids.items
+coming e = []
+
+abbrev pub numbers_of : Coming → List NameId
+numbers_of comes.Nothing = []
+numbers_of (comes.One id) = id ∷ []
+numbers_of (comes.Many ids) = ids.items
+
+-- the names that are held for it, besides those of rows
+abbrev pub names_coming : Names → Numbered → List Values
+names_coming table e = names_at table (coming e)

@@ -1,0 +1,46 @@
+-- The rows of an engine's parts, between edits and while an edit is on its way.
+use Rattle.std.specs.Prelude.{◌≡◌, ◌++◌, List, [], true}
+use Rattle.cpe_name.specs.Eleven.{Values}
+use Rattle.cpe_rows.specs.Formed.{IsFormed}
+use Rattle.cpe_rows.specs.Lawful.{IsLawful}
+use Rattle.cpe_rows.specs.Rows.{Rows}
+use Rattle.cpe_rows.specs.Valid.{is_valid_edit}
+use Rattle.cpe_rows.specs.Weight.{weight}
+use Rattle.cpe_rows.specs.declared.edit.Edit.{Edit}
+use Rattle.fact_laws.specs.Shown.{holds_in, Shows}
+use Rattle.fact_laws.specs.Asked.{names_kept}
+use Rattle.cpe_registry.specs.Registered.{Registered}
+use Rattle.verdicts.specs.Verdicts.{checks_in, HasVerdicts, statements_in, VerdictsNow}
+use Rattle.engine_edits.specs.Numbered.{edit_of, IsFound, names_coming}
+use Rattle.engine_edits.specs.declared.numbered.Numbered.{Numbered}
+use Rattle.engine_edits.specs.declared.parts.Parts.{Parts}
+
+abbrev pub rows_in : Parts → Rows
+rows_in p = record { entries = p.registry.entries; items = p.registry.items; statements = statements_in p.verdicts; checks = checks_in p.verdicts }
+
+-- Registry and verdicts are those of these rows: the table holds the names of entries, items and fact references, these others besides, each
+-- as often as it is one, and no more; and each verdict is that of the rows.
+pub record AreOf (r : Registered) (v : VerdictsNow) (rows : Rows) (others : List Values) : Type 0 where
+  pub entries : r.entries ≡ rows.entries
+  pub items : r.items ≡ rows.items
+  pub held : Shows r.table (holds_in r.table) (others ++ names_kept rows)
+  pub verdicts : HasVerdicts r.table v rows
+
+-- lawful rows, and their weight; the table holds their names and no other
+pub record AreKept (p : Parts) : Type 0 where
+  pub lawful : IsLawful (rows_in p)
+  pub weight : p.weight ≡ weight (rows_in p)
+  pub are : AreOf p.registry p.verdicts (rows_in p) []
+
+-- the edit that is numbered
+abbrev pub edit_in : Parts → Numbered → Edit
+edit_in p n = edit_of p.registry.table n
+
+-- lawful rows, and their weight, beside an edit in order that isn't made yet: the table holds the names that come with it besides
+pub record AreBeside (p : Parts) (n : Numbered) : Type 0 where
+  pub lawful : IsLawful (rows_in p)
+  pub weight : p.weight ≡ weight (rows_in p)
+  pub are : AreOf p.registry p.verdicts (rows_in p) (names_coming p.registry.table n)
+  pub found : IsFound p.registry.table n
+  pub valid : is_valid_edit (edit_in p n) ≡ true
+  pub formed : IsFormed (edit_in p n)

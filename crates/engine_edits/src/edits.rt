@@ -1,0 +1,244 @@
+// An edit on its way: it gets its numbers, is looked at, or is let go.
+ghost use Rattle.std.specs.Prelude.{◌≡◌, ◌≤◌, ◌+◌, ◌∷◌, [], IfErr, IfOk, None, OnErr, not, true};
+ghost use Rattle.cpe_rows.specs.Prelude.{after, causes, first_some, is_valid_edit, IsCause, most, Refuses, step, when};
+ghost use Rattle.std.specs.Option.{option_map_or};
+ghost use Rattle.cpe_rows.specs.Weight.{deprecation_weight, note_weight, weight as weight_of};
+ghost use Rattle.cpe_rows.specs.declared.fault.Which.TheVariants as limit;
+ghost use Rattle.cpe_weight.specs.Capped.{capped};
+ghost use Rattle.cpe_weight.specs.Gain.{gain, loss};
+ghost use Rattle.engine_edits.specs.Checked.{IsChecked};
+ghost use Rattle.engine_edits.specs.Moved.{EditNumbered};
+ghost use Rattle.engine_edits.specs.Numbered.{given, IsFound, names_coming, note_of};
+ghost use Rattle.engine_edits.specs.Parts.{AreBeside, AreKept, AreOf, edit_in, rows_in};
+ghost use Rattle.engine_edits.specs.Planned.{IsPlanned};
+
+use crate::checked::Checked;
+use crate::holds::release_coming;
+use crate::numbered::{Change, Numbered, Turn};
+use crate::parts::Parts;
+use cpe_dictionary::Plan;
+use cpe_inventory::check_fault;
+use cpe_rows::{Edit, EditFault, MOST_WEIGHT, Which};
+use cpe_weight::{
+    with_active_entry, with_deprecation, with_key, with_name, with_note, with_statement,
+};
+use std::alloc::Global;
+
+// ---- numbers
+
+impl Parts {
+    /// Gives an edit in order its numbers. A name that comes is held for it; one that has to be there is found, and let go.
+    ///
+    /// # Errors
+    /// That there is no such name, or that memory ran out. All is then as it was.
+    pub fn number(&mut self, alloc: Global, edit: Edit) -> Result<Numbered, EditFault>
+        requires kept { AreKept self.old }
+        requires valid { is_valid_edit edit ≡ true }
+        ensures { EditNumbered self.old self.new edit result }
+    {
+        edit.formed();
+        cpe_rows::law::causes_refuse();
+        self.find_numbers(alloc, edit)
+    }
+
+    // The same, by kind.
+    fn find_numbers(&mut self, alloc: Global, edit: Edit) -> Result<Numbered, EditFault>
+        requires kept { AreKept self.old }
+        requires valid { is_valid_edit edit ≡ true }
+        ensures rows { rows_in self.new ≡ rows_in self.old }
+        ensures verdicts { self.new.verdicts ≡ self.old.verdicts }
+        ensures weight { self.new.weight ≡ self.old.weight }
+        ensures edit { IfOk result (λ n. edit_in self.new n ≡ edit) }
+        ensures found { IfOk result (IsFound self.new.registry.table) }
+        ensures are { IfOk result (λ n. AreOf self.new.registry self.new.verdicts (rows_in self.old) (names_coming self.new.registry.table n)) }
+        ensures left { OnErr result (AreOf self.new.registry self.new.verdicts (rows_in self.old) []) }
+        ensures err { IfErr result (λ f. IsCause f (first_some (causes (rows_in self.old) edit))) }
+    {
+        match edit {
+            Edit::Entry(entry) => Ok(self.number_entry(entry)?),
+            Edit::Item(name) => Ok(Numbered::Item(self.hold_name(name)?)),
+            Edit::DropItem(name) => self.number_dropped_item(name),
+            Edit::Deprecate {
+                name,
+                deprecation,
+                date,
+                comment,
+            } => self.number_change(name, Turn::Give(deprecation), date, comment),
+            Edit::Amend {
+                name,
+                deprecation,
+                date,
+                comment,
+            } => self.number_change(name, Turn::Replace(deprecation), date, comment),
+            Edit::Restore {
+                name,
+                date,
+                comment,
+            } => self.number_change(name, Turn::TakeAway, date, comment),
+            Edit::PutStatement(statement) => self.number_statement(alloc, statement),
+            Edit::DropStatement(id) => Ok(Numbered::DropStatement(id)),
+            Edit::SetCheck { key, result } => Ok(Numbered::SetCheck { key, result }),
+            Edit::DropCheck(key) => Ok(Numbered::DropCheck(key)),
+        }
+    }
+
+    // Lets an edit go that isn't made, and the name that was held for it.
+    fn let_go(&mut self, numbered: Numbered)
+        requires { AreBeside self.old numbered }
+        ensures rows { rows_in self.new ≡ rows_in self.old }
+        ensures kept { AreKept self.new }
+    {
+        release_coming(&mut self.registry, numbered.into_coming());
+    }
+
+    /// The fault for which an edit isn't made, which is let go.
+    pub fn refuse(&mut self, numbered: Numbered, fault: EditFault) -> EditFault
+        requires { AreBeside self.old numbered }
+        ensures fault { result ≡ fault }
+        ensures rows { rows_in self.new ≡ rows_in self.old }
+        ensures kept { AreKept self.new }
+    {
+        self.let_go(numbered);
+        fault
+    }
+}
+
+// ---- faults
+
+impl Parts {
+    /// Looks at an edit, and changes nothing.
+    ///
+    /// # Errors
+    /// The first fault of the edit, or that memory ran out.
+    pub fn check(&self, numbered: &Numbered) -> Result<Checked, EditFault>
+        requires { AreBeside self.now numbered.now }
+        ensures ok { IfOk result (IsChecked (rows_in self.now) (edit_in self.now numbered.now)) }
+        ensures err { IfErr result (λ f. Refuses f (step (rows_in self.now) (edit_in self.now numbered.now))) }
+    {
+        cpe_rows::law::causes_are_faults();
+        cpe_rows::law::causes_refuse();
+        cpe_rows::law::rows_stay_lawful();
+        let plan = self.plan(numbered)?;
+        let weight = self.weight_after(numbered);
+        if weight > MOST_WEIGHT {
+            return Err(EditFault::Full(Which::Weight));
+        }
+        Ok(Checked { plan, weight })
+    }
+
+    // The plan of a change of a deprecation, or none.
+    //
+    // # Errors
+    // The first fault of the edit but for the weight, or that memory ran out.
+    fn plan(&self, numbered: &Numbered) -> Result<Option<Plan>, EditFault>
+        requires { IsFound self.now.registry.table numbered.now }
+        ensures planned { IfOk result (λ p. IsPlanned (rows_in self.now).entries (edit_in self.now numbered.now) p) }
+        ensures ok { IfOk result (λ p. first_some (causes (rows_in self.now) (edit_in self.now numbered.now)) ≡ None) }
+        ensures err { IfErr result (λ f. IsCause f (first_some (causes (rows_in self.now) (edit_in self.now numbered.now)))) }
+    {
+        match numbered {
+            Numbered::Entry { id, .. } => unplanned(self.registry.entry_fault(*id)),
+            Numbered::Item(id) => unplanned(self.registry.item_fault(*id)),
+            Numbered::DropItem(id) => known(self.registry.has_item(*id)),
+            Numbered::Change(change) => self.plan_change(change),
+            Numbered::PutStatement { statement, .. } => {
+                unplanned(self.verdicts.statement_fault(statement))
+            }
+            Numbered::DropStatement(id) => known(self.has_statement(id)),
+            Numbered::SetCheck { key, .. } => unplanned(check_fault(self.verdicts.results(), key)),
+            Numbered::DropCheck(key) => known(self.verdicts.results().has(key)),
+        }
+    }
+}
+
+// ---- weight
+
+impl Parts {
+    // The weight of all rows after an edit that has no other fault, or the largest number where it is more.
+    fn weight_after(&self, numbered: &Numbered) -> u64
+        requires found { IsFound self.now.registry.table numbered.now }
+        requires weight { self.now.weight ≡ weight_of (rows_in self.now) }
+        requires within { weight_of (rows_in self.now) ≤ most limit.Weight }
+        requires none { first_some (causes (rows_in self.now) (edit_in self.now numbered.now)) ≡ None }
+        ensures { result ≡ capped (weight_of (after (rows_in self.now) (edit_in self.now numbered.now))) }
+    {
+        cpe_weight::law::edits_weigh();
+        self.with_gain(self.weight - self.loss(numbered), numbered)
+    }
+
+    // What the edit takes from the weight.
+    fn loss(&self, numbered: &Numbered) -> u64
+        requires found { IsFound self.now.registry.table numbered.now }
+        requires within { weight_of (rows_in self.now) ≤ most limit.Weight }
+        requires none { first_some (causes (rows_in self.now) (edit_in self.now numbered.now)) ≡ None }
+        ensures { result ≡ loss (rows_in self.now) (edit_in self.now numbered.now) }
+    {
+        cpe_weight::law::edits_weigh();
+        cpe_weight::law::losses_are_known();
+        match numbered {
+            Numbered::DropItem(id) => with_name(0, self.registry.name(*id)),
+            Numbered::DropStatement(id) => self.statement_weight(id),
+            Numbered::DropCheck(key) => with_key(0, key),
+            Numbered::Change(change) => self.deprecation_weight(change.id),
+            _ => 0,
+        }
+    }
+
+    // The weight with what the edit adds to it.
+    fn with_gain(&self, weight: u64, numbered: &Numbered) -> u64
+        requires found { IsFound self.now.registry.table numbered.now }
+        requires none { first_some (causes (rows_in self.now) (edit_in self.now numbered.now)) ≡ None }
+        ensures { result ≡ capped (weight + gain (rows_in self.now) (edit_in self.now numbered.now)) }
+    {
+        match numbered {
+            Numbered::Entry {
+                id,
+                title,
+                provenance,
+            } => with_active_entry(weight, self.registry.name(*id), title, provenance),
+            Numbered::Item(id) => with_name(weight, self.registry.name(*id)),
+            Numbered::Change(change) => with_change(weight, change),
+            Numbered::PutStatement { statement, .. } => with_statement(weight, statement),
+            Numbered::SetCheck { key, .. } if !self.verdicts.results().has(key) => with_key(
+                weight, key,
+            ),
+            _ => weight,
+        }
+    }
+}
+
+// Whether there is such a row; a drop has no other fault.
+fn known(found: bool) -> Result<Option<Plan>, EditFault>
+    ensures plan { IfOk result (λ p. p ≡ None) }
+    ensures ok { IfOk result (λ p. first_some (when (not found) EditFault.Unknown ∷ []) ≡ None) }
+    ensures err { IfErr result (λ f. IsCause f (first_some (when (not found) EditFault.Unknown ∷ []))) }
+{
+    if found {
+        Ok(None)
+    } else {
+        Err(EditFault::Unknown)
+    }
+}
+
+// An edit without a plan, unless it has a fault.
+fn unplanned(fault: Option<EditFault>) -> Result<Option<Plan>, EditFault>
+    ensures plan { IfOk result (λ p. p ≡ None) }
+    ensures ok { IfOk result (λ p. fault ≡ None) }
+    ensures err { IfErr result (λ f. IsCause f fault) }
+{
+    match fault {
+        Some(fault) => Err(fault),
+        None => Ok(None),
+    }
+}
+
+// The weight with that of the note of a change, and of the deprecation that it gives.
+fn with_change(weight: u64, change: &Change) -> u64
+    ensures { result ≡ capped (weight + (note_weight (note_of change.now.turn change.now.date change.now.comment) + option_map_or deprecation_weight (given change.now.turn) 0)) }
+{
+    let noted = with_note(weight, change.date, &change.comment);
+    match change.turn.deprecation() {
+        Some(deprecation) => with_deprecation(noted, deprecation),
+        None => noted,
+    }
+}

@@ -1,0 +1,276 @@
+// Entries that come, and changes of their deprecations: their numbers, faults and weight.
+ghost use Rattle.std.specs.Prelude.{◌≡◌, ◌≤◌, [], IfErr, IfOk, None, OnErr, true, OnOk};
+ghost use Rattle.cpe_rows.specs.Prelude.{causes, first_some, is_named, is_valid_edit, IsCause, most, after, changes, IsLawful};
+ghost use Rattle.cpe_rows.specs.declared.edit.Edit.TheVariants as edit;
+ghost use Rattle.cpe_rows.specs.declared.fault.Which.TheVariants as limit;
+ghost use Rattle.name_index.specs.Table.{IsLive};
+ghost use Rattle.cpe_weight.specs.Gain.{deprecated_weight, weight_of_first};
+ghost use Rattle.cpe_registry.specs.Registered.{name_in};
+ghost use Rattle.engine_edits.specs.Numbered.{given, IsFound, names_coming, turned};
+ghost use Rattle.engine_edits.specs.Parts.{AreKept, AreOf, edit_in, rows_in};
+ghost use Rattle.engine_edits.specs.Planned.{HasPlan};
+ghost use Rattle.cpe_steps.specs.Within.{StepsWithin};
+ghost use Rattle.engine_edits.specs.Prelude.{IsReadyLead, known_in};
+ghost use Rattle.cpe_dictionary.specs.Plans.{IsPlan};
+ghost use Rattle.engine_edits.specs.Looks.{made_looks};
+ghost use Rattle.engine_edits.specs.Ready.{IsReady};
+
+use crate::numbered::{Change, Numbered, Turn};
+use cpe_dictionary::{Plan, edits_by_number};
+use cpe_name::Wfn;
+use cpe_rows::{Changed, Date, EditFault, Entry, List, Provenance, Room, Text};
+use cpe_values::Memory;
+use cpe_weight::with_deprecation;
+use name_index::NameId;
+use cpe_steps::Steps;
+use crate::parts::Parts;
+use crate::holds::release_all;
+use std::alloc::Global;
+use std::sync::ledger::Ledger;
+use verdicts::Lead;
+
+// ---- numbers
+
+impl Parts {
+    /// An entry that comes: its name is held.
+    ///
+    /// # Errors
+    /// Only that memory ran out; all is then as it was.
+    pub(crate) fn number_entry(&mut self, entry: Entry) -> Result<Numbered, Memory>
+        requires kept { AreKept self.old }
+        requires valid { is_valid_edit (edit.Entry entry) ≡ true }
+        ensures rows { rows_in self.new ≡ rows_in self.old }
+        ensures verdicts { self.new.verdicts ≡ self.old.verdicts }
+        ensures weight { self.new.weight ≡ self.old.weight }
+        ensures edit { IfOk result (λ n. edit_in self.new n ≡ edit.Entry entry) }
+        ensures found { IfOk result (IsFound self.new.registry.table) }
+        ensures are { IfOk result (λ n. AreOf self.new.registry self.new.verdicts (rows_in self.old) (names_coming self.new.registry.table n)) }
+        ensures err { OnErr result (AreOf self.new.registry self.new.verdicts (rows_in self.old) []) }
+    {
+        let Entry {
+            name,
+            title,
+            provenance,
+            deprecation: _,
+        } = entry;
+        match self.hold_name(name) {
+            Ok(id) => Ok(Numbered::Entry {
+                id,
+                title,
+                provenance,
+            }),
+            Err(memory) => Err(let_go(title, provenance, memory)),
+        }
+    }
+
+    /// A change of the deprecation of the entry of a name, which is let go.
+    ///
+    /// # Errors
+    /// That nothing has this name.
+    pub(crate) fn number_change(
+        &self,
+        name: Wfn,
+        turn: Turn,
+        date: Date,
+        comment: Text,
+    ) -> Result<Numbered, EditFault>
+        ensures edit { IfOk result (λ n. edit_in self.now n ≡ turned name turn date comment) }
+        ensures found { IfOk result (IsFound self.now.registry.table) }
+        ensures coming { IfOk result (λ n. names_coming self.now.registry.table n ≡ []) }
+        ensures err { IfErr result (λ f. IsCause f (first_some (causes (rows_in self.now) (turned name turn date comment)))) }
+    {
+        let found = self.registry.find(&name);
+        drop(name);
+        match found {
+            Some(id) => Ok(Numbered::Change(Change {
+                id,
+                turn,
+                date,
+                comment,
+            })),
+            None => {
+                drop(turn);
+                drop(comment);
+                Err(EditFault::Unknown)
+            }
+        }
+    }
+}
+
+// ---- faults and weight
+
+impl Parts {
+    /// The plan of a change of a deprecation.
+    ///
+    /// # Errors
+    /// The first fault of the edit but for the weight, or that memory ran out.
+    pub(crate) fn plan_change(&self, change: &Change) -> Result<Option<Plan>, EditFault>
+        requires { IsLive self.now.registry.table change.now.id.0 }
+        ensures planned { IfOk result (HasPlan (rows_in self.now).entries (name_in self.now.registry.table change.now.id) (given change.now.turn)) }
+        ensures ok { IfOk result (λ p. first_some (causes (rows_in self.now) (turned (name_in self.now.registry.table change.now.id) change.now.turn change.now.date change.now.comment)) ≡ None) }
+        ensures err { IfErr result (λ f. IsCause f (first_some (causes (rows_in self.now) (turned (name_in self.now.registry.table change.now.id) change.now.turn change.now.date change.now.comment)))) }
+    {
+        let number = self.registry.entry_number(change.id);
+        let name = self.registry.name(change.id);
+        let first = change.turn.is_first();
+        let deprecation = change.turn.deprecation();
+        let dictionary = self.registry.dictionary();
+        let plan = dictionary.plan(name, number, first, deprecation)?;
+        Ok(Some(plan))
+    }
+
+    /// The weight of the deprecation of the entry of a name, if it is one and has one.
+    pub(crate) fn deprecation_weight(&self, id: NameId) -> u64
+        requires live { IsLive self.now.registry.table id.0 }
+        requires few { weight_of_first deprecated_weight (is_named (name_in self.now.registry.table id)) (rows_in self.now).entries ≤ most limit.Weight }
+        ensures { result ≡ weight_of_first deprecated_weight (is_named (name_in self.now.registry.table id)) (rows_in self.now).entries }
+    {
+        let dictionary = self.registry.dictionary();
+        let Some(number) = self.registry.entry_number(id) else {
+            return 0;
+        };
+        match dictionary.deprecation_at(number) {
+            Some(deprecation) => with_deprecation(0, deprecation),
+            None => 0,
+        }
+    }
+}
+
+// Lets go what stands beside a name for which memory ran out.
+fn let_go(title: Text, provenance: Provenance, memory: Memory) -> Memory {
+    drop(title);
+    drop(provenance);
+    memory
+}
+
+/// Puts an entry last that has no fault, or lets its name go. It changes no verdict.
+///
+/// # Errors
+/// Only that memory ran out; the rows are then as they were.
+pub(crate) fn add_entry(
+    parts: &mut Parts,
+    id: NameId,
+    title: Text,
+    provenance: Provenance,
+    room: Room<Changed>,
+) -> Result<List<Changed>, Memory>
+    requires { IsReady parts.old (Numbered.Entry id title provenance) room }
+    ensures ok { OnOk result (AreOf parts.new.registry parts.new.verdicts (after (rows_in parts.old) (edit_in parts.old (Numbered.Entry id title provenance))) []) }
+    ensures err { OnErr result (AreOf parts.new.registry parts.new.verdicts (rows_in parts.old) []) }
+    ensures weight { parts.new.weight ≡ parts.old.weight }
+    ensures changes { IfOk result (λ cs. cs ≡ changes (rows_in parts.old) (edit_in parts.old (Numbered.Entry id title provenance))) }
+{
+    cpe_rows::touching::entries_change_nothing();
+    fact_laws::law::entries_lead_to_themselves();
+    fact_laws::law::lists_are_shown();
+    cpe_rows::law::rows_stay_lawful();
+    verdicts::law::new_entries_change_no_verdict();
+    match parts.registry.add_entry(id, title, provenance) {
+        Ok(()) => Ok(room.into_list()),
+        Err(memory) => {
+            drop(room);
+            release_all(&mut parts.registry, &[id]);
+            Err(memory)
+        }
+    }
+}
+
+/// Makes the planned change of a deprecation.
+///
+/// # Errors
+/// Only that memory ran out; the rows are then as they were.
+pub(crate) fn change_entry<L: Ledger>(
+    parts: &mut Parts,
+    alloc: Global,
+    change: Change,
+    plan: &Option<Plan>,
+    room: Room<Changed>,
+    steps: &mut Steps<L>,
+) -> Result<List<Changed>, Memory>
+    requires ready { IsReady parts.old (Numbered.Change change) room }
+    requires planned { HasPlan (rows_in parts.old).entries (name_in parts.old.registry.table change.id) (given change.turn) plan.now }
+    ensures ok { OnOk result (AreOf parts.new.registry parts.new.verdicts (after (rows_in parts.old) (edit_in parts.old (Numbered.Change change))) []) }
+    ensures err { OnErr result (AreOf parts.new.registry parts.new.verdicts (rows_in parts.old) []) }
+    ensures weight { parts.new.weight ≡ parts.old.weight }
+    ensures changes { IfOk result (λ cs. cs ≡ changes (rows_in parts.old) (edit_in parts.old (Numbered.Change change))) }
+    ensures steps { StepsWithin steps.old steps.new (made_looks (rows_in parts.old) (edit_in parts.old (Numbered.Change change))) }
+{
+    cpe_rows::law::rows_stay_lawful();
+    let Some(plan) = plan else {
+        unreachable!();
+    };
+    match make_change(parts, alloc, change, plan, steps) {
+        Ok(()) => Ok(parts.verdicts.changes(room)),
+        Err(memory) => {
+            drop(room);
+            Err(memory)
+        }
+    }
+}
+
+// The same, without the changes of verdicts: what it moves is found before it is made.
+fn make_change<L: Ledger>(
+    parts: &mut Parts,
+    alloc: Global,
+    change: Change,
+    plan: &Plan,
+    steps: &mut Steps<L>,
+) -> Result<(), Memory>
+    requires live { IsLive parts.old.registry.table change.id.0 }
+    requires lawful { IsLawful (rows_in parts.old) }
+    requires are { AreOf parts.old.registry parts.old.verdicts (rows_in parts.old) [] }
+    requires plan { IsPlan (rows_in parts.old).entries (name_in parts.old.registry.table change.id) (given change.turn) plan.now }
+    requires left { IsLawful (after (rows_in parts.old) (edit_in parts.old (Numbered.Change change))) }
+    ensures ok { OnOk result (AreOf parts.new.registry parts.new.verdicts (after (rows_in parts.old) (edit_in parts.old (Numbered.Change change))) []) }
+    ensures err { OnErr result (AreOf parts.new.registry parts.new.verdicts (rows_in parts.old) []) }
+    ensures known { known_in parts.new.verdicts ≡ known_in parts.old.verdicts }
+    ensures weight { parts.new.weight ≡ parts.old.weight }
+    ensures steps { StepsWithin steps.old steps.new (made_looks (rows_in parts.old) (edit_in parts.old (Numbered.Change change))) }
+{
+    edits_by_number();
+    match parts
+        .verdicts
+        .ready_lead(alloc, &parts.registry, change.id, plan)
+    {
+        Ok(lead) => lead_change(parts, change, plan, lead, steps),
+        Err(memory) => {
+            drop(change);
+            Err(memory)
+        }
+    }
+}
+
+// Makes it, and moves what was found.
+fn lead_change<L: Ledger>(
+    parts: &mut Parts,
+    change: Change,
+    plan: &Plan,
+    lead: Lead,
+    steps: &mut Steps<L>,
+) -> Result<(), Memory>
+    requires lawful { IsLawful (rows_in parts.old) }
+    requires are { AreOf parts.old.registry parts.old.verdicts (rows_in parts.old) [] }
+    requires plan { IsPlan (rows_in parts.old).entries (name_in parts.old.registry.table change.id) (given change.turn) plan.now }
+    requires left { IsLawful (after (rows_in parts.old) (edit_in parts.old (Numbered.Change change))) }
+    requires lead { IsReadyLead parts.old.verdicts parts.old.registry.table (rows_in parts.old) (after (rows_in parts.old) (edit_in parts.old (Numbered.Change change))).entries (name_in parts.old.registry.table change.id) lead }
+    ensures ok { OnOk result (AreOf parts.new.registry parts.new.verdicts (after (rows_in parts.old) (edit_in parts.old (Numbered.Change change))) []) }
+    ensures err { OnErr result (AreOf parts.new.registry parts.new.verdicts (rows_in parts.old) []) }
+    ensures known { known_in parts.new.verdicts ≡ known_in parts.old.verdicts }
+    ensures weight { parts.new.weight ≡ parts.old.weight }
+    ensures steps { StepsWithin steps.old steps.new (made_looks (rows_in parts.old) (edit_in parts.old (Numbered.Change change))) }
+{
+    edits_by_number();
+    cpe_rows::touching::deprecations_touch();
+    fact_laws::law::deprecations_lead_elsewhere();
+    let (deprecation, note) = change.into_parts();
+    match parts.registry.change(plan, deprecation, Some(note)) {
+        Ok(()) => {
+            parts.verdicts.lead(parts.registry.table(), lead, steps);
+            Ok(())
+        }
+        Err(memory) => {
+            drop(lead);
+            Err(memory)
+        }
+    }
+}

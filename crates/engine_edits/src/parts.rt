@@ -1,0 +1,46 @@
+// The parts of an engine: the lists of rows that it keeps.
+ghost use Rattle.std.specs.Prelude.{◌≡◌, [], map};
+ghost use Rattle.cpe_rows.specs.Prelude.{no_rows, verdict};
+ghost use Rattle.verdicts.specs.Verdicts.{known_in};
+ghost use Rattle.engine_edits.specs.Parts.{AreKept, AreOf, rows_in};
+
+use cpe_registry::Registry;
+use std::alloc::Global;
+use verdicts::Verdicts;
+
+/// The lists of rows that an engine keeps, and their weight.
+#[derive(Drop)]
+pub struct Parts {
+    /// The names of entries, items and fact references, and the first two lists.
+    pub registry: Registry,
+    /// The other two, and the verdict of each statement.
+    pub verdicts: Verdicts,
+    /// The weight of all rows.
+    pub weight: u64,
+}
+
+impl Parts {
+    /// Parts without rows. They take no memory.
+    pub fn new(alloc: Global) -> Parts
+        ensures rows { rows_in result ≡ no_rows }
+        ensures weight { result.weight ≡ 0 }
+        ensures are { AreOf result.registry result.verdicts no_rows [] }
+    {
+        cpe_rows::law::rows_stay_lawful();
+        Parts {
+            registry: Registry::new(alloc),
+            verdicts: Verdicts::new(alloc),
+            weight: 0,
+        }
+    }
+
+    /// From here on changes of verdicts are told by what the verdicts are now.
+    pub fn forget_changes(&mut self)
+        requires { AreKept self.old }
+        ensures kept { AreKept self.new }
+        ensures rows { rows_in self.new ≡ rows_in self.old }
+        ensures known { known_in self.new.verdicts ≡ map (verdict (rows_in self.new)) (rows_in self.new).statements }
+    {
+        self.verdicts.forget_changes();
+    }
+}

@@ -1,0 +1,266 @@
+// Statements that come and go: their numbers, faults and weight.
+ghost use Rattle.std.specs.Prelude.{◌≡◌, ◌≤◌, [], IfErr, IfOk, None, OnErr, true, ◌<◌, ◌^◌, ◌∷◌, IfSome, OnOk, Some, slice_get, option_map};
+ghost use Rattle.std.specs.List.{list_any};
+ghost use Rattle.cpe_rows.specs.Prelude.{causes, first_some, has_id, is_valid_edit, IsCause, most, after, change, changes, IsLawful, Rows, verdict};
+ghost use Rattle.cpe_rows.specs.declared.edit.Edit.TheVariants as edit;
+ghost use Rattle.cpe_rows.specs.declared.fault.Which.TheVariants as limit;
+ghost use Rattle.cpe_rows.specs.Weight.{statement_weight};
+ghost use Rattle.cpe_weight.specs.Gain.{weight_of_first};
+ghost use Rattle.engine_edits.specs.Numbered.{IsFound, names_coming};
+ghost use Rattle.engine_edits.specs.Parts.{AreKept, AreOf, edit_in, rows_in};
+ghost use Rattle.name_index.specs.Prelude.{Names, StepsWithin};
+ghost use Rattle.verdicts.specs.Verdicts.{HasVerdicts};
+ghost use Rattle.engine_edits.specs.Looks.{made_looks};
+ghost use Rattle.engine_edits.specs.Ready.{IsReady};
+ghost use Rattle.engine_edits.specs.Told.{dropped_by, put_by};
+
+use crate::holds::{hold_facts, release_all};
+use cpe_rows::{Changed, EditFault, List, Room, Statement, Text, Truth};
+use cpe_values::Memory;
+use cpe_weight::with_statement;
+use std::alloc::Global;
+use cpe_steps::Steps;
+use crate::numbered::Numbered;
+use crate::parts::Parts;
+use name_index::NameId;
+use std::sync::ledger::Ledger;
+use verdicts::Verdicts;
+
+impl Parts {
+    /// A statement that comes: the names of its fact references are held. Where it has a fault nothing is held.
+    ///
+    /// # Errors
+    /// The first fault of the statement but for the weight, or that memory ran out. All is then as it was.
+    pub(crate) fn number_statement(
+        &mut self,
+        alloc: Global,
+        statement: Statement,
+    ) -> Result<Numbered, EditFault>
+        requires kept { AreKept self.old }
+        requires valid { is_valid_edit (edit.PutStatement statement) ≡ true }
+        ensures rows { rows_in self.new ≡ rows_in self.old }
+        ensures verdicts { self.new.verdicts ≡ self.old.verdicts }
+        ensures weight { self.new.weight ≡ self.old.weight }
+        ensures edit { IfOk result (λ n. edit_in self.new n ≡ edit.PutStatement statement) }
+        ensures found { IfOk result (IsFound self.new.registry.table) }
+        ensures are { IfOk result (λ n. AreOf self.new.registry self.new.verdicts (rows_in self.old) (names_coming self.new.registry.table n)) }
+        ensures left { OnErr result (AreOf self.new.registry self.new.verdicts (rows_in self.old) []) }
+        ensures err { IfErr result (λ f. IsCause f (first_some (causes (rows_in self.old) (edit.PutStatement statement)))) }
+    {
+        match self.verdicts.statement_fault(&statement) {
+            Some(fault) => {
+                drop(statement);
+                Err(fault)
+            }
+            None => Ok(self.hold_statement(alloc, statement)?),
+        }
+    }
+
+    // The same of a statement that has no fault.
+    fn hold_statement(&mut self, alloc: Global, statement: Statement) -> Result<Numbered, Memory>
+        requires kept { AreKept self.old }
+        requires valid { is_valid_edit (edit.PutStatement statement) ≡ true }
+        requires none { first_some (causes (rows_in self.old) (edit.PutStatement statement)) ≡ None }
+        ensures rows { rows_in self.new ≡ rows_in self.old }
+        ensures verdicts { self.new.verdicts ≡ self.old.verdicts }
+        ensures weight { self.new.weight ≡ self.old.weight }
+        ensures edit { IfOk result (λ n. edit_in self.new n ≡ edit.PutStatement statement) }
+        ensures found { IfOk result (IsFound self.new.registry.table) }
+        ensures are { IfOk result (λ n. AreOf self.new.registry self.new.verdicts (rows_in self.old) (names_coming self.new.registry.table n)) }
+        ensures left { OnErr result (AreOf self.new.registry self.new.verdicts (rows_in self.old) []) }
+    {
+        fact_laws::law::lawful_rows_ask_few();
+        let mut ids = Vec::new(alloc);
+        match hold_facts(&mut self.registry, &statement.test, &mut ids) {
+            Ok(()) => Ok(Numbered::PutStatement { statement, ids }),
+            Err(memory) => {
+                drop(statement);
+                release_all(&mut self.registry, &ids);
+                Err(memory)
+            }
+        }
+    }
+
+    /// Whether there is a statement of this id.
+    pub(crate) fn has_statement(&self, id: &Text) -> bool
+        ensures { result ≡ list_any (has_id id.now) (rows_in self.now).statements }
+    {
+        self.verdicts.find(id).is_some()
+    }
+
+    /// The weight of the statement of this id, if there is one.
+    pub(crate) fn statement_weight(&self, id: &Text) -> u64
+        requires { weight_of_first statement_weight (has_id id.now) (rows_in self.now).statements ≤ most limit.Weight }
+        ensures { result ≡ weight_of_first statement_weight (has_id id.now) (rows_in self.now).statements }
+    {
+        match self.verdicts.find(id) {
+            Some(statement) => with_statement(0, statement),
+            None => 0,
+        }
+    }
+}
+
+/// Puts a statement last that has no fault, or lets the names of its fact references go. It alone changes, without a verdict
+/// before.
+///
+/// # Errors
+/// Only that memory ran out; the rows are then as they were.
+pub(crate) fn put_statement<L: Ledger>(
+    parts: &mut Parts,
+    alloc: Global,
+    statement: Statement,
+    ids: Vec<NameId>,
+    room: Room<Changed>,
+    steps: &mut Steps<L>,
+) -> Result<List<Changed>, Memory>
+    requires { IsReady parts.old (Numbered.PutStatement statement ids) room }
+    ensures ok { OnOk result (AreOf parts.new.registry parts.new.verdicts (after (rows_in parts.old) (edit_in parts.old (Numbered.PutStatement statement ids))) []) }
+    ensures err { OnErr result (AreOf parts.new.registry parts.new.verdicts (rows_in parts.old) []) }
+    ensures weight { parts.new.weight ≡ parts.old.weight }
+    ensures changes { IfOk result (λ cs. cs ≡ changes (rows_in parts.old) (edit_in parts.old (Numbered.PutStatement statement ids))) }
+    ensures steps { StepsWithin steps.old steps.new (made_looks (rows_in parts.old) (edit_in parts.old (Numbered.PutStatement statement ids))) }
+{
+    fact_laws::law::statements_ask();
+    cpe_rows::law::statements_stand_alone();
+    fact_laws::law::lists_are_shown();
+    let place = parts.verdicts.len();
+    match parts
+        .verdicts
+        .ready_statement(alloc, &parts.registry, statement, &ids)
+    {
+        Ok(addition) => {
+            let table = parts.registry.table();
+            parts.verdicts.add_statement(table, addition, steps);
+            Ok(put_change(room, place, truth_at(&parts.verdicts, place)))
+        }
+        Err(memory) => {
+            drop(room);
+            release_all(&mut parts.registry, &ids);
+            Err(memory)
+        }
+    }
+}
+
+/// Drops the statement of an id, which is there, and lets the names of its fact references go. It alone changes, without a
+/// verdict after.
+///
+/// # Errors
+/// Only that memory ran out; all is then as it was.
+pub(crate) fn drop_statement<L: Ledger>(
+    parts: &mut Parts,
+    alloc: Global,
+    id: Text,
+    room: Room<Changed>,
+    steps: &mut Steps<L>,
+) -> Result<List<Changed>, Memory>
+    requires { IsReady parts.old (Numbered.DropStatement id) room }
+    ensures ok { OnOk result (AreOf parts.new.registry parts.new.verdicts (after (rows_in parts.old) (edit_in parts.old (Numbered.DropStatement id))) []) }
+    ensures err { OnErr result (AreOf parts.new.registry parts.new.verdicts (rows_in parts.old) []) }
+    ensures weight { parts.new.weight ≡ parts.old.weight }
+    ensures changes { IfOk result (λ cs. cs ≡ changes (rows_in parts.old) (edit_in parts.old (Numbered.DropStatement id))) }
+    ensures steps { StepsWithin steps.old steps.new (made_looks (rows_in parts.old) (edit_in parts.old (Numbered.DropStatement id))) }
+{
+    cpe_rows::law::statements_stand_alone();
+    let place = parts.verdicts.place_of(&id);
+    let truth = parts.verdicts.verdict(&id);
+    let changes = dropped_change(room, place, truth);
+    match take_statement(parts, alloc, &id, steps) {
+        Ok(()) => Ok(changes),
+        Err(memory) => {
+            drop(changes);
+            Err(memory)
+        }
+    }
+}
+
+// The same, without the change.
+fn take_statement<L: Ledger>(
+    parts: &mut Parts,
+    alloc: Global,
+    id: &Text,
+    steps: &mut Steps<L>,
+) -> Result<(), Memory>
+    requires lawful { IsLawful (rows_in parts.old) }
+    requires are { AreOf parts.old.registry parts.old.verdicts (rows_in parts.old) [] }
+    requires has { list_any (has_id id.now) (rows_in parts.old).statements ≡ true }
+    ensures ok { OnOk result (AreOf parts.new.registry parts.new.verdicts (after (rows_in parts.old) (edit.DropStatement id.now)) []) }
+    ensures err { OnErr result (AreOf parts.new.registry parts.new.verdicts (rows_in parts.old) []) }
+    ensures weight { parts.new.weight ≡ parts.old.weight }
+    ensures steps { steps.new ≡ steps.old }
+{
+    fact_laws::law::statements_ask();
+    fact_laws::law::lists_are_shown();
+    let removal = parts.verdicts.ready_removal(alloc, id)?;
+    let table = parts.registry.table();
+    let ids = parts.verdicts.remove_statement(table, id, removal, steps);
+    release_all(&mut parts.registry, &ids);
+    Ok(())
+}
+
+// The verdict of the statement at a place, if there is one.
+fn truth_at(verdicts: &Verdicts, place: usize) -> Option<Truth>
+    ensures { (names : Names) (rows : Rows) → HasVerdicts names verdicts.now rows → result ≡ option_map (verdict rows) (slice_get rows.statements place) }
+{
+    match verdicts.at(place) {
+        Some((_, truth)) => Some(truth),
+        None => None,
+    }
+}
+
+// A statement that is put at a place has this verdict then.
+fn put_change(room: Room<Changed>, place: usize, truth: Option<Truth>) -> List<Changed>
+    requires few { place < 2 ^ 32 }
+    requires empty { room.list ≡ [] }
+    requires spare { 1 ≤ room.spare }
+    ensures { result ≡ put_by place truth }
+{
+    match truth {
+        Some(truth) => one_change(room, place, None, Some(truth)),
+        None => room.into_list(),
+    }
+}
+
+// A statement that is dropped had this place and this verdict.
+fn dropped_change(room: Room<Changed>, place: Option<usize>, truth: Option<Truth>) -> List<Changed>
+    requires few { IfSome place (λ k. k < 2 ^ 32) }
+    requires empty { room.list ≡ [] }
+    requires spare { 1 ≤ room.spare }
+    ensures { result ≡ dropped_by place truth }
+{
+    match place {
+        Some(place) => lost_change(room, place, truth),
+        None => room.into_list(),
+    }
+}
+
+fn lost_change(room: Room<Changed>, place: usize, truth: Option<Truth>) -> List<Changed>
+    requires few { place < 2 ^ 32 }
+    requires empty { room.list ≡ [] }
+    requires spare { 1 ≤ room.spare }
+    ensures { result ≡ dropped_by (Some place) truth }
+{
+    match truth {
+        Some(truth) => one_change(room, place, Some(truth), None),
+        None => room.into_list(),
+    }
+}
+
+fn one_change(
+    room: Room<Changed>,
+    place: usize,
+    before: Option<Truth>,
+    after: Option<Truth>,
+) -> List<Changed>
+    requires few { place < 2 ^ 32 }
+    requires empty { room.list ≡ [] }
+    requires spare { 1 ≤ room.spare }
+    ensures { result ≡ change place before after ∷ [] }
+{
+    let mut room = room;
+    room.put_last(Changed {
+        place: place as u32,
+        before,
+        after,
+    });
+    room.into_list()
+}

@@ -1,4 +1,0 @@
-pub mod PartsLemmas
-pub mod NumberedLemmas
-pub mod HoldLemmas
-pub mod StatementLemmas

@@ -1,4 +1,0 @@
-pub mod Filled
-pub mod Between
-pub mod Fit
-pub mod Filling

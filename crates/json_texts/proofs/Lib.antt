@@ -1,4 +1,0 @@
-mod Contents
-mod Lexemes
-pub mod Values
-pub mod Prints

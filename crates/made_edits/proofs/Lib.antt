@@ -1,4 +1,0 @@
-pub mod MadeLemmas
-pub mod ChangeLemmas
-pub mod TurnedLemmas
-pub mod StatementLemmas
