@@ -1,7 +1,7 @@
 -- The truth of a fact reference, in both modes by the ends of names.
 use Rattle.std.proofs.Common.{◌≡◌, List, [], Bool, true, false, ◌||◌, refl, sym, ◌∙◌}
 use Rattle.std.specs.List.{list_any}
-use Rattle.cpe_name.specs.Eleven.{Values}
+use Rattle.cpe_rows.specs.cpe_name.Eleven.{Values}
 use Rattle.cpe_relation.specs.NameRelation.{covers}
 use Rattle.cpe_relation.specs.Maybe.{maybe}
 use Rattle.cpe_rows.specs.Rows.{Rows}

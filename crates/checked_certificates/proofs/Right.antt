@@ -1,7 +1,7 @@
 -- The truth of a good certificate is the verdict.
 use Rattle.std.proofs.Common.{◌≡◌, inl, inr, List, [], ◌∷◌, Bool, true, false, Option, Some, None, map, if◌then◌else◌, refl, ap, sym, ◌∙◌, subst, is_some}
 use Rattle.std.specs.List.{list_any, list_all}
-use Rattle.cpe_name.specs.Eleven.{Values}
+use Rattle.cpe_rows.specs.cpe_name.Eleven.{Values}
 use Rattle.cpe_relation.specs.NameRelation.{covers}
 use Rattle.cpe_relation.specs.Maybe.{maybe}
 use Rattle.cpe_rows.specs.Reach.{Among}

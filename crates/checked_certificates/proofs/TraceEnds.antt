@@ -1,7 +1,7 @@
 -- A trace leads to an end.
 use Rattle.std.proofs.Common.{◌≡◌, inl, inr, List, [], ◌∷◌, true, Some, None, map, filter, if◌then◌else◌, ap, sym, ◌∙◌, subst}
 use Rattle.std.specs.List.{list_any, last_or}
-use Rattle.cpe_name.specs.Eleven.{Values}
+use Rattle.cpe_rows.specs.cpe_name.Eleven.{Values}
 use Rattle.cpe_rows.specs.Reach.{Among, Leads, is_reached}
 use Rattle.cpe_rows.specs.Rows.{Rows, is_named}
 use Rattle.cpe_rows.specs.Chains.{is_successor, is_active, chain, ends}

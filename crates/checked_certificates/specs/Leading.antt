@@ -2,7 +2,7 @@
 use Rattle.std.specs.Prelude.{◌≡◌, List, [], find, Bool, true, Option, None, is_none}
 use Rattle.std.specs.List.{list_any, list_all}
 use Rattle.std.specs.Option.{option_map_or}
-use Rattle.cpe_name.specs.Eleven.{Values}
+use Rattle.cpe_rows.specs.cpe_name.Eleven.{Values}
 use Rattle.cpe_rows.specs.Rows.{Rows, is_named}
 use Rattle.cpe_rows.specs.Chains.{ends}
 use Rattle.cpe_rows.specs.Lawful.{are_different, has_successors}

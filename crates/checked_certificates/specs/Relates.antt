@@ -1,6 +1,6 @@
 -- The relations in which the end of a fact stands to that of an item.
 use Rattle.std.specs.Prelude.{Bool, not}
-use Rattle.cpe_name.specs.Eleven.{Values}
+use Rattle.cpe_rows.specs.cpe_name.Eleven.{Values}
 use Rattle.cpe_relation.specs.NameRelation.{covers}
 use Rattle.cpe_relation.specs.Maybe.{maybe}
 use Rattle.cpe_rows.specs.Truth.{same_truth}

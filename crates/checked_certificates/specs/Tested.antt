@@ -2,7 +2,7 @@
 use Rattle.std.specs.Prelude.{◌&&◌, ◌||◌, not, List, [], ◌∷◌, Bool, true, false, Option, Some, None, is_some}
 use Rattle.std.specs.List.{list_any, list_all, last_or}
 use Rattle.std.specs.Option.{option_map_or}
-use Rattle.cpe_name.specs.Eleven.{Values}
+use Rattle.cpe_rows.specs.cpe_name.Eleven.{Values}
 use Rattle.cpe_relation.specs.NameRelation.{covers}
 use Rattle.cpe_relation.specs.Maybe.{maybe}
 use Rattle.cpe_rows.specs.Names.{is_same}

@@ -1,7 +1,7 @@
 -- Traces: from a name to one of its ends.
 use Rattle.std.specs.Prelude.{◌≡◌, ◌⊎◌, List, [], ◌∷◌, true, false, Some, None}
 use Rattle.std.specs.List.{last_or}
-use Rattle.cpe_name.specs.Eleven.{Values}
+use Rattle.cpe_rows.specs.cpe_name.Eleven.{Values}
 use Rattle.cpe_rows.specs.Rows.{Rows, is_entry}
 use Rattle.cpe_rows.specs.Chains.{successors_of, is_active}
 use Rattle.cpe_rows.specs.Reach.{Among}

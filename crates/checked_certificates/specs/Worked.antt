@@ -1,12 +1,12 @@
 -- A row of each kind: an item, a fact that covers it, and a check without a result under a negation; a certificate of it, and the same
 -- with another truth.
 use Rattle.std.specs.Prelude.{ℕ, List, [], ◌∷◌, true, false, codes, Some}
-use Rattle.cpe_values.specs.Parts.{parts}
-use Rattle.cpe_values.specs.declared.value.Value.{Value}
-use Rattle.cpe_values.specs.declared.value.Value.TheVariants as value
-use Rattle.cpe_values.specs.declared.value.Edge.TheVariants as edge
-use Rattle.cpe_name.specs.Eleven.{Values}
-use Rattle.cpe_name.specs.Names.{named}
+use Rattle.cpe_rows.specs.cpe_values.Parts.{parts}
+use Rattle.cpe_rows.specs.cpe_values.declared.value.Value.{Value}
+use Rattle.cpe_rows.specs.cpe_values.declared.value.Value.TheVariants as value
+use Rattle.cpe_rows.specs.cpe_values.declared.value.Edge.TheVariants as edge
+use Rattle.cpe_rows.specs.cpe_name.Eleven.{Values}
+use Rattle.cpe_rows.specs.cpe_name.Names.{named}
 use Rattle.cpe_rows.specs.Rows.{Rows}
 use Rattle.cpe_rows.specs.declared.statement.Mode.TheVariants.{Plain}
 use Rattle.cpe_rows.specs.declared.statement.Statement.{Statement}

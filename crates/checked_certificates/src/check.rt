@@ -13,8 +13,7 @@ ghost use Rattle.checked_certificates.specs.declared.proof.Why.{out-Why};
 use crate::proof::{Checked, Proof, Why};
 use crate::references::fact_passes;
 use crate::rows::PlainRows;
-use cpe_rows::{CheckKey, Mode, Operator, Test, Truth, and_of, not_of, or_of};
-use cpe_values::Memory;
+use cpe_rows::{CheckKey, Memory, Mode, Operator, Test, Truth, and_of, not_of, or_of};
 use std::alloc::Global;
 
 // ---- logical tests

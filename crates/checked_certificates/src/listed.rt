@@ -9,9 +9,7 @@ ghost use Rattle.checked_certificates.specs.Seen.{with_name};
 
 use crate::name_set::NameSet;
 use crate::relates::Relates;
-use cpe_name::Wfn;
-use cpe_rows::{Deprecation, EntryRef, Mode, Truth, is_same};
-use cpe_values::Memory;
+use cpe_rows::{Deprecation, EntryRef, Memory, Mode, Truth, Wfn, is_same};
 use std::alloc::Global;
 
 // The deprecation of the entry of a name, if there is one, and it is deprecated.

@@ -5,8 +5,7 @@ ghost use Rattle.checked_certificates.specs.Relates.{related};
 ghost use Rattle.checked_certificates.specs.Seen.{with_name};
 
 use crate::relates::Relates;
-use cpe_name::Wfn;
-use cpe_values::Memory;
+use cpe_rows::{Memory, Wfn};
 use indexmap::IndexSet;
 use std::alloc::Global;
 use std::marker::Model;
@@ -19,7 +18,7 @@ pub(crate) struct NameSet<'a> {
 
 impl<'a> Model for NameSet<'a> {
     ghost use Rattle.std.specs.Prelude.{List, map};
-    ghost use Rattle.cpe_name.specs.Eleven.{Values};
+    ghost use Rattle.cpe_rows.specs.cpe_name.Eleven.{Values};
 
     ghost Value = { List Values };
 

@@ -2,8 +2,7 @@
 ghost use Rattle.std.specs.Prelude.{◌≡◌};
 ghost use Rattle.checked_certificates.specs.Certificates.{given_truth};
 
-use cpe_name::Wfn;
-use cpe_rows::{List, Text, Truth};
+use cpe_rows::{List, Text, Truth, Wfn};
 
 /// Why a test has its truth. It goes down the test, level by level.
 #[derive(Debug, Drop)]

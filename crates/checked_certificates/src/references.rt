@@ -10,9 +10,7 @@ use crate::proof::Why;
 use crate::relates::Relates;
 use crate::rows::PlainRows;
 use crate::trace::is_fit;
-use cpe_name::Wfn;
-use cpe_rows::{Mode, Truth};
-use cpe_values::Memory;
+use cpe_rows::{Memory, Mode, Truth, Wfn};
 use std::alloc::Global;
 
 // Whether a reference to the name has this truth.

@@ -3,9 +3,8 @@ ghost use Rattle.std.specs.Prelude.{◌≡◌};
 ghost use Rattle.checked_certificates.specs.Relates.{related, shown, is_ruled_out};
 
 use crate::check::is_truth;
-use cpe_name::Wfn;
 use cpe_relation::{covers, maybe};
-use cpe_rows::Truth;
+use cpe_rows::{Truth, Wfn};
 
 /// How an end of a fact stands to an end of an item that shows the fact's truth.
 #[derive(Debug, Clone, Copy, PartialEq, Eq)]

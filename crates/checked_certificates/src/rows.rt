@@ -6,12 +6,10 @@ ghost use Rattle.cpe_rows.specs.Lent.{entry_lent};
 ghost use Rattle.checked_certificates.specs.Leading.{deprecation_of};
 
 use crate::listed::truth_in;
-use cpe_name::Wfn;
 use cpe_rows::{
-    CheckKey, Deprecation, EntryRef, MOST_CHECKS, MOST_ENTRIES, MOST_ITEMS, MOST_STATEMENTS, Mode,
-    Statement, Text, Truth, is_same,
+    CheckKey, Deprecation, EntryRef, MOST_CHECKS, MOST_ENTRIES, MOST_ITEMS, MOST_STATEMENTS,
+    Memory, Mode, Statement, Text, Truth, Wfn, is_same,
 };
-use cpe_values::Memory;
 use std::alloc::Global;
 
 // Whether two keys are the same.

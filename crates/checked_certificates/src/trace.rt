@@ -8,8 +8,7 @@ ghost use Rattle.checked_certificates.specs.Tested.{is_walk, first_passes, last_
 
 use crate::relates::Relates;
 use crate::rows::PlainRows;
-use cpe_name::Wfn;
-use cpe_rows::{Deprecation, Mode, is_same};
+use cpe_rows::{Deprecation, Mode, Wfn, is_same};
 
 // ---- where names lead
 

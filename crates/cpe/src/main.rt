@@ -3,10 +3,7 @@
 
 ghost use Rattle.std.specs.Prelude.{◌≡◌, ◌<◌};
 
-use cpe_command::run;
-use cpe_engine::Engine;
-use cpe_io::{StdSink, StdSource};
-use cpe_steps::Steps;
+use cpe_command::{Engine, StdSink, StdSource, Steps, run};
 use std::env;
 use std::marker::Brand;
 use std::process::ExitCode;

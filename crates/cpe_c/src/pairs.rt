@@ -1,5 +1,5 @@
 // Calls that tell how two names relate.
-ghost use Rattle.cpe_uri.specs.EitherBinding.{read_any};
+ghost use Rattle.talks.specs.cpe_uri.EitherBinding.{read_any};
 ghost use Rattle.talks.specs.Pairs.{Covers, IsRelated};
 ghost use Rattle.talks.specs.Told.{Tells};
 

@@ -4,12 +4,11 @@ ghost use Rattle.talks.specs.Told.{Tells};
 ghost use Rattle.talks.specs.Holding.{Begins, Moves};
 ghost use Rattle.talks.specs.Talk.{Repeats, TakesEnd, TakesLine};
 
-use cpe_steps::Steps;
 use std::alloc::Global;
 use std::marker::Brand;
 use std::mem::replace;
 use std::sync::ledger::{Blank, Ledger};
-use talks::{Answer, KeptTalk, Talk, Told, end, keep_begun, let_go, repeat, say};
+use talks::{Answer, KeptTalk, Steps, Talk, Told, end, keep_begun, let_go, repeat, say};
 
 /// Begins a session of the command that a word names, or two; the second is empty where there is one alone. It answers lines as
 /// a run of this command does. Where it doesn't begin, `kept` stays as it was. It keeps none before, since a session that it kept

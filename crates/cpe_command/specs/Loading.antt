@@ -10,7 +10,7 @@ use Rattle.cpe_session.specs.Task.{Transcript}
 use Rattle.cpe_session.specs.declared.status.Status.{Status}
 use Rattle.cpe_session.specs.declared.status.Status.TheVariants.{Done, SomeRefused, WriteFault, Memory}
 use Rattle.cpe_drill.specs.Summary.{number_line}
-use Rattle.cpe_replies.specs.Replies.{verdict_table}
+use Rattle.cpe_convert.specs.cpe_replies.Replies.{verdict_table}
 
 -- how many rows there are of each kind, a line each
 abbrev pub counts_text : Counts → List ℕ

@@ -2,7 +2,7 @@
 use Rattle.std.specs.Prelude.{◌≡◌, ℕ, Bool, true, false, List, [], Some, None}
 use Rattle.std.specs.declared.option.Option.{Option}
 use Rattle.cpe_io.specs.Lines.{lines}
-use Rattle.cpe_steps.specs.Within.{StepsWithin}
+use Rattle.cpe_session.specs.cpe_steps.Within.{StepsWithin}
 use Rattle.cpe_session.specs.declared.status.Status.{Status}
 use Rattle.cpe_session.specs.declared.status.Status.TheVariants.{Done, Usage}
 use Rattle.cpe_session.specs.Table.{rows_text}
@@ -10,7 +10,7 @@ use Rattle.cpe_session.specs.Heard.{IsLeft}
 use Rattle.cpe_session.specs.Task.{Task, Fixed, Whole, task}
 use Rattle.cpe_session.specs.Folding.{IsFolded, summed_by}
 use Rattle.cpe_rows.specs.Rows.{Rows, no_rows}
-use Rattle.cpe_records.specs.Edited.{line_edited}
+use Rattle.cpe_convert.specs.cpe_records.Edited.{line_edited}
 use Rattle.cpe_drill.specs.Generated.{generated_line}
 use Rattle.cpe_drill.specs.Looks.{line_looks, record_looks}
 use Rattle.cpe_drill.specs.Outcome.{summed}

@@ -7,13 +7,11 @@ ghost use Rattle.cpe_drill.specs.Summary.{number_line};
 ghost use Rattle.cpe_command.specs.Loading.{counts_text, IsNoSnapshot, load_says, LoadLeaves, refusal_told, state_text, state_told};
 
 use cpe_drill::{NumberLine, push_number_lines};
-use cpe_engine::Engine;
 use cpe_io::{Sink, SinkFault, write_all};
 use cpe_rows::Counts;
-use cpe_session::{Listener, Page, Status, write_text};
+use cpe_session::{Listener, Page, Status, Steps, write_text};
 use cpe_snapshot::LoadFault;
-use cpe_steps::Steps;
-use engine_snapshot::{MOST_BYTES, read_snapshot};
+use engine_snapshot::{Engine, MOST_BYTES, read_snapshot};
 use record_lines::pour_verdicts;
 use std::alloc::{AllocError, Global};
 use std::marker::Brand;

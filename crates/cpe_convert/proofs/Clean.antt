@@ -2,7 +2,7 @@
 use Rattle.std.proofs.Common.{◌≡◌, ℕ, zero, suc, ◌-◌, true, false, ◌||◌, ◌==◌, nat_le, List, [], ◌∷◌, ◌++◌, length, take, slice_index, Some, None, if◌then◌else◌, refl, ap, ap₂, arith}
 use Rattle.std.specs.List.{list_all}
 use Rattle.std.proofs.lemmas.Bool.{and_parts, and_from, leb-true, ne_eqb}
-use Rattle.cpe_io.specs.Lines.{has_newline, line_of}
+use Rattle.cpe_replies.specs.cpe_io.Lines.{has_newline, line_of}
 
 abbrev pub Clean : List ℕ → Type 0
 Clean bs = list_all (λ b. nat_le 32 b) bs ≡ true

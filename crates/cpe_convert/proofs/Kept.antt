@@ -3,13 +3,13 @@ use Rattle.std.proofs.Common.{◌≡◌, ℕ, ◌+◌, Bool, true, false, nat_le
 use Rattle.std.specs.Prelude.{Result, Ok, Err}
 use Rattle.std.specs.List.{AllByRecursion}
 use Rattle.std.specs.Str.{IsUtf8}
-use Rattle.cpe_io.specs.Lines.{has_newline, line_of, lines}
-use Rattle.cpe_io.proofs.LineLemmas.{pieces-cut}
-use Rattle.cpe_session.specs.Folding.{folded}
-use Rattle.cpe_session.specs.Session.{Stage, after_next, next_writes, out_from, printed, keeping, refusal, writes, start}
-use Rattle.cpe_session.specs.Task.{speech, spoken}
+use Rattle.cpe_replies.specs.cpe_io.Lines.{has_newline, line_of, lines}
+use Rattle.cpe_replies.proofs.cpe_io.LineLemmas.{pieces-cut}
+use Rattle.cpe_replies.specs.cpe_session.Folding.{folded}
+use Rattle.cpe_replies.specs.cpe_session.Session.{Stage, after_next, next_writes, out_from, printed, keeping, refusal, writes, start}
+use Rattle.cpe_replies.specs.cpe_session.Task.{speech, spoken}
 use Rattle.cpe_rows.specs.Rows.{Rows}
-use Rattle.cpe_members.specs.declared.member.RecordFault.{RecordFault}
+use Rattle.cpe_records.specs.cpe_members.declared.member.RecordFault.{RecordFault}
 use Rattle.cpe_records.specs.Edited.{edited, line_edited}
 use Rattle.cpe_records.specs.Reading.{record_of}
 use Rattle.cpe_records.specs.Taken.{IsFormedRecord, is_valid_record}

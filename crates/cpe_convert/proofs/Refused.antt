@@ -8,25 +8,25 @@ use Rattle.json.specs.Lex.{lex, punctuate}
 use Rattle.json.specs.Word.{word, after_number}
 use Rattle.serde_json.specs.Data.{Data}
 use Rattle.serde_json.specs.Read.{read}
-use Rattle.cpe_name.specs.Text.{attribute_name}
-use Rattle.cpe_name.specs.declared.attribute.Attribute.{Attribute}
-use Rattle.cpe_name.specs.declared.attribute.Attribute.TheVariants as attribute
+use Rattle.cpe_rows.specs.cpe_name.Text.{attribute_name}
+use Rattle.cpe_rows.specs.cpe_name.declared.attribute.Attribute.{Attribute}
+use Rattle.cpe_rows.specs.cpe_name.declared.attribute.Attribute.TheVariants as attribute
 use Rattle.cpe_rows.specs.Rows.{Rows}
-use Rattle.cpe_members.specs.Keys.{key_of}
-use Rattle.cpe_members.specs.Forms.{word_at}
-use Rattle.cpe_members.specs.Formats.{format_at}
-use Rattle.cpe_members.specs.Gives.{◌>>=◌}
-use Rattle.cpe_members.specs.declared.member.Member.{Member}
-use Rattle.cpe_members.specs.declared.member.Member.TheVariants as member
-use Rattle.cpe_members.specs.declared.member.NameSpot.{NameSpot}
-use Rattle.cpe_members.specs.declared.member.NameSpot.TheVariants.{Name, Successor, Fact}
-use Rattle.cpe_members.specs.declared.member.RecordFault.{RecordFault}
-use Rattle.cpe_members.specs.declared.member.RecordFault.TheVariants as fault
+use Rattle.cpe_records.specs.cpe_members.Keys.{key_of}
+use Rattle.cpe_records.specs.cpe_members.Forms.{word_at}
+use Rattle.cpe_records.specs.cpe_members.Formats.{format_at}
+use Rattle.cpe_records.specs.cpe_members.Gives.{◌>>=◌}
+use Rattle.cpe_records.specs.cpe_members.declared.member.Member.{Member}
+use Rattle.cpe_records.specs.cpe_members.declared.member.Member.TheVariants as member
+use Rattle.cpe_records.specs.cpe_members.declared.member.NameSpot.{NameSpot}
+use Rattle.cpe_records.specs.cpe_members.declared.member.NameSpot.TheVariants.{Name, Successor, Fact}
+use Rattle.cpe_records.specs.cpe_members.declared.member.RecordFault.{RecordFault}
+use Rattle.cpe_records.specs.cpe_members.declared.member.RecordFault.TheVariants as fault
 use Rattle.cpe_records.specs.Edited.{edited, line_edited}
 use Rattle.cpe_records.specs.Reading.{json_of, record_by, record_of}
 use Rattle.cpe_records.specs.RecordKinds.{record_kind_of}
 use Rattle.cpe_records.specs.declared.read.Record.{Record}
-use Rattle.cpe_members.proofs.LineLemmas.{line_refused}
+use Rattle.cpe_records.proofs.cpe_members.LineLemmas.{line_refused}
 use Rattle.cpe_replies.specs.Reasons.{record_fault_text, spot_text}
 use Rattle.cpe_convert.proofs.Clean.{Clean, clean-append, clean-cons}
 

@@ -1,12 +1,12 @@
 -- What a line of a record says under `convert`.
 use Rattle.std.specs.Prelude.{ℕ, nat_le, List, ◌++◌, length, Result, Ok, Err, codes, if◌then◌else◌}
-use Rattle.cpe_io.specs.declared.line.TheConstants.{LONGEST}
-use Rattle.cpe_members.specs.declared.member.RecordFault.{RecordFault}
+use Rattle.cpe_replies.specs.cpe_io.declared.line.TheConstants.{LONGEST}
+use Rattle.cpe_records.specs.cpe_members.declared.member.RecordFault.{RecordFault}
 use Rattle.cpe_records.specs.Reading.{record_of}
 use Rattle.written_records.specs.WrittenRecord.{record_text}
 use Rattle.cpe_records.specs.declared.read.Record.{Record}
 use Rattle.cpe_replies.specs.Reasons.{record_fault_text}
-use Rattle.cpe_session.specs.Session.{Session, printed, stateless}
+use Rattle.cpe_replies.specs.cpe_session.Session.{Session, printed, stateless}
 use Rattle.cpe_convert.specs.declared.reason.ConvertReason.{ConvertReason}
 use Rattle.cpe_convert.specs.declared.reason.ConvertReason.TheVariants.{Unread, Grown}
 

@@ -1,2 +1,4 @@
 pub mod Convert
 pub mod Growing
+pub use Rattle.cpe_records.specs as cpe_records
+pub use Rattle.cpe_replies.specs as cpe_replies

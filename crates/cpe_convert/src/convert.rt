@@ -1,16 +1,14 @@
 // What a line of a record says.
 ghost use Rattle.std.specs.Prelude.{◌≡◌, true, IfOk};
-ghost use Rattle.cpe_session.specs.Pages.{Puts};
+ghost use Rattle.cpe_replies.specs.cpe_session.Pages.{Puts};
 ghost use Rattle.cpe_records.specs.Reading.{record_of};
 ghost use Rattle.cpe_records.specs.Taken.{is_valid_record};
 ghost use Rattle.written_records.specs.WrittenRecord.{record_text};
 ghost use Rattle.cpe_convert.specs.Convert.{as_line, converted};
 
 use crate::reason::ConvertReason;
-use cpe_io::LONGEST;
-use cpe_members::RecordFault;
-use cpe_records::{Record, read_record};
-use cpe_session::{Page, Stateless};
+use cpe_records::{Record, RecordFault, read_record};
+use cpe_replies::{LONGEST, Page, Stateless};
 use std::alloc::{AllocError, Global};
 use written_records::write_record;
 

@@ -1,9 +1,9 @@
 //! A law of what is written: it means what was read. The function does nothing; its clause is the law.
 ghost use Rattle.std.specs.Prelude.{◌≡◌, List, ℕ, Option};
 ghost use Rattle.std.specs.List.{AllByRecursion};
-ghost use Rattle.cpe_io.specs.Lines.{lines};
-ghost use Rattle.cpe_session.specs.Folding.{folded};
-ghost use Rattle.cpe_session.specs.Task.{speech, spoken};
+ghost use Rattle.cpe_replies.specs.cpe_io.Lines.{lines};
+ghost use Rattle.cpe_replies.specs.cpe_session.Folding.{folded};
+ghost use Rattle.cpe_replies.specs.cpe_session.Task.{speech, spoken};
 ghost use Rattle.cpe_rows.specs.Rows.{Rows};
 ghost use Rattle.cpe_records.specs.Edited.{line_edited};
 ghost use Rattle.cpe_convert.specs.Convert.{convert_session};

@@ -2,9 +2,8 @@
 ghost use Rattle.std.specs.Prelude.{◌≡◌, ◌++◌, OnOk};
 ghost use Rattle.cpe_convert.specs.Convert.{reason_text};
 
-use cpe_members::RecordFault;
-use cpe_replies::push_record_fault;
-use cpe_session::{Page, Reason};
+use cpe_records::RecordFault;
+use cpe_replies::{Page, Reason, push_record_fault};
 use std::alloc::{AllocError, Global};
 
 /// Why a line is refused.

@@ -4,8 +4,8 @@ use Rattle.std.specs.Cmp.{both_ways as agree}
 use Rattle.std.specs.List.{list_any, filter, AllByRecursion}
 use Rattle.std.proofs.lemmas.Bool.{both_ways, false_from_ne_true, or_cases, or_left, or_right}
 use Rattle.std.proofs.lemmas.Map.Views.{any-filter_same}
-use Rattle.cpe_name.specs.Eleven.{Values}
-use Rattle.cpe_name.specs.Equal.{same_name, same_name-Decides}
+use Rattle.cpe_rows.specs.cpe_name.Eleven.{Values}
+use Rattle.cpe_rows.specs.cpe_name.Equal.{same_name, same_name-Decides}
 use Rattle.cpe_cover.specs.Laws.{is_among}
 
 pub same_is : (a b : Values) → same_name a b ≡ true → a ≡ b

@@ -5,16 +5,16 @@ use Rattle.std.specs.Prelude.{IsTrue}
 use Rattle.std.specs.List.{list_all, list_any, sum_by, AllByRecursion}
 use Rattle.std.proofs.lemmas.Bool.{and_from, and_parts, both_ways, cases_Bool, false_from_ne_true, not-true, or_cases, or_left, or_right}
 use Rattle.std.proofs.lemmas.List.Sums.{sum_by-cons}
-use Rattle.cpe_values.specs.declared.value.Value.{Value}
-use Rattle.cpe_values.specs.declared.value.Value.TheVariants as value
-use Rattle.cpe_values.specs.Lower.{lower_value}
-use Rattle.cpe_values.specs.Parts.{parts}
-use Rattle.cpe_name.specs.Eleven.{Values}
-use Rattle.cpe_name.specs.declared.attribute.Attribute.{Attribute}
-use Rattle.cpe_name.specs.Equal.{same_name, same_name-Decides}
-use Rattle.cpe_name.specs.Lower.{lower_name, IsLower}
-use Rattle.cpe_name.specs.Names.{IsName, attributes, value_of, named}
-use Rattle.cpe_name.proofs.LowerNames.{lower_at, lower_lawful}
+use Rattle.cpe_rows.specs.cpe_values.declared.value.Value.{Value}
+use Rattle.cpe_rows.specs.cpe_values.declared.value.Value.TheVariants as value
+use Rattle.cpe_rows.specs.cpe_values.Lower.{lower_value}
+use Rattle.cpe_rows.specs.cpe_values.Parts.{parts}
+use Rattle.cpe_rows.specs.cpe_name.Eleven.{Values}
+use Rattle.cpe_rows.specs.cpe_name.declared.attribute.Attribute.{Attribute}
+use Rattle.cpe_rows.specs.cpe_name.Equal.{same_name, same_name-Decides}
+use Rattle.cpe_rows.specs.cpe_name.Lower.{lower_name, IsLower}
+use Rattle.cpe_rows.specs.cpe_name.Names.{IsName, attributes, value_of, named}
+use Rattle.cpe_rows.proofs.cpe_name.LowerNames.{lower_at, lower_lawful}
 use Rattle.cpe_relation.specs.Matching.{lower}
 use Rattle.cpe_relation.specs.NameRelation.{covers, is_above, relations}
 use Rattle.cpe_fs.specs.Grammar.{fs_text, Fs}

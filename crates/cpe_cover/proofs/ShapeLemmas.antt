@@ -4,19 +4,19 @@ use Rattle.std.specs.Cmp.{both_ways as agree}
 use Rattle.std.specs.List.{list_all, list_any}
 use Rattle.std.proofs.lemmas.Bool.{and_from, and_parts, both_ways, false_from_ne_true, not-true, or_cases, or_from, or_left, or_right}
 use Rattle.std.proofs.lemmas.List.Folds.{list_any_more}
-use Rattle.cpe_values.specs.declared.value.Value.{Value}
-use Rattle.cpe_values.specs.declared.value.Value.TheVariants as value
-use Rattle.cpe_values.specs.Parts.{has_special}
-use Rattle.cpe_values.specs.Lower.{has_specials, lower_value}
-use Rattle.cpe_name.specs.Eleven.{Values, put}
-use Rattle.cpe_name.specs.declared.attribute.Attribute.{Attribute}
-use Rattle.cpe_name.specs.declared.attribute.Attribute.TheVariants.{Part, Vendor, Product, Version, Update, Edition, Language, SwEdition, TargetSw, TargetHw, Other}
-use Rattle.cpe_name.specs.Equal.{same_name, same_name-Decides}
-use Rattle.cpe_name.specs.Lower.{lower_name}
-use Rattle.cpe_name.specs.Names.{attributes, named, value_of, any_values}
-use Rattle.cpe_name.specs.WfnText.{same_attribute, is_listed}
-use Rattle.cpe_name.proofs.Lists.{all_listed, same_is as same_attribute_is}
-use Rattle.cpe_name.proofs.LowerNames.{lower_at}
+use Rattle.cpe_rows.specs.cpe_values.declared.value.Value.{Value}
+use Rattle.cpe_rows.specs.cpe_values.declared.value.Value.TheVariants as value
+use Rattle.cpe_rows.specs.cpe_values.Parts.{has_special}
+use Rattle.cpe_rows.specs.cpe_values.Lower.{has_specials, lower_value}
+use Rattle.cpe_rows.specs.cpe_name.Eleven.{Values, put}
+use Rattle.cpe_rows.specs.cpe_name.declared.attribute.Attribute.{Attribute}
+use Rattle.cpe_rows.specs.cpe_name.declared.attribute.Attribute.TheVariants.{Part, Vendor, Product, Version, Update, Edition, Language, SwEdition, TargetSw, TargetHw, Other}
+use Rattle.cpe_rows.specs.cpe_name.Equal.{same_name, same_name-Decides}
+use Rattle.cpe_rows.specs.cpe_name.Lower.{lower_name}
+use Rattle.cpe_rows.specs.cpe_name.Names.{attributes, named, value_of, any_values}
+use Rattle.cpe_rows.specs.cpe_name.WfnText.{same_attribute, is_listed}
+use Rattle.cpe_rows.proofs.cpe_name.Lists.{all_listed, same_is as same_attribute_is}
+use Rattle.cpe_rows.proofs.cpe_name.LowerNames.{lower_at}
 use Rattle.cpe_relation.specs.declared.relation.Relation.{Relation}
 use Rattle.cpe_relation.specs.declared.relation.Relation.TheVariants.{Disjoint, Equal, Subset, Superset, Undefined}
 use Rattle.cpe_relation.specs.NameRelation.{covers, is_above}

@@ -6,10 +6,10 @@ use Rattle.std.proofs.lemmas.Bool.{and_from, and_parts, both_ways, cases_Bool, f
 use Rattle.std.proofs.lemmas.List.{append-nil}
 use Rattle.std.proofs.lemmas.List.Elements.{filter_more}
 use Rattle.std.proofs.lemmas.List.Folds.{list_any_at}
-use Rattle.cpe_name.specs.Eleven.{Values}
-use Rattle.cpe_name.specs.Equal.{same_name}
-use Rattle.cpe_name.specs.Lower.{lower_name}
-use Rattle.cpe_name.specs.Names.{any_values}
+use Rattle.cpe_rows.specs.cpe_name.Eleven.{Values}
+use Rattle.cpe_rows.specs.cpe_name.Equal.{same_name}
+use Rattle.cpe_rows.specs.cpe_name.Lower.{lower_name}
+use Rattle.cpe_rows.specs.cpe_name.Names.{any_values}
 use Rattle.cpe_relation.specs.NameRelation.{covers}
 use Rattle.cpe_rows.specs.Names.{has_wildcards}
 use Rattle.names_in_order.specs.Places.{name_at}

@@ -4,9 +4,9 @@ use Rattle.std.specs.List.{list_any}
 use Rattle.std.specs.Cmp.Lexicographic.{slice_cmp}
 use Rattle.std.specs.Ordering.{nat_cmp, is_lt}
 use Rattle.std.specs.declared.cmp.Ordering.{Ordering}
-use Rattle.cpe_name.specs.Eleven.{Values}
-use Rattle.cpe_name.specs.Equal.{same_name}
-use Rattle.cpe_name.specs.Lower.{lower_name}
+use Rattle.cpe_rows.specs.cpe_name.Eleven.{Values}
+use Rattle.cpe_rows.specs.cpe_name.Equal.{same_name}
+use Rattle.cpe_rows.specs.cpe_name.Lower.{lower_name}
 use Rattle.cpe_relation.specs.NameRelation.{covers}
 use Rattle.cpe_fs.specs.Grammar.{fs_text}
 

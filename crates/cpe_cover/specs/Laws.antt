@@ -2,10 +2,10 @@
 use Rattle.std.specs.Prelude.{◌≡◌, Bool, true, ◌||◌, ◌&&◌, not, List, map}
 use Rattle.std.specs.List.{AllByRecursion, list_any}
 use Rattle.std.specs.List.Sorted.{IsStrictlySortedBy}
-use Rattle.cpe_name.specs.Eleven.{Values}
-use Rattle.cpe_name.specs.Equal.{same_name}
-use Rattle.cpe_name.specs.Names.{IsName}
-use Rattle.cpe_name.specs.Lower.{lower_name}
+use Rattle.cpe_rows.specs.cpe_name.Eleven.{Values}
+use Rattle.cpe_rows.specs.cpe_name.Equal.{same_name}
+use Rattle.cpe_rows.specs.cpe_name.Names.{IsName}
+use Rattle.cpe_rows.specs.cpe_name.Lower.{lower_name}
 use Rattle.cpe_relation.specs.NameRelation.{covers}
 use Rattle.cpe_cover.specs.Cover.{cover, fs_order, is_covered}
 

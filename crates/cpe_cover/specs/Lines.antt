@@ -4,9 +4,9 @@ use Rattle.std.specs.declared.option.Option.{Option}
 use Rattle.std.specs.declared.option.Option.TheVariants.{Some, None}
 use Rattle.std.specs.declared.result.Result.{Result}
 use Rattle.std.specs.List.{flat_map}
-use Rattle.cpe_io.specs.Lines.{lines}
-use Rattle.cpe_name.specs.Eleven.{Values}
-use Rattle.cpe_name.specs.Lower.{lower_name}
+use Rattle.cpe_session.specs.cpe_io.Lines.{lines}
+use Rattle.cpe_rows.specs.cpe_name.Eleven.{Values}
+use Rattle.cpe_rows.specs.cpe_name.Lower.{lower_name}
 use Rattle.cpe_fs.specs.Grammar.{fs_text}
 use Rattle.cpe_uri.specs.EitherBinding.{read_any}
 use Rattle.cpe_session.specs.Session.{Session, Saying, total_cost}

@@ -1,7 +1,7 @@
 -- Marks of names by their places, and how a cover is gathered from them. No public clause rests on it.
 use Rattle.std.specs.Prelude.{◌≡◌, ◌<◌, ℕ, Bool, false, ◌||◌, ◌&&◌, not, List, length, get_or}
 use Rattle.std.specs.List.{list_any}
-use Rattle.cpe_name.specs.Eleven.{Values}
+use Rattle.cpe_rows.specs.cpe_name.Eleven.{Values}
 use Rattle.cpe_rows.specs.Names.{has_wildcards}
 use Rattle.cpe_relation.specs.NameRelation.{covers}
 use Rattle.names_in_order.specs.Places.{name_at}

@@ -4,8 +4,8 @@ use Rattle.std.specs.List.{AllByRecursion, sum_by}
 use Rattle.std.specs.declared.option.Option.{Option}
 use Rattle.std.specs.declared.option.Option.TheVariants.{Some, None}
 use Rattle.std.specs.declared.result.Result.{Result}
-use Rattle.cpe_name.specs.Eleven.{Values}
-use Rattle.cpe_name.specs.Lower.{IsLower}
+use Rattle.cpe_rows.specs.cpe_name.Eleven.{Values}
+use Rattle.cpe_rows.specs.cpe_name.Lower.{IsLower}
 use Rattle.cpe_rows.specs.Names.{has_wildcards}
 use Rattle.cpe_rows.specs.Weight.{name_weight}
 use Rattle.names_in_order.specs.Places.{near_count}

@@ -1,11 +1,11 @@
 -- How a name without specials is found that covers another: by the attributes at which it is ANY. No public clause rests on it.
 use Rattle.std.specs.Prelude.{◌≡◌, Bool, true, false, ◌&&◌, ◌||◌, not, List, [], ◌∷◌, if◌then◌else◌}
 use Rattle.std.specs.List.{list_all, list_any}
-use Rattle.cpe_values.specs.declared.value.Value.{Value}
-use Rattle.cpe_values.specs.declared.value.Value.TheVariants as value
-use Rattle.cpe_name.specs.Eleven.{Values, put}
-use Rattle.cpe_name.specs.declared.attribute.Attribute.{Attribute}
-use Rattle.cpe_name.specs.Names.{attributes, value_of}
+use Rattle.cpe_rows.specs.cpe_values.declared.value.Value.{Value}
+use Rattle.cpe_rows.specs.cpe_values.declared.value.Value.TheVariants as value
+use Rattle.cpe_rows.specs.cpe_name.Eleven.{Values, put}
+use Rattle.cpe_rows.specs.cpe_name.declared.attribute.Attribute.{Attribute}
+use Rattle.cpe_rows.specs.cpe_name.Names.{attributes, value_of}
 use Rattle.cpe_rows.specs.Names.{has_wildcards}
 use Rattle.cpe_cover.specs.Cover.{covers_other}
 use Rattle.cpe_cover.specs.Laws.{is_among}

@@ -1,6 +1,5 @@
-//! A list of names reduced to those that no other of them covers.
-//!
-//! The command that reduces names: each line is a name, and at the end those are written that no other covers.
+//! A list of names reduced to those that no other of them covers ([`Names`]), and the command that does it ([`cover`]): each
+//! line is a name, and at the end it writes the names that no other covers.
 #![tactic(auto)]
 
 mod fault;

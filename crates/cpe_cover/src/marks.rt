@@ -2,15 +2,13 @@
 ghost use Rattle.std.specs.Prelude.{◌≡◌, ◌<◌, ◌||◌, ℕ, nat_eq, IfOk, OnOk, length, if◌then◌else◌};
 ghost use Rattle.std.specs.List.{AllByRecursion, list_any};
 ghost use Rattle.cpe_rows.specs.Prelude.{has_wildcards, IsLower};
-ghost use Rattle.cpe_steps.specs.Within.{StepsWithin};
+ghost use Rattle.name_index.specs.cpe_steps.Within.{StepsWithin};
 ghost use Rattle.names_in_order.specs.Places.{name_at};
 ghost use Rattle.cpe_cover.specs.Marks.{AreMarks, is_marked, matches};
 ghost use Rattle.cpe_cover.specs.Names.{looks_of_patterns, pattern_looks};
 
-use cpe_name::Wfn;
-use cpe_rows::has_wildcards;
-use cpe_steps::Steps;
-use cpe_values::Memory;
+use cpe_rows::{Memory, Wfn, has_wildcards};
+use name_index::Steps;
 use names_in_order::NamesInOrder;
 use std::alloc::Global;
 use std::sync::ledger::Ledger;

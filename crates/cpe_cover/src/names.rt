@@ -7,17 +7,15 @@ ghost use Rattle.cpe_cover.specs.Laws.{AreNames, is_among};
 ghost use Rattle.cpe_cover.specs.Marks.{AreMarks};
 ghost use Rattle.cpe_cover.specs.Names.{Adds, full_by, looks, looks_of_patterns};
 
+use crate::fault::{NamesFault, NamesWhich};
+use crate::limits::MOST_NAMES;
 use crate::marks::find_matched;
 use crate::own::OwnNames;
 use crate::rows::{find_uncovered, into_names, sort};
 use crate::shapes::find_shapes;
-use crate::limits::MOST_NAMES;
-use crate::fault::{NamesFault, NamesWhich};
-use cpe_name::Wfn;
-use cpe_rows::{List, MOST_WEIGHT};
-use cpe_steps::Steps;
-use cpe_values::Memory;
+use cpe_rows::{List, MOST_WEIGHT, Memory, Wfn};
 use cpe_weight::with_name;
+use name_index::Steps;
 use names_in_order::NamesInOrder;
 use std::alloc::Global;
 use std::marker::Model;
@@ -36,7 +34,7 @@ pub struct Names {
 
 impl Model for Names {
     ghost use Rattle.std.specs.Prelude.{List};
-    ghost use Rattle.cpe_name.specs.Eleven.{Values};
+    ghost use Rattle.cpe_rows.specs.cpe_name.Eleven.{Values};
     ghost use Rattle.cpe_cover.specs.Names.{AreGathered};
 
     ghost Value = { List Values };

@@ -2,11 +2,10 @@
 ghost use Rattle.std.specs.Prelude.{◌≡◌, ◌++◌, ◌∷◌, [], List, OnOk, OnErr, false, length};
 ghost use Rattle.std.specs.List.{list_any};
 ghost use Rattle.names_in_order.specs.InOrder.{names_numbered};
-ghost use Rattle.cpe_name.specs.Prelude.{IsLower, same_name, Values};
+ghost use Rattle.cpe_rows.specs.cpe_name.Prelude.{IsLower, same_name, Values};
 ghost use Rattle.names_in_order.specs.Owned.{AreOwn};
 
-use cpe_name::Wfn;
-use cpe_values::Memory;
+use cpe_rows::{Memory, Wfn};
 use name_index::NameTable;
 use names_in_order::{GrowingNames, NamesInOrder, add_name};
 use std::alloc::Global;

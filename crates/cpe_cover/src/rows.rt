@@ -1,7 +1,7 @@
 // The names that stay, each with its formatted string, by which they are put in order.
 ghost use Rattle.std.specs.Prelude.{◌≡◌, ◌<◌, ◌++◌, ◌∷◌, [], not, cond, filter, IfOk, OnOk, length, map};
 ghost use Rattle.std.specs.List.{AllByRecursion, IsDistinct};
-ghost use Rattle.cpe_name.specs.Prelude.{IsLower, same_name};
+ghost use Rattle.cpe_rows.specs.cpe_name.Prelude.{IsLower, same_name};
 ghost use Rattle.names_in_order.specs.Places.{name_at};
 ghost use Rattle.cpe_cover.specs.Cover.{fs_order, ordered, uncovered};
 ghost use Rattle.cpe_cover.specs.Laws.{AreNames};
@@ -10,9 +10,7 @@ ghost use Rattle.cpe_cover.specs.Shapes.{AreShapes};
 
 use crate::shapes::is_under;
 use cpe_fs::{bind_fs, one_text};
-use cpe_name::Wfn;
-use cpe_rows::{List, has_wildcards};
-use cpe_values::Memory;
+use cpe_rows::{List, Memory, Wfn, has_wildcards};
 use names_in_order::NamesInOrder;
 use std::alloc::Global;
 use std::cmp::Ordering;
@@ -27,7 +25,7 @@ pub(crate) struct Spelled {
 
 impl Model for Spelled {
     ghost use Rattle.std.specs.Prelude.{◌≡◌};
-    ghost use Rattle.cpe_name.specs.Eleven.{Values};
+    ghost use Rattle.cpe_rows.specs.cpe_name.Eleven.{Values};
     ghost use Rattle.cpe_fs.specs.Grammar.{fs_text};
 
     ghost Value = { Values };

@@ -5,11 +5,10 @@ ghost use Rattle.cpe_session.specs.Ran.{Ran, Completes, Counted};
 ghost use Rattle.cpe_session.specs.Task.{task};
 ghost use Rattle.cpe_cover.specs.Lines.{cover_session, most_steps};
 
-use crate::speaker::Cover;
 use crate::names::Names;
-use cpe_io::{Sink, Source};
-use cpe_session::{Status, answer_from};
-use cpe_steps::Steps;
+use crate::speaker::Cover;
+use cpe_session::{Sink, Source, Status, answer_from};
+use name_index::Steps;
 use std::alloc::Global;
 use std::sync::ledger::Ledger;
 

@@ -6,9 +6,7 @@ ghost use Rattle.names_in_order.specs.Places.{name_at};
 ghost use Rattle.cpe_cover.specs.Laws.{is_among};
 ghost use Rattle.cpe_cover.specs.Shapes.{any_at, AreShapes, finds_wider, is_as_wide, is_wider, same_shape, widened, widened_at};
 
-use cpe_name::{ATTRIBUTES, Attribute, Wfn};
-use cpe_rows::has_wildcards;
-use cpe_values::{Memory, Value};
+use cpe_rows::{ATTRIBUTES, Attribute, Memory, Value, Wfn, has_wildcards};
 use names_in_order::NamesInOrder;
 use std::alloc::Global;
 

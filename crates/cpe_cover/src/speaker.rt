@@ -1,19 +1,18 @@
 // What a line of a name says.
 ghost use Rattle.std.specs.Prelude.{◌≡◌, IfOk, OnErr, ℕ, List, option_map};
-ghost use Rattle.cpe_name.specs.Lower.{IsLower, lower_name};
+ghost use Rattle.cpe_rows.specs.cpe_name.Lower.{IsLower, lower_name};
 ghost use Rattle.cpe_session.specs.Pages.{IsSaid};
 ghost use Rattle.cpe_cover.specs.Lines.{by_added, cover_session};
 ghost use Rattle.cpe_cover.specs.Reasons.{reason_text};
 
+use crate::fault::NamesFault;
+use crate::names::Names;
 use crate::reason::CoverReason;
 use crate::written::pour_names;
-use crate::names::Names;
-use crate::fault::NamesFault;
-use cpe_io::{Sink, SinkFault};
-use cpe_name::Wfn;
-use cpe_session::{Line, Page, Speaker};
-use cpe_steps::Steps;
+use cpe_rows::Wfn;
+use cpe_session::{Line, Page, Sink, SinkFault, Speaker};
 use cpe_uri::{UriFault, unbind_any};
+use name_index::Steps;
 use std::alloc::{AllocError, Global};
 use std::sync::ledger::Ledger;
 

@@ -6,10 +6,8 @@ ghost use Rattle.cpe_session.specs.Prelude.{AppendsPrefix, HasSinkCause, Pours};
 ghost use Rattle.cpe_cover.specs.Lines.{name_line};
 
 use cpe_fs::append_fs;
-use cpe_io::{Sink, SinkFault};
-use cpe_name::Wfn;
-use cpe_rows::List;
-use cpe_session::{Page, Table, pour_table};
+use cpe_rows::{List, Wfn};
+use cpe_session::{Page, Sink, SinkFault, Table, pour_table};
 use std::alloc::{AllocError, Global};
 
 // A line for each name.

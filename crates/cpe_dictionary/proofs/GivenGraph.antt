@@ -4,7 +4,7 @@ use Rattle.std.specs.Cmp.{both_ways as both}
 use Rattle.std.specs.List.{All, AllByRecursion, list_all, list_any}
 use Rattle.std.proofs.lemmas.List.Elements.{All-cons, All-nil}
 use Rattle.std.proofs.lemmas.Bool.{and_parts, not-true, or_from, or_parts}
-use Rattle.cpe_name.specs.Eleven.{Values}
+use Rattle.cpe_rows.specs.cpe_name.Eleven.{Values}
 use Rattle.cpe_rows.specs.Faults.{is_count, repeated_from}
 use Rattle.cpe_rows.specs.Lawful.{are_different, IsDictionary}
 use Rattle.cpe_rows.specs.Limits.{most}

@@ -4,7 +4,7 @@ use Rattle.std.specs.Prelude.{Option, Some, None}
 use Rattle.std.specs.List.{cons_option, list_all, list_any, position_from}
 use Rattle.std.proofs.lemmas.Bool.{and_from, and_parts}
 use Rattle.std.proofs.lemmas.Iterator.Adapters.{position_from-zero}
-use Rattle.cpe_name.specs.Eleven.{Values}
+use Rattle.cpe_rows.specs.cpe_name.Eleven.{Values}
 use Rattle.cpe_rows.specs.Chains.{successors_of}
 use Rattle.cpe_rows.specs.Lawful.{are_different, has_successors, is_cyclic, is_entry_name, IsDictionary}
 use Rattle.cpe_rows.specs.Limits.{is_wide}

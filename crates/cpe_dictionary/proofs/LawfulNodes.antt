@@ -5,7 +5,7 @@ use Rattle.std.specs.Option.{option_map, option_map_or}
 use Rattle.std.proofs.lemmas.Bool.{and_parts, false_from_ne_true, le-ltb, ltb-false, or_cases, or_from, or_left, or_parts, or_right, true≢false}
 use Rattle.std.proofs.lemmas.List.{length-map}
 use Rattle.std.proofs.lemmas.Option.{none-some, same_Some, slice_get-map, slice_get_within}
-use Rattle.cpe_name.specs.Eleven.{Values}
+use Rattle.cpe_rows.specs.cpe_name.Eleven.{Values}
 use Rattle.cpe_rows.specs.Chains.{ends, is_successor, leads_to, successors_of}
 use Rattle.cpe_rows.specs.Lawful.{has_successors, is_cyclic, IsDictionary}
 use Rattle.cpe_rows.specs.Limits.{is_wide}

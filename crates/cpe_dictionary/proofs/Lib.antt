@@ -17,3 +17,5 @@ pub mod LawfulNodes
 pub mod GivenLemmas
 pub mod GivenGraph
 pub mod GivenNumbers
+pub use Rattle.entries_in_order.proofs as entries_in_order
+pub use Rattle.deprecation_graph.proofs as deprecation_graph

@@ -3,7 +3,7 @@ use Rattle.std.proofs.Common.{◌≡◌, ℕ, suc, ◌+◌, ◌<◌, Bool, true,
 use Rattle.std.specs.List.{Contains, cons_option, list_any, position, position_from}
 use Rattle.std.proofs.lemmas.Option.{same_Some, none-some, slice_get_within}
 use Rattle.std.proofs.lemmas.Iterator.Adapters.{position_from-zero}
-use Rattle.cpe_name.specs.Eleven.{Values}
+use Rattle.cpe_rows.specs.cpe_name.Eleven.{Values}
 use Rattle.cpe_rows.specs.Rows.{is_named}
 use Rattle.cpe_rows.specs.declared.entry.Entry.{Entry}
 use Rattle.deprecation_graph.proofs.Rising.{Contains-cases}

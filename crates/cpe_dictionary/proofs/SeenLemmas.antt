@@ -8,13 +8,13 @@ use Rattle.std.proofs.lemmas.Bool.{eqb-true}
 use Rattle.std.proofs.lemmas.Option.{same_Some, none-some}
 use Rattle.std.proofs.lemmas.List.Folds.{list_any_more}
 use Rattle.std.proofs.lemmas.Iterator.Adapters.{position_from-zero}
-use Rattle.cpe_name.specs.Eleven.{Values}
+use Rattle.cpe_rows.specs.cpe_name.Eleven.{Values}
 use Rattle.cpe_rows.specs.Faults.{place_of, repeated_from}
 use Rattle.cpe_rows.specs.Rows.{is_named}
 use Rattle.cpe_rows.specs.declared.entry.Entry.{Entry}
 use Rattle.cpe_rows.proofs.Lists.{has_place}
 use Rattle.cpe_dictionary.specs.Numbers.{numbers_of}
-use Rattle.names_in_order.proofs.Rows.{item_first}
+use Rattle.entries_in_order.proofs.names_in_order.Rows.{item_first}
 
 -- ---- numbers that were seen
 

@@ -1,6 +1,6 @@
 -- Why a deprecation is refused, part by part.
 use Rattle.std.specs.Prelude.{◌++◌, ◌∷◌, List, [], Bool, if◌then◌else◌, Option, None, Some, option_map, slice_get, not}
-use Rattle.cpe_name.specs.Eleven.{Values}
+use Rattle.cpe_rows.specs.cpe_name.Eleven.{Values}
 use Rattle.cpe_rows.specs.After.{changed}
 use Rattle.cpe_rows.specs.Faults.{when, is_deprecated, successor_faults, too_wide}
 use Rattle.cpe_rows.specs.Rows.{is_entry}

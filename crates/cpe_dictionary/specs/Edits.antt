@@ -1,7 +1,7 @@
 -- An edit of one entry's deprecation is a change of its node.
 use Rattle.std.specs.Prelude.{◌≡◌, ℕ, List, [], true, not, length, Option, Some, None, option_map, option_and_then, slice_get, slice_set}
 use Rattle.std.specs.List.{list_any}
-use Rattle.cpe_name.specs.Eleven.{Values}
+use Rattle.cpe_rows.specs.cpe_name.Eleven.{Values}
 use Rattle.cpe_rows.specs.Names.{is_same}
 use Rattle.cpe_rows.specs.Rows.{Rows, is_named}
 use Rattle.cpe_rows.specs.Faults.{place_of, repeated_from, is_count, too_wide}

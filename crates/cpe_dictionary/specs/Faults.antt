@@ -1,7 +1,7 @@
 -- What a change of one entry's deprecation does, and why it is refused, by numbers.
 use Rattle.std.specs.Prelude.{◌≡◌, ℕ, ◌*◌, ◌<◌, ◌≤◌, List, [], true, length, find, nat_eq, position, Some, None, option_and_then, slice_get, slice_set}
 use Rattle.std.specs.List.{Contains, IsDistinct, list_any, list_all}
-use Rattle.cpe_name.specs.Eleven.{Values}
+use Rattle.cpe_rows.specs.cpe_name.Eleven.{Values}
 use Rattle.cpe_rows.specs.Names.{is_same}
 use Rattle.cpe_rows.specs.Rows.{is_named}
 use Rattle.cpe_rows.specs.After.{changed}

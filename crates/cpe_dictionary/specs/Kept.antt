@@ -1,6 +1,6 @@
 -- Entries as a dictionary keeps them: their names, and beside each what its entry has; and their deprecations by numbers.
 use Rattle.std.specs.Prelude.{◌≡◌, ◌≤◌, ℕ, List, length, map}
-use Rattle.cpe_name.specs.Eleven.{Values}
+use Rattle.cpe_rows.specs.cpe_name.Eleven.{Values}
 use Rattle.cpe_rows.specs.Rows.{Rows, no_rows}
 use Rattle.cpe_rows.specs.Lawful.{IsDictionary}
 use Rattle.cpe_rows.specs.Limits.{most}
@@ -10,7 +10,7 @@ use Rattle.deprecation_graph.specs.Graph.{Node}
 use Rattle.entries_in_order.specs.declared.kept.Details.{Details}
 use Rattle.cpe_dictionary.specs.Numbers.{entries_at, nodes_of_entries}
 use Rattle.name_index.specs.Table.{Names}
-use Rattle.names_in_order.specs.InOrder.{AreInOrder, Roll, names_numbered}
+use Rattle.entries_in_order.specs.names_in_order.InOrder.{AreInOrder, Roll, names_numbered}
 pub use Rattle.entries_in_order.specs.Listed.{entries_of, names_of, new_entry, rewritten, written}
 
 -- a lawful dictionary, of which node k is entry k

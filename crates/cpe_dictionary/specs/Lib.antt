@@ -8,3 +8,4 @@ pub mod Plans
 pub mod Sources
 pub mod Given
 pub mod Moved
+pub use Rattle.deprecation_graph.specs as deprecation_graph

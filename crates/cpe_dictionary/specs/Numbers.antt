@@ -2,7 +2,7 @@
 use Rattle.std.specs.Prelude.{◌≡◌, ◌↔◌, ℕ, List, [], ◌∷◌, map, length, position, Bool, true, IsTrue, Some, None, ◌++◌, slice_get, slice_set}
 use Rattle.std.specs.List.{Contains, cons_option, list_all}
 use Rattle.cpe_rows.specs.Chains.{successors_of, is_active, is_successor, chain, leads_to, ends}
-use Rattle.cpe_name.specs.Eleven.{Values}
+use Rattle.cpe_rows.specs.cpe_name.Eleven.{Values}
 use Rattle.cpe_rows.specs.Lawful.{are_different, has_successors}
 use Rattle.deprecation_graph.specs.Graph.{Node, next_in, active_in, node_of}
 use Rattle.cpe_rows.specs.Rows.{is_named}

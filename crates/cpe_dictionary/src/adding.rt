@@ -5,8 +5,7 @@ ghost use Rattle.cpe_rows.specs.Prelude.{first_some, is_named};
 ghost use Rattle.cpe_rows.specs.declared.entry.Entry.{Entry};
 
 use crate::dictionary::Dictionary;
-use cpe_name::Wfn;
-use cpe_rows::{EditFault, Which, has_wildcards, is_identifier};
+use cpe_rows::{EditFault, Wfn, Which, has_wildcards, is_identifier};
 
 impl Dictionary<'_> {
     /// The first fault of an entry of this name that is to be added, but for the weight; the number is that of the entry that has the

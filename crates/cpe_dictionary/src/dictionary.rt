@@ -6,18 +6,17 @@ ghost use Rattle.deprecation_graph.specs.Faults.{change_fault};
 ghost use Rattle.deprecation_graph.specs.Graph.{IsChange};
 ghost use Rattle.cpe_dictionary.specs.Numbers.{entries_at, nodes_of_entries};
 ghost use Rattle.cpe_dictionary.specs.Causes.{named_fault};
-ghost use Rattle.names_in_order.specs.Prelude.{IsLower, near_count, StepsWithin};
+ghost use Rattle.entries_in_order.specs.names_in_order.Prelude.{IsLower, near_count, StepsWithin};
 ghost use Rattle.cpe_dictionary.specs.Kept.{IsKept, names_of};
 
 use crate::by_number::answers_by_number;
-use cpe_name::Wfn;
 use cpe_rows::{
-    BoxedName, Deprecation, EditFault, Entry, List, MOST_ENTRIES, Note, Row, State, Which,
+    BoxedName, Deprecation, EditFault, Entry, List, MOST_ENTRIES, Memory, Note, Row, State, Wfn,
+    Which,
 };
-use cpe_steps::Steps;
-use cpe_values::Memory;
 use deprecation_graph::{DeprecationGraph, GraphFault};
 use entries_in_order::{Entries, active_names_at, rows_at};
+use name_index::Steps;
 use std::alloc::Global;
 use std::marker::Model;
 use std::sync::ledger::Ledger;

@@ -9,8 +9,7 @@ ghost use Rattle.cpe_dictionary.specs.Plans.{IsAllowed, ends_by};
 use crate::by_number::{chains_by_number, entries_are_numbered};
 use crate::dictionary::Dictionary;
 use crate::plans::Plan;
-use cpe_name::Wfn;
-use cpe_values::Memory;
+use cpe_rows::{Memory, Wfn};
 use std::alloc::Global;
 
 impl Dictionary<'_> {

@@ -13,9 +13,7 @@ use crate::by_number::{chains_by_number, edits_by_number, entries_are_numbered, 
 use crate::dictionary::Dictionary;
 use crate::store::KeptDictionary;
 use crate::successors::{find_repeated, is_count};
-use cpe_name::Wfn;
-use cpe_rows::{Deprecation, List};
-use cpe_values::Memory;
+use cpe_rows::{Deprecation, List, Memory, Wfn};
 use deprecation_graph::{DeprecationGraph, FillFault, fill};
 use name_index::NameTable;
 use std::alloc::Global;

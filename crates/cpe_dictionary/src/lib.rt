@@ -28,6 +28,7 @@ pub use by_number::{
     answers_by_number, chains_by_number, changes_by_number, edits_are_changes, edits_by_number,
     entries_are_numbered, faults_by_number,
 };
+pub use deprecation_graph::FillFault;
 pub use dictionary::Dictionary;
 pub use plans::Plan;
 pub use sources::Sources;

@@ -8,8 +8,7 @@ ghost use Rattle.cpe_dictionary.specs.Plans.{IsPlan};
 use crate::by_number::{edits_are_changes, edits_by_number};
 use crate::dictionary::Dictionary;
 use crate::successors::find_successors;
-use cpe_name::Wfn;
-use cpe_rows::{Deprecation, EditFault, List};
+use cpe_rows::{Deprecation, EditFault, List, Wfn};
 
 /// A change of an entry's deprecation that its dictionary allows, by numbers. It is made by
 /// [`Dictionary::commit`](Dictionary::commit).

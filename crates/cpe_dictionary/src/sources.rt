@@ -6,8 +6,7 @@ ghost use Rattle.cpe_dictionary.specs.Sources.{AreSourcesOf};
 
 use crate::by_number::{chains_by_number, entries_are_numbered};
 use crate::dictionary::Dictionary;
-use cpe_name::Wfn;
-use cpe_values::Memory;
+use cpe_rows::{Memory, Wfn};
 use std::alloc::Global;
 use std::marker::Model;
 
@@ -22,7 +21,7 @@ pub struct Sources<'d> {
 
 impl<'d> Model for Sources<'d> {
     ghost use Rattle.std.specs.Prelude.{List};
-    ghost use Rattle.cpe_name.specs.Eleven.{Values};
+    ghost use Rattle.cpe_rows.specs.cpe_name.Eleven.{Values};
     ghost use Rattle.cpe_rows.specs.declared.entry.Entry.{Entry};
     ghost use Rattle.cpe_dictionary.specs.Sources.{AreSourcesOf};
 

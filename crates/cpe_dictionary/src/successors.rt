@@ -12,8 +12,7 @@ ghost use Rattle.cpe_dictionary.specs.Plans.{AreAsked, IsAllowed};
 
 use crate::by_number::{edits_are_changes, edits_by_number, faults_by_number};
 use crate::dictionary::Dictionary;
-use cpe_name::Wfn;
-use cpe_rows::{Deprecation, EditFault, Kind, List, MOST_SUCCESSORS};
+use cpe_rows::{Deprecation, EditFault, Kind, List, MOST_SUCCESSORS, Wfn};
 use std::alloc::Global;
 
 /// Whether a deprecation of this kind may have so many successors.

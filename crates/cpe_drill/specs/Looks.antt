@@ -4,7 +4,7 @@ use Rattle.cpe_rows.specs.Rows.{Rows}
 use Rattle.cpe_records.specs.Reading.{record_of}
 use Rattle.cpe_records.specs.declared.read.Record.{Record}
 use Rattle.cpe_records.specs.declared.read.Record.TheVariants.{Edit, Query}
-use Rattle.cpe_members.specs.declared.member.RecordFault.{RecordFault}
+use Rattle.cpe_records.specs.cpe_members.declared.member.RecordFault.{RecordFault}
 use Rattle.cpe_engine.specs.Looks.{edit_looks, looks}
 
 -- as many as its edit takes in these rows, which is none if it is refused, or as its query; what is no record takes none

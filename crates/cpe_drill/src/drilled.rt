@@ -1,6 +1,6 @@
 // What records came to.
 ghost use Rattle.std.specs.Prelude.{◌≡◌, ◌+◌, Ok, OnOk, OnErr, true};
-ghost use Rattle.cpe_steps.specs.Within.{StepsWithin};
+ghost use Rattle.cpe_engine.specs.cpe_steps.Within.{StepsWithin};
 ghost use Rattle.cpe_rows.specs.Valid.{is_valid_edit, is_valid_query};
 ghost use Rattle.cpe_engine.specs.Looks.{edit_looks, looks};
 ghost use Rattle.cpe_records.specs.Reading.{record_of};
@@ -8,11 +8,9 @@ ghost use Rattle.cpe_drill.specs.Drill.{drilled};
 ghost use Rattle.cpe_drill.specs.Looks.{record_looks};
 ghost use Rattle.cpe_drill.specs.Outcome.{found_by};
 
-use cpe_engine::Engine;
-use cpe_members::RecordFault;
-use cpe_records::{Record, read_record};
+use cpe_engine::{Engine, Steps};
+use cpe_records::{Record, RecordFault, read_record};
 use cpe_rows::{Edit, EditFault, Query, Reply};
-use cpe_steps::Steps;
 use std::alloc::{AllocError, Global};
 use std::sync::ledger::Ledger;
 

@@ -10,6 +10,8 @@ mod summary;
 mod tables;
 mod tally;
 
+pub use cpe_engine::Engine;
+pub use cpe_session::Steps;
 pub use drilled::Drilled;
 pub use line::{MOST_LINES, generated};
 pub use run::drill;

@@ -6,8 +6,8 @@ use crate::record::{
     push_check, push_deprecation, push_entry, push_item, push_restore, push_search, push_statement,
     push_verdict,
 };
+use cpe_rows::Memory;
 use cpe_session::Page;
-use cpe_values::Memory;
 use itoa::Buffer;
 use std::alloc::{AllocError, Global};
 

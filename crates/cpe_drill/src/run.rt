@@ -9,10 +9,8 @@ ghost use Rattle.cpe_drill.specs.Drill.{undrilled, drill_session, drill_transcri
 use crate::drilled::Drilled;
 use crate::summary::push_summary;
 use crate::tables::GeneratedRecords;
-use cpe_engine::Engine;
-use cpe_io::{Sink, SinkFault};
-use cpe_session::{Line, Page, Speaker, Status, TooLong, answer_made};
-use cpe_steps::Steps;
+use cpe_engine::{Engine, Steps};
+use cpe_session::{Line, Page, Sink, SinkFault, Speaker, Status, TooLong, answer_made};
 use std::alloc::{AllocError, Global};
 use std::mem::replace;
 use std::sync::ledger::Ledger;

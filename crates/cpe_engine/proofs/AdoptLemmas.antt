@@ -5,8 +5,8 @@ use Rattle.std.specs.List.{AllByRecursion, flat_map, list_all, list_any}
 use Rattle.std.proofs.Math.Nat.{min-eq_left}
 use Rattle.std.proofs.lemmas.Bool.{and_parts, le-ltb, or_cases, true≢false}
 use Rattle.std.proofs.lemmas.List.Elements.{All-cons, All-head, All-nil, All-tail}
-use Rattle.cpe_name.specs.Eleven.{Values}
-use Rattle.cpe_name.specs.Names.{IsName}
+use Rattle.cpe_rows.specs.cpe_name.Eleven.{Values}
+use Rattle.cpe_rows.specs.cpe_name.Names.{IsName}
 use Rattle.cpe_rows.specs.Chains.{successors_of}
 use Rattle.cpe_rows.specs.FactNames.{fact_names}
 use Rattle.cpe_rows.specs.Formed.{IsFormedEntry}
@@ -25,13 +25,13 @@ use Rattle.cpe_rows.proofs.Limited.{each_within}
 use Rattle.cpe_rows.proofs.Lists.{no_element}
 use Rattle.cpe_rows.proofs.NameTests.{same_is}
 use Rattle.cpe_weight.specs.Capped.{capped}
-use Rattle.fact_laws.specs.Asked.{names_kept}
-use Rattle.cpe_dictionary.specs.Given.{each_deprecated}
-use Rattle.cpe_dictionary.specs.Kept.{rows_of}
-use Rattle.cpe_dictionary.proofs.GivenLemmas.{any_given, length_given, names_given}
+use Rattle.engine_edits.specs.fact_laws.Asked.{names_kept}
+use Rattle.verdicts.specs.cpe_dictionary.Given.{each_deprecated}
+use Rattle.verdicts.specs.cpe_dictionary.Kept.{rows_of}
+use Rattle.verdicts.proofs.cpe_dictionary.GivenLemmas.{any_given, length_given, names_given}
 use Rattle.name_index.specs.Table.{Names}
-use Rattle.fact_laws.specs.Shown.{holds_in, Shows}
-use Rattle.cpe_registry.specs.Registered.{Registered}
+use Rattle.engine_edits.specs.fact_laws.Shown.{holds_in, Shows}
+use Rattle.verdicts.specs.cpe_registry.Registered.{Registered}
 use Rattle.verdicts.specs.Verdicts.{HasVerdicts, VerdictsNow}
 use Rattle.cpe_engine.specs.Adopting.{given_weight, IsBare, with_deprecations}
 use Rattle.engine_edits.specs.Parts.{AreKept, AreOf, rows_in}

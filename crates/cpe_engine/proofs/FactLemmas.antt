@@ -6,9 +6,9 @@ use Rattle.std.proofs.lemmas.List.Folds.{find_at}
 use Rattle.std.proofs.lemmas.Option.{same_Some, slice_get_past}
 use Rattle.std.specs.Option.{option_copied, option_map_or}
 use Rattle.std.specs.Borrow.{Bor}
-use Rattle.cpe_name.specs.Eleven.{Values}
-use Rattle.cpe_relation.specs.NameRelation.{covers}
-use Rattle.cpe_relation.specs.Maybe.{maybe}
+use Rattle.cpe_rows.specs.cpe_name.Eleven.{Values}
+use Rattle.cpe_rows.specs.cpe_relation.NameRelation.{covers}
+use Rattle.cpe_rows.specs.cpe_relation.Maybe.{maybe}
 use Rattle.cpe_rows.specs.Rows.{Rows}
 use Rattle.cpe_rows.specs.declared.entry.Entry.{Entry}
 use Rattle.cpe_rows.specs.declared.entry.Deprecation.{Deprecation}
@@ -16,11 +16,11 @@ use Rattle.cpe_rows.specs.Truth.{same_truth}
 use Rattle.cpe_rows.specs.Verdict.{fact_truth, finds_item, is_followed, truth}
 use Rattle.cpe_rows.specs.declared.statement.Mode.{Mode}
 use Rattle.cpe_rows.specs.declared.truth.Truth.TheVariants.{True, False}
-use Rattle.checked_certificates.specs.Leading.{followed}
-use Rattle.checked_certificates.specs.Relates.{related, is_ruled_out}
-use Rattle.checked_certificates.specs.declared.relates.Relates.{Relates}
-use Rattle.checked_certificates.specs.declared.relates.Relates.TheVariants.{Covers, MayCover}
-use Rattle.checked_certificates.proofs.Facts.{found_is}
+use Rattle.cpe_explain.specs.checked_certificates.Leading.{followed}
+use Rattle.cpe_explain.specs.checked_certificates.Relates.{related, is_ruled_out}
+use Rattle.cpe_explain.specs.checked_certificates.declared.relates.Relates.{Relates}
+use Rattle.cpe_explain.specs.checked_certificates.declared.relates.Relates.TheVariants.{Covers, MayCover}
+use Rattle.cpe_explain.proofs.checked_certificates.Facts.{found_is}
 use Rattle.cpe_explain.proofs.Firsts.{some_found}
 
 or_nothing : (b : Bool) → (b || false) ≡ b

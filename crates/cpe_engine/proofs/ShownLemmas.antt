@@ -5,8 +5,8 @@ use Rattle.std.specs.List.{AllByRecursion, list_all, list_any}
 use Rattle.std.proofs.lemmas.Bool.{and_parts, or_left, or_right}
 use Rattle.std.proofs.lemmas.List.Folds.{list_any-append}
 use Rattle.std.proofs.lemmas.List.{map-append}
-use Rattle.cpe_name.specs.Eleven.{Values}
-use Rattle.cpe_name.specs.Lower.{IsLower}
+use Rattle.cpe_rows.specs.cpe_name.Eleven.{Values}
+use Rattle.cpe_rows.specs.cpe_name.Lower.{IsLower}
 use Rattle.cpe_rows.specs.Chains.{chain, ends, is_active}
 use Rattle.cpe_rows.specs.Lawful.{is_entry_name, IsDictionary}
 use Rattle.cpe_rows.specs.Names.{has_wildcards, is_identifier, is_lower, is_same}
@@ -18,11 +18,11 @@ use Rattle.cpe_rows.specs.declared.statement.Mode.TheVariants.{Plain, Follow}
 use Rattle.cpe_rows.proofs.NameTests.{is_lower_is, same_is}
 use Rattle.name_index.specs.declared.table.NameId.{NameId}
 use Rattle.name_index.specs.Table.{Names}
-use Rattle.fact_laws.specs.Asked.{leads}
-use Rattle.fact_laws.specs.Shown.{name_at, names_at}
-use Rattle.checked_certificates.specs.Leading.{followed}
-use Rattle.checked_certificates.specs.Relates.{related}
-use Rattle.checked_certificates.specs.declared.relates.Relates.{Relates}
+use Rattle.engine_edits.specs.fact_laws.Asked.{leads}
+use Rattle.engine_edits.specs.fact_laws.Shown.{name_at, names_at}
+use Rattle.cpe_explain.specs.checked_certificates.Leading.{followed}
+use Rattle.cpe_explain.specs.checked_certificates.Relates.{related}
+use Rattle.cpe_explain.specs.checked_certificates.declared.relates.Relates.{Relates}
 use Rattle.verdicts.specs.Items.{AreItemsTo}
 use Rattle.cpe_engine.specs.Shown.{AreShown}
 

@@ -6,7 +6,7 @@ use Rattle.cpe_rows.specs.Rows.{Rows}
 use Rattle.cpe_rows.specs.Weight.{deprecation_weight}
 use Rattle.cpe_rows.specs.declared.entry.Deprecation.{Deprecation}
 use Rattle.cpe_rows.specs.declared.entry.Entry.{Entry}
-pub use Rattle.cpe_dictionary.specs.Given.{each_deprecated}
+pub use Rattle.verdicts.specs.cpe_dictionary.Given.{each_deprecated}
 
 -- each entry has the deprecation at its place, or none; its notes stay
 abbrev pub with_deprecations : Rows → List (Option Deprecation) → Rows

@@ -1,7 +1,7 @@
 -- How many looks at names an answer may take, or an edit (`edit_looks`). A statement's verdict is kept, so that to ask for it is no look.
 use Rattle.std.specs.Prelude.{ℕ, count_by, map}
-use Rattle.cpe_relation.specs.Maybe.{meets}
-use Rattle.names_in_order.specs.Places.{near_count}
+use Rattle.cpe_rows.specs.cpe_relation.Maybe.{meets}
+use Rattle.verdicts.specs.names_in_order.Places.{near_count}
 use Rattle.cpe_rows.specs.Rows.{Rows}
 use Rattle.cpe_rows.specs.declared.entry.Entry.{Entry}
 use Rattle.cpe_rows.specs.declared.edit.Query.{Query}

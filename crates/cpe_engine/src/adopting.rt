@@ -10,7 +10,7 @@ use crate::engine::Engine;
 use cpe_rows::{Deprecation, List, MOST_WEIGHT};
 use cpe_weight::with_deprecation;
 use engine_edits::Parts;
-use deprecation_graph::FillFault;
+use verdicts::FillFault;
 
 /// Why rows can't be taken over.
 #[derive(Clone, Copy, Debug, PartialEq, Eq)]

@@ -6,18 +6,15 @@ ghost use Rattle.cpe_rows.specs.Counts.{counts_of};
 ghost use Rattle.cpe_rows.specs.Valid.{is_valid_query};
 ghost use Rattle.cpe_rows.specs.Weight.{weight};
 ghost use Rattle.cpe_rows.specs.Lent.{entry_lent};
-ghost use Rattle.cpe_steps.specs.Within.{StepsWithin};
+ghost use Rattle.name_index.specs.cpe_steps.Within.{StepsWithin};
 ghost use Rattle.cpe_engine.specs.Looks.{edit_looks, looks};
 
-use cpe_inventory::ItemSlots;
-use cpe_name::Wfn;
 use cpe_rows::{
-    Changed, CheckKey, Counts, Edit, EditFault, EntryRef, List, Query, Reply, Statement, Text,
-    Truth,
+    Changed, CheckKey, Counts, Edit, EditFault, EntryRef, List, Memory, Query, Reply, Statement,
+    Text, Truth, Wfn,
 };
-use cpe_steps::Steps;
-use cpe_values::Memory;
-use engine_edits::{Parts, apply_numbered};
+use engine_edits::{ItemSlots, Parts, apply_numbered};
+use name_index::Steps;
 use std::alloc::Global;
 use std::marker::Model;
 use std::mem::forget;

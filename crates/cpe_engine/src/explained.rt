@@ -2,18 +2,15 @@
 ghost use Rattle.std.specs.Prelude.{◌≡◌, IfOk, IfSome, None, find, slice_get, true};
 ghost use Rattle.std.specs.Option.{option_copied, option_map_or};
 ghost use Rattle.cpe_rows.specs.Verdict.{fact_truth, finds_item, is_followed, truth};
-ghost use Rattle.checked_certificates.specs.Leading.{followed};
-ghost use Rattle.checked_certificates.specs.Relates.{related};
+ghost use Rattle.cpe_explain.specs.checked_certificates.Leading.{followed};
+ghost use Rattle.cpe_explain.specs.checked_certificates.Relates.{related};
 
 use crate::engine::Engine;
 use crate::leading::{ends_of, first_followed, first_shown};
 use crate::slots::{first_related, item_of};
 use crate::truths::kept_truth;
-use checked_certificates::{PlainRows, Relates};
-use cpe_explain::ExplainedRows;
-use cpe_name::Wfn;
-use cpe_rows::{CheckKey, Deprecation, EntryRef, Mode, Statement, Text, Truth};
-use cpe_values::Memory;
+use cpe_explain::{ExplainedRows, PlainRows, Relates};
+use cpe_rows::{CheckKey, Deprecation, EntryRef, Memory, Mode, Statement, Text, Truth, Wfn};
 use std::alloc::Global;
 
 fn truth_of(is_covered: bool, may_be: bool) -> Truth

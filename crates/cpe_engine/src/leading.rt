@@ -3,24 +3,21 @@ ghost use Rattle.std.specs.Prelude.{◌≡◌, ◌∷◌, [], ℕ, IfOk, find, m
 ghost use Rattle.std.specs.List.{AllByRecursion, filter_map, list_any};
 ghost use Rattle.cpe_rows.specs.Prelude.{ends, is_followed, IsLower, Rows};
 ghost use Rattle.name_index.specs.Table.{IsLive};
-ghost use Rattle.fact_laws.specs.Asked.{leads};
-ghost use Rattle.fact_laws.specs.Shown.{names_at};
-ghost use Rattle.cpe_registry.specs.Registered.{AreLive, name_in};
+ghost use Rattle.engine_edits.specs.fact_laws.Asked.{leads};
+ghost use Rattle.engine_edits.specs.fact_laws.Shown.{names_at};
+ghost use Rattle.verdicts.specs.cpe_registry.Registered.{AreLive, name_in};
 ghost use Rattle.verdicts.specs.Items.{AreItemsTo};
 ghost use Rattle.verdicts.specs.Rows.{AreOfRows};
-ghost use Rattle.checked_certificates.specs.Leading.{followed};
-ghost use Rattle.checked_certificates.specs.Relates.{related};
+ghost use Rattle.cpe_explain.specs.checked_certificates.Leading.{followed};
+ghost use Rattle.cpe_explain.specs.checked_certificates.Relates.{related};
 ghost use Rattle.cpe_engine.specs.Shown.{AreShown};
 
-use checked_certificates::Relates;
-use cpe_inventory::ItemSlots;
-use cpe_name::Wfn;
-use cpe_registry::Registry;
-use cpe_rows::Mode;
-use cpe_values::Memory;
+use cpe_explain::Relates;
+use cpe_rows::{Memory, Mode, Wfn};
+use engine_edits::ItemSlots;
 use name_index::NameId;
 use std::alloc::Global;
-use verdicts::Verdicts;
+use verdicts::{Registry, Verdicts};
 
 fn alone<'a>(alloc: Global, name: &'a Wfn) -> Result<Vec<&'a Wfn>, Memory>
     ensures { IfOk result (λ names. map (λ n. n.now) names.items ≡ name.now ∷ []) }

@@ -19,3 +19,4 @@ mod truths;
 
 pub use adopting::AdoptFault;
 pub use engine::Engine;
+pub use name_index::Steps;

@@ -1,10 +1,10 @@
 // Items by their slots, and the first to which a name stands so.
 ghost use Rattle.std.specs.Prelude.{◌≡◌, find, length, slice_get, filter_map, option_copied};
-ghost use Rattle.checked_certificates.specs.Relates.{related};
+ghost use Rattle.cpe_explain.specs.checked_certificates.Relates.{related};
 
-use checked_certificates::Relates;
-use cpe_inventory::ItemSlots;
-use cpe_name::Wfn;
+use cpe_explain::Relates;
+use cpe_rows::Wfn;
+use engine_edits::ItemSlots;
 
 // The item at a place, where some slots may be empty.
 fn nth_item<'t>(slots: &ItemSlots<'t>, k: usize) -> Option<&'t Wfn>

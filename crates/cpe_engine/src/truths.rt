@@ -3,10 +3,8 @@ ghost use Rattle.std.specs.Prelude.{◌≡◌, IfSome};
 ghost use Rattle.cpe_rows.specs.Prelude.{fact_truth, Rows};
 ghost use Rattle.verdicts.specs.Verdicts.{HasVerdicts};
 
-use cpe_name::Wfn;
-use cpe_registry::Registry;
-use cpe_rows::{Mode, Truth};
-use verdicts::Verdicts;
+use cpe_rows::{Mode, Truth, Wfn};
+use verdicts::{Registry, Verdicts};
 
 /// The truth of a fact of a mode, if a statement uses it.
 pub(crate) fn kept_truth(

@@ -4,7 +4,7 @@ use Rattle.std.specs.Cmp.{both_ways as same_tests}
 use Rattle.std.specs.List.{list_any}
 use Rattle.std.specs.Borrow.{Bor}
 use Rattle.std.specs.Option.{option_and_then, option_copied}
-use Rattle.cpe_name.specs.Eleven.{Values}
+use Rattle.cpe_rows.specs.cpe_name.Eleven.{Values}
 use Rattle.cpe_rows.specs.Chains.{ends}
 use Rattle.cpe_rows.specs.Verdict.{is_followed}
 use Rattle.cpe_rows.specs.declared.entry.Entry.{Entry}

@@ -5,3 +5,4 @@ pub mod Chosen
 pub mod MadeGood
 pub mod WaySteps
 pub mod Counted
+pub use Rattle.checked_certificates.proofs as checked_certificates

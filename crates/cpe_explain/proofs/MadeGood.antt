@@ -1,9 +1,9 @@
 -- The certificate that is made of a statement gives the verdict, and is good.
 use Rattle.std.proofs.Common.{◌≡◌, ◌-◌, ℕ, List, [], ◌∷◌, ◌++◌, Bool, Option, Some, None, map, filter, flat_map, is_some, length, replicate, slice_get, refl, ap, sym, ◌∙◌, subst, inl, inr}
 use Rattle.std.specs.List.{position_or_len}
-use Rattle.cpe_name.specs.Eleven.{Values}
-use Rattle.cpe_relation.specs.NameRelation.{covers}
-use Rattle.cpe_relation.specs.Maybe.{maybe}
+use Rattle.cpe_rows.specs.cpe_name.Eleven.{Values}
+use Rattle.cpe_rows.specs.cpe_relation.NameRelation.{covers}
+use Rattle.cpe_rows.specs.cpe_relation.Maybe.{maybe}
 use Rattle.cpe_rows.specs.Reach.{Among}
 use Rattle.cpe_rows.specs.Rows.{Rows}
 use Rattle.cpe_rows.specs.Chains.{ends}

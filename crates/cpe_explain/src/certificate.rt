@@ -10,9 +10,9 @@ ghost use Rattle.cpe_explain.specs.Choices.{certificate, explained, why_of};
 use crate::fits::fact_why;
 use crate::rows::ExplainedRows;
 use checked_certificates::{Proof, Why, deciding, is_truth, join_all, negate_if};
-use cpe_name::Wfn;
-use cpe_rows::{CheckKey, FindFacts, List, Mode, Operator, Statement, Test, Truth, find_truth};
-use cpe_values::Memory;
+use cpe_rows::{
+    CheckKey, FindFacts, List, Memory, Mode, Operator, Statement, Test, Truth, Wfn, find_truth,
+};
 use std::alloc::Global;
 
 // Rows that are asked in a mode.

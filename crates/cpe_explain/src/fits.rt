@@ -9,9 +9,7 @@ ghost use Rattle.cpe_explain.specs.Lent.{lent_fit};
 use crate::paths::trace;
 use crate::rows::ExplainedRows;
 use checked_certificates::{Relates, Why};
-use cpe_name::Wfn;
-use cpe_rows::{Mode, Truth};
-use cpe_values::Memory;
+use cpe_rows::{Memory, Mode, Truth, Wfn};
 use std::alloc::Global;
 
 /// An item, an end of it, and an end of a fact.

@@ -13,4 +13,5 @@ mod paths;
 mod rows;
 
 pub use certificate::explain;
+pub use checked_certificates::{Checked, PlainRows, Proof, Relates};
 pub use rows::ExplainedRows;

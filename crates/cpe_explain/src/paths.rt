@@ -6,9 +6,7 @@ ghost use Rattle.checked_certificates.specs.Leading.{followed, next_of};
 ghost use Rattle.cpe_explain.specs.Choices.{has_end, trace_to};
 
 use crate::rows::ExplainedRows;
-use cpe_name::Wfn;
-use cpe_rows::{List, Mode, is_same};
-use cpe_values::Memory;
+use cpe_rows::{List, Memory, Mode, Wfn, is_same};
 use std::alloc::Global;
 
 // Whether a name is one of these.

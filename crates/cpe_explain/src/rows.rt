@@ -5,9 +5,7 @@ ghost use Rattle.checked_certificates.specs.Leading.{followed};
 ghost use Rattle.checked_certificates.specs.Relates.{related};
 
 use checked_certificates::{PlainRows, Relates};
-use cpe_name::Wfn;
-use cpe_rows::Mode;
-use cpe_values::Memory;
+use cpe_rows::{Memory, Mode, Wfn};
 use std::alloc::Global;
 
 /// Rows of which certificates are made: they tell what is kept beside them, or found by an index.

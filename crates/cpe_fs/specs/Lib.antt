@@ -8,3 +8,4 @@ pub mod Bound
 pub mod Writing
 pub mod Unquoting
 pub mod Component
+pub use Rattle.cpe_name.specs as cpe_name

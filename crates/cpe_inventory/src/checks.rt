@@ -14,8 +14,7 @@ ghost use Rattle.cpe_inventory.specs.Kept.{kept_truth};
 ghost use Rattle.cpe_inventory.specs.Results.{AreKept, retold, seen, ticket_of};
 
 use crate::kept::{KeptResult, SetTruth};
-use cpe_rows::{CheckKey, Truth};
-use cpe_values::Memory;
+use cpe_rows::{CheckKey, Memory, Truth};
 use std::alloc::Global;
 use std::collections::HashMap;
 use std::marker::Model;

@@ -1,7 +1,7 @@
 // Laws of the numbers of items and their names. The function does nothing: its clauses are the laws.
 ghost use Rattle.std.specs.Prelude.{◌≡◌, List, true};
 ghost use Rattle.std.specs.List.{list_any};
-ghost use Rattle.cpe_name.specs.Equal.{same_name};
+ghost use Rattle.cpe_rows.specs.cpe_name.Equal.{same_name};
 ghost use Rattle.cpe_rows.specs.Prelude.{is_same, Values, without_first};
 ghost use Rattle.name_index.specs.Table.{AreNames, Names, kept_at};
 ghost use Rattle.name_index.specs.declared.table.NameId.{NameId};

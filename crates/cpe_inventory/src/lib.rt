@@ -14,3 +14,4 @@ mod slots;
 pub use checks::Checks;
 pub use faults::check_fault;
 pub use slots::ItemSlots;
+pub use ticket_list::{Change, TicketList, Ticketed};

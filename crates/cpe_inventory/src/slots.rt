@@ -2,7 +2,7 @@
 ghost use Rattle.std.specs.Prelude.{◌≡◌, get_or, length, map, None, option_copied};
 ghost use Rattle.cpe_inventory.specs.Slots.{slot_name};
 
-use cpe_name::Wfn;
+use cpe_rows::Wfn;
 use name_index::{NameId, NameTable};
 use std::marker::Model;
 
@@ -16,7 +16,7 @@ pub struct ItemSlots<'t> {
 
 impl<'t> Model for ItemSlots<'t> {
     ghost use Rattle.std.specs.Prelude.{List, Option, map};
-    ghost use Rattle.cpe_name.specs.Eleven.{Values};
+    ghost use Rattle.cpe_rows.specs.cpe_name.Eleven.{Values};
     ghost use Rattle.cpe_inventory.specs.Slots.{slot_name};
 
     ghost Value = { List (Option Values) };

@@ -3,18 +3,18 @@ use Rattle.std.proofs.Common.{◌≡◌, ℕ, ◌+◌, ◌<◌, ◌≤◌, Bool,
 use Rattle.std.specs.Prelude.{Option, Some, None, get_or, is_none, unwrap_or, find}
 use Rattle.std.proofs.lemmas.List.{at_drop_more}
 use Rattle.serde_json.specs.Data.{Data}
-use Rattle.cpe_values.specs.declared.value.Value.{Value}
-use Rattle.cpe_values.specs.declared.value.Value.TheVariants as value
-use Rattle.cpe_name.specs.declared.attribute.Attribute.{Attribute}
-use Rattle.cpe_name.specs.declared.attribute.Attribute.TheVariants.{Part, Vendor, Product, Version, Update, Edition, Language, SwEdition, TargetSw, TargetHw, Other}
-use Rattle.cpe_name.specs.declared.name.NameFault.{NameFault}
-use Rattle.cpe_name.specs.declared.name.NameFault.TheVariants.{BadPart, BadLanguage}
-use Rattle.cpe_name.specs.Eleven.{Values}
-use Rattle.cpe_name.specs.Names.{attributes, IsName, IsFault}
-use Rattle.cpe_name.specs.Eleven.{put}
-use Rattle.cpe_name.specs.Names.{any_values}
-use Rattle.cpe_name.specs.Shapes.{is_part, is_language}
-use Rattle.cpe_name.proofs.WholeTexts.{no_fault}
+use Rattle.cpe_rows.specs.cpe_values.declared.value.Value.{Value}
+use Rattle.cpe_rows.specs.cpe_values.declared.value.Value.TheVariants as value
+use Rattle.cpe_rows.specs.cpe_name.declared.attribute.Attribute.{Attribute}
+use Rattle.cpe_rows.specs.cpe_name.declared.attribute.Attribute.TheVariants.{Part, Vendor, Product, Version, Update, Edition, Language, SwEdition, TargetSw, TargetHw, Other}
+use Rattle.cpe_rows.specs.cpe_name.declared.name.NameFault.{NameFault}
+use Rattle.cpe_rows.specs.cpe_name.declared.name.NameFault.TheVariants.{BadPart, BadLanguage}
+use Rattle.cpe_rows.specs.cpe_name.Eleven.{Values}
+use Rattle.cpe_rows.specs.cpe_name.Names.{attributes, IsName, IsFault}
+use Rattle.cpe_rows.specs.cpe_name.Eleven.{put}
+use Rattle.cpe_rows.specs.cpe_name.Names.{any_values}
+use Rattle.cpe_rows.specs.cpe_name.Shapes.{is_part, is_language}
+use Rattle.cpe_rows.proofs.cpe_name.WholeTexts.{no_fault}
 use Rattle.cpe_members.specs.NameObjects.{has_shape, value_at, first_without, values_at, IsGiven, IsFilled}
 
 -- ---- a value that an attribute may have

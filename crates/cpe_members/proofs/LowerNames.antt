@@ -4,10 +4,10 @@ use Rattle.std.specs.Prelude.{Option, Some, None, Result, Ok, Err, is_some}
 use Rattle.std.specs.List.{list_all}
 use Rattle.serde_json.specs.Data.{Data}
 use Rattle.serde_json.specs.Find.{as_str, as_object}
-use Rattle.cpe_name.specs.declared.attribute.Attribute.{Attribute}
-use Rattle.cpe_name.specs.Eleven.{Values}
-use Rattle.cpe_name.specs.Lower.{lower_name}
-use Rattle.cpe_name.specs.Equal.{same_name-Decides}
+use Rattle.cpe_rows.specs.cpe_name.declared.attribute.Attribute.{Attribute}
+use Rattle.cpe_rows.specs.cpe_name.Eleven.{Values}
+use Rattle.cpe_rows.specs.cpe_name.Lower.{lower_name}
+use Rattle.cpe_rows.specs.cpe_name.Equal.{same_name-Decides}
 use Rattle.cpe_uri.specs.EitherBinding.{read_any}
 use Rattle.cpe_uri.proofs.Canonical.{lower_is_lower}
 use Rattle.cpe_rows.specs.Names.{is_lower}

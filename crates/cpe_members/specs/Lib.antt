@@ -9,3 +9,4 @@ pub mod NameObjects
 pub mod Names
 pub mod Provenance
 pub mod Tests
+pub use Rattle.cpe_uri.specs as cpe_uri

@@ -2,15 +2,15 @@
 use Rattle.std.specs.Prelude.{◌≡◌, Bool, true, Option, Some, None, Result, Ok, Err, option_and_then, is_none, unwrap_or, map, find, if◌then◌else◌}
 use Rattle.serde_json.specs.Data.{Data}
 use Rattle.serde_json.specs.Find.{get, as_str}
-use Rattle.cpe_values.specs.declared.value.Value.{Value}
-use Rattle.cpe_values.specs.declared.value.Value.TheVariants as value
-use Rattle.cpe_name.specs.declared.attribute.Attribute.{Attribute}
-use Rattle.cpe_name.specs.declared.attribute.Attribute.TheVariants.{Part, Vendor, Product, Version, Update, Edition, Language, SwEdition, TargetSw, TargetHw, Other}
-use Rattle.cpe_name.specs.Eleven.{Values}
-use Rattle.cpe_name.specs.Names.{attributes, named}
-use Rattle.cpe_name.specs.Eleven.{put}
-use Rattle.cpe_name.specs.Shapes.{is_part, is_language}
-use Rattle.cpe_name.specs.Text.{attribute_name}
+use Rattle.cpe_rows.specs.cpe_values.declared.value.Value.{Value}
+use Rattle.cpe_rows.specs.cpe_values.declared.value.Value.TheVariants as value
+use Rattle.cpe_rows.specs.cpe_name.declared.attribute.Attribute.{Attribute}
+use Rattle.cpe_rows.specs.cpe_name.declared.attribute.Attribute.TheVariants.{Part, Vendor, Product, Version, Update, Edition, Language, SwEdition, TargetSw, TargetHw, Other}
+use Rattle.cpe_rows.specs.cpe_name.Eleven.{Values}
+use Rattle.cpe_rows.specs.cpe_name.Names.{attributes, named}
+use Rattle.cpe_rows.specs.cpe_name.Eleven.{put}
+use Rattle.cpe_rows.specs.cpe_name.Shapes.{is_part, is_language}
+use Rattle.cpe_rows.specs.cpe_name.Text.{attribute_name}
 use Rattle.cpe_fs.specs.Component.{read_component}
 use Rattle.cpe_fs.specs.declared.component.ComponentFault.{ComponentFault}
 use Rattle.cpe_fs.specs.declared.component.ComponentFault.TheVariants as fault

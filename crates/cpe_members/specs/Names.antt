@@ -4,9 +4,9 @@ use Rattle.std.specs.Prelude.{ℕ, List, codes, Bool, Option, Some, None, Result
 use Rattle.std.specs.List.{list_all}
 use Rattle.serde_json.specs.Data.{Data}
 use Rattle.serde_json.specs.Find.{as_str, as_object}
-use Rattle.cpe_name.specs.declared.attribute.Attribute.{Attribute}
-use Rattle.cpe_name.specs.Eleven.{Values}
-use Rattle.cpe_name.specs.Lower.{lower_name}
+use Rattle.cpe_rows.specs.cpe_name.declared.attribute.Attribute.{Attribute}
+use Rattle.cpe_rows.specs.cpe_name.Eleven.{Values}
+use Rattle.cpe_rows.specs.cpe_name.Lower.{lower_name}
 use Rattle.cpe_uri.specs.EitherBinding.{read_any}
 use Rattle.cpe_members.specs.Gives.{◌>>=◌, all_from}
 use Rattle.cpe_members.specs.Forms.{required, member_at, list_or_empty}

@@ -3,7 +3,7 @@ ghost use Rattle.std.specs.Prelude.{◌≡◌, codes, IfOk};
 ghost use Rattle.std.specs.List.{AllByRecursion};
 ghost use Rattle.serde_json.specs.Data.{Data, Members, object};
 ghost use Rattle.serde_json.specs.Find.{get};
-ghost use Rattle.cpe_name.specs.Names.{IsName};
+ghost use Rattle.cpe_rows.specs.cpe_name.Names.{IsName};
 ghost use Rattle.cpe_rows.specs.FactNames.{fact_names};
 ghost use Rattle.cpe_members.specs.Names.{name_at, successors_at};
 ghost use Rattle.cpe_members.specs.Tests.{children_at, children_in, test_at};

@@ -24,6 +24,7 @@ mod object;
 mod provenance;
 mod words;
 
+pub use cpe_uri::UriFault;
 pub use draft::test_at;
 pub use form::{
     array_in, date_at, flag_in, flag_or_false, text_at, text_in, text_of, text_or_empty,

@@ -3,7 +3,7 @@ ghost use Rattle.std.specs.Prelude.{◌≡◌, IfOk, option_map};
 ghost use Rattle.serde_json.specs.View.{view};
 ghost use Rattle.cpe_members.specs.Line.{value_of};
 
-use cpe_values::Memory;
+use cpe_rows::Memory;
 use serde_json::Value;
 use std::alloc::Global;
 

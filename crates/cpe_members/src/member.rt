@@ -3,8 +3,7 @@ ghost use Rattle.std.specs.Prelude.{◌≡◌};
 ghost use Rattle.cpe_members.specs.Keys.{key_of};
 ghost use Rattle.cpe_members.specs.declared.member.RecordFault.TheVariants as fault;
 
-use cpe_name::Attribute;
-use cpe_values::Memory;
+use cpe_rows::{Attribute, Memory};
 
 /// A member of a record.
 #[derive(Debug, Clone, Copy, PartialEq, Eq)]

@@ -11,10 +11,8 @@ ghost use Rattle.cpe_members.specs.Names.{lowered, text_name, object_in, name_in
 use crate::form::{count_on, list_or_empty};
 use crate::object::object_name;
 use crate::{Format, Member, NameSpot, NotName, RecordFault};
-use cpe_name::Wfn;
-use cpe_rows::List;
+use cpe_rows::{List, Memory, Wfn};
 use cpe_uri::{UriFault, unbind_any};
-use cpe_values::Memory;
 use serde_json::Value;
 use std::alloc::Global;
 

@@ -1,8 +1,8 @@
 // Names that are written as objects of their attributes.
 ghost use Rattle.std.specs.Prelude.{◌≡◌, true, Err, IfOk, IfErr, IsErr, OnOk};
 ghost use Rattle.serde_json.specs.View.{view};
-ghost use Rattle.cpe_name.specs.Eleven.{put};
-ghost use Rattle.cpe_name.specs.Names.{any_values};
+ghost use Rattle.cpe_rows.specs.cpe_name.Eleven.{put};
+ghost use Rattle.cpe_rows.specs.cpe_name.Names.{any_values};
 ghost use Rattle.cpe_fs.specs.Component.{read_component};
 ghost use Rattle.cpe_members.specs.NameObjects.{component_in, component_at, has_shape, value_at, Finds, Lacks, IsGiven, IsFilled};
 ghost use Rattle.cpe_members.specs.Names.{object_name};
@@ -11,8 +11,7 @@ use crate::NotName;
 use crate::name::lowered;
 use crate::words::attribute_word;
 use cpe_fs::{ComponentFault, unbind_component};
-use cpe_name::{ATTRIBUTES, Attribute, Wfn};
-use cpe_values::{Memory, Value as Held};
+use cpe_rows::{ATTRIBUTES, Attribute, Memory, Value as Held, Wfn};
 use serde_json::Value;
 use std::alloc::Global;
 

@@ -1,10 +1,9 @@
 // The words of members.
 ghost use Rattle.std.specs.Prelude.{◌≡◌};
-ghost use Rattle.cpe_name.specs.Text.{attribute_name};
+ghost use Rattle.cpe_rows.specs.cpe_name.Text.{attribute_name};
 ghost use Rattle.cpe_members.specs.Words.{kind_word, kind_of, note_kind_word, note_kind_of, mode_word, mode_of, operator_word, operator_of, truth_word, truth_of};
 
-use cpe_name::Attribute;
-use cpe_rows::{Kind, Mode, NoteKind, Operator, Truth};
+use cpe_rows::{Attribute, Kind, Mode, NoteKind, Operator, Truth};
 
 /// How an attribute is written (NIST IR 7695, 5).
 pub fn attribute_word(which: Attribute) -> &'static str

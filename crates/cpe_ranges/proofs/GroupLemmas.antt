@@ -5,16 +5,16 @@ use Rattle.std.specs.Option.{option_map_or}
 use Rattle.std.specs.Map.{lookup}
 use Rattle.std.specs.Str.{bytes_eq}
 use Rattle.std.proofs.lemmas.Bool.{and_parts, and_from}
-use Rattle.cpe_values.specs.declared.value.Edge.{Edge}
-use Rattle.cpe_values.specs.declared.value.Edge.TheVariants as edge
-use Rattle.cpe_values.specs.declared.value.Value.{Value}
-use Rattle.cpe_values.specs.declared.value.Value.TheVariants as value
-use Rattle.cpe_values.specs.Equal.{same_value-Decides}
-use Rattle.cpe_values.specs.Lower.{lower_value}
-use Rattle.cpe_values.specs.Parts.{Parts, parts, has_special, is_nothing}
-use Rattle.cpe_values.specs.Same.{same_value}
-use Rattle.cpe_name.specs.Eleven.{Values}
-use Rattle.cpe_name.specs.Lower.{IsLower}
+use Rattle.cpe_rows.specs.cpe_values.declared.value.Edge.{Edge}
+use Rattle.cpe_rows.specs.cpe_values.declared.value.Edge.TheVariants as edge
+use Rattle.cpe_rows.specs.cpe_values.declared.value.Value.{Value}
+use Rattle.cpe_rows.specs.cpe_values.declared.value.Value.TheVariants as value
+use Rattle.cpe_rows.specs.cpe_values.Equal.{same_value-Decides}
+use Rattle.cpe_rows.specs.cpe_values.Lower.{lower_value}
+use Rattle.cpe_rows.specs.cpe_values.Parts.{Parts, parts, has_special, is_nothing}
+use Rattle.cpe_rows.specs.cpe_values.Same.{same_value}
+use Rattle.cpe_rows.specs.cpe_name.Eleven.{Values}
+use Rattle.cpe_rows.specs.cpe_name.Lower.{IsLower}
 use Rattle.cpe_relation.specs.Matching.{lower}
 use Rattle.cpe_relation.specs.MatchTests.{begins_with, same_lower}
 use Rattle.cpe_relation.specs.NameRelation.{covers}

@@ -9,16 +9,16 @@ use Rattle.std.proofs.lemmas.List.Sums.{sum_by-cons, sum_by-append, position_or_
 use Rattle.std.proofs.lemmas.Map.Keys.{apart_from_distinct}
 use Rattle.std.proofs.lemmas.Option.{slice_get-map, slice_get_within, get_or_from_slice_get}
 use Rattle.std.proofs.lemmas.Slice.Eq.{bytes_eq-Decides}
-use Rattle.cpe_values.specs.declared.value.Value.{Value}
-use Rattle.cpe_values.specs.declared.value.Value.TheVariants as value
-use Rattle.cpe_values.specs.Equal.{same_value-Decides}
-use Rattle.cpe_values.specs.Same.{same_value}
-use Rattle.cpe_name.specs.Eleven.{Values}
+use Rattle.cpe_rows.specs.cpe_values.declared.value.Value.{Value}
+use Rattle.cpe_rows.specs.cpe_values.declared.value.Value.TheVariants as value
+use Rattle.cpe_rows.specs.cpe_values.Equal.{same_value-Decides}
+use Rattle.cpe_rows.specs.cpe_values.Same.{same_value}
+use Rattle.cpe_rows.specs.cpe_name.Eleven.{Values}
 use Rattle.cpe_ranges.specs.declared.advisory.Advisory.{Advisory}
 use Rattle.names_in_order.specs.Places.{rows_at}
 use Rattle.names_in_order.proofs.Rows.{rows_from}
-use Rattle.product_orders.specs.Elements.{SameElements}
-use Rattle.product_orders.proofs.Sums.{if_passes, sum_filter}
+use Rattle.name_index.specs.product_orders.Elements.{SameElements}
+use Rattle.name_index.proofs.product_orders.Sums.{if_passes, sum_filter}
 use Rattle.cpe_ranges.specs.Answers.{ids_affecting}
 use Rattle.cpe_ranges.specs.Found.{affecting_there, is_beside, own_group, passes_at, place_in, places_where}
 use Rattle.cpe_ranges.specs.Groups.{AreGrouped, Grouped, group, group_of, ids_in_group, is_in_group, is_plain}

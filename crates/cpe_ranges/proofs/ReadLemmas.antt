@@ -5,8 +5,8 @@ use Rattle.std.specs.Option.{option_map_or}
 use Rattle.std.proofs.lemmas.Bool.{and_from, and_parts}
 use Rattle.serde_json.specs.Data.{Data}
 use Rattle.serde_json.specs.Find.{as_str, get}
-use Rattle.cpe_name.specs.Eleven.{Values}
-use Rattle.cpe_uri.specs.EitherBinding.{read_any}
+use Rattle.cpe_rows.specs.cpe_name.Eleven.{Values}
+use Rattle.cpe_members.specs.cpe_uri.EitherBinding.{read_any}
 use Rattle.cpe_rows.specs.Names.{is_lower}
 use Rattle.cpe_rows.specs.Valid.{is_id}
 use Rattle.cpe_members.specs.FirstFault.{Yields}

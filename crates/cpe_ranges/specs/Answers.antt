@@ -1,7 +1,7 @@
 -- What the answer to a question is, and how many looks at names it may take.
 use Rattle.std.specs.Prelude.{ℕ, List, map, filter, option_map}
 use Rattle.std.specs.Option.{option_map_or}
-use Rattle.cpe_name.specs.Eleven.{Values}
+use Rattle.cpe_rows.specs.cpe_name.Eleven.{Values}
 use Rattle.names_in_order.specs.Places.{near_count}
 use Rattle.cpe_ranges.specs.Affected.{affects}
 use Rattle.cpe_ranges.specs.Rows.{AdviceRows, advisory_of}

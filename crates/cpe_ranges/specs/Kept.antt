@@ -1,8 +1,8 @@
 -- Advisories as they are kept: what they have beside their ids, by their ids.
 use Rattle.std.specs.Prelude.{◌≡◌, ◌≤◌, ℕ, List, map}
 use Rattle.std.specs.List.{AllByRecursion}
-use Rattle.cpe_name.specs.Eleven.{Values}
-use Rattle.cpe_name.specs.Lower.{IsLower}
+use Rattle.cpe_rows.specs.cpe_name.Eleven.{Values}
+use Rattle.cpe_rows.specs.cpe_name.Lower.{IsLower}
 use Rattle.cpe_ranges.specs.Rows.{AdviceRows}
 use Rattle.cpe_ranges.specs.Weight.{weight}
 use Rattle.cpe_ranges.specs.Step.{most}

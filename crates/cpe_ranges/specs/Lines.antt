@@ -2,7 +2,7 @@
 use Rattle.std.specs.Prelude.{ℕ, List, ◌++◌, length, codes, Option, Some, None}
 use Rattle.std.specs.List.{flat_map}
 use Rattle.std.specs.Fmt.{decimal}
-use Rattle.cpe_name.specs.Eleven.{Values}
+use Rattle.cpe_rows.specs.cpe_name.Eleven.{Values}
 use Rattle.cpe_fs.specs.Grammar.{fs_text}
 use Rattle.cpe_ranges.specs.declared.edit.AdviceReply.{AdviceReply}
 use Rattle.cpe_ranges.specs.declared.edit.AdviceReply.TheVariants.{Affected, Advisories}

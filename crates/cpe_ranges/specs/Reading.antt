@@ -2,8 +2,8 @@
 use Rattle.std.specs.Prelude.{ℕ, List, [], ◌∷◌, codes, Bool, Option, Some, None, option_map, option_and_then, Result, Ok, Err, ok_or}
 use Rattle.serde_json.specs.Data.{Data}
 use Rattle.serde_json.specs.Find.{as_str, get}
-use Rattle.cpe_name.specs.Eleven.{Values}
-use Rattle.cpe_uri.specs.EitherBinding.{read_any}
+use Rattle.cpe_rows.specs.cpe_name.Eleven.{Values}
+use Rattle.cpe_members.specs.cpe_uri.EitherBinding.{read_any}
 use Rattle.cpe_rows.specs.Valid.{is_id}
 use Rattle.cpe_members.specs.FirstFault.{◌>>=◌}
 use Rattle.cpe_members.specs.Forms.{or_default, tested, text_in, flag_in}

@@ -1,7 +1,7 @@
 -- What a line of a record says, and what it makes of the items and advisories.
 use Rattle.std.specs.Prelude.{ℕ, List, [], false, Ok, Err}
 use Rattle.std.specs.declared.result.Result.{Result}
-use Rattle.cpe_io.specs.Lines.{lines}
+use Rattle.cpe_session.specs.cpe_io.Lines.{lines}
 use Rattle.cpe_session.specs.Session.{Session, Saying, total_cost}
 use Rattle.cpe_ranges.specs.Rows.{AdviceRows, no_rows}
 use Rattle.cpe_ranges.specs.Step.{step}

@@ -2,8 +2,8 @@
 ghost use Rattle.std.specs.Prelude.{◌≡◌, ◌<◌, ℕ, List, [], ◌∷◌, ◌++◌, IfOk, IfNone, IfSome, IsOk, OnOk, OnErr, false, find, if◌then◌else◌, length, option_map, bytes_eq};
 ghost use Rattle.std.specs.List.{flat_map, list_any};
 ghost use Rattle.indexmap.specs.IndexMap.{keys, spare};
-ghost use Rattle.cpe_values.specs.declared.value.Value.{Value};
-ghost use Rattle.cpe_values.specs.Same.{same_value};
+ghost use Rattle.cpe_rows.specs.cpe_values.declared.value.Value.{Value};
+ghost use Rattle.cpe_rows.specs.cpe_values.Same.{same_value};
 ghost use Rattle.cpe_ranges.specs.Found.{affecting_there, is_beside, own_group, place_in, places_where};
 ghost use Rattle.cpe_ranges.specs.Groups.{AreGrouped, group, group_of, is_in_group, is_plain};
 ghost use Rattle.cpe_rows.specs.Prelude.{IsLower, without_first};
@@ -12,13 +12,11 @@ ghost use Rattle.cpe_ranges.specs.Kept.{advisory_from, advisories_in, AreLower};
 ghost use Rattle.cpe_ranges.specs.Affected.{affects};
 ghost use Rattle.cpe_ranges.specs.Rows.{has_id};
 
+use crate::advisory::{Advisory, Bound};
 use crate::groups::Groups;
 use crate::range::is_in_range;
-use crate::advisory::{Advisory, Bound};
-use cpe_name::{Attribute, Wfn};
 use cpe_relation::covers;
-use cpe_rows::{List, Text};
-use cpe_values::{Memory, Value};
+use cpe_rows::{Attribute, List, Memory, Text, Value, Wfn};
 use indexmap::IndexMap;
 use std::alloc::Global;
 use std::marker::Model;

@@ -1,6 +1,5 @@
 // Advisories.
-use cpe_name::Wfn;
-use cpe_rows::Text;
+use cpe_rows::{Text, Wfn};
 
 /// A bound of versions.
 #[derive(Debug, Drop)]

@@ -3,9 +3,7 @@ ghost use Rattle.std.specs.Prelude.{◌≡◌};
 ghost use Rattle.cpe_ranges.specs.declared.edit.AdviceFault.TheVariants as fault;
 
 use crate::advisory::Advisory;
-use cpe_name::Wfn;
-use cpe_rows::{List, Text};
-use cpe_values::Memory;
+use cpe_rows::{List, Memory, Text, Wfn};
 
 /// A change of the items or of the advisories.
 #[derive(Debug, Drop)]

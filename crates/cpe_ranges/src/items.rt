@@ -8,8 +8,7 @@ ghost use Rattle.names_in_order.specs.InOrder.{names_numbered, same_id};
 ghost use Rattle.names_in_order.specs.Owned.{AreOwn};
 
 use crate::view::ItemView;
-use cpe_name::Wfn;
-use cpe_values::Memory;
+use cpe_rows::{Memory, Wfn};
 use name_index::{NameId, NameTable};
 use names_in_order::{ChangingNames, add_name};
 use std::alloc::Global;

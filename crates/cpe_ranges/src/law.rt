@@ -1,6 +1,6 @@
 // Laws of edits.
 ghost use Rattle.std.specs.Prelude.{◌≡◌, ℕ, List, None};
-ghost use Rattle.cpe_name.specs.Eleven.{Values};
+ghost use Rattle.cpe_rows.specs.cpe_name.Eleven.{Values};
 ghost use Rattle.cpe_ranges.specs.Rows.{AdviceRows};
 ghost use Rattle.cpe_ranges.specs.Step.{after, full};
 

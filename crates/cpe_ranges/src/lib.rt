@@ -1,9 +1,7 @@
 //! Advisories over the items of an inventory: which items each affects, and which advisories affect a name.
 //!
-//! Advisories that name a product and a range of its versions, edits of them and of the items of an inventory, and questions
-//! about both; and the records that say these.
-//!
-//! The command that keeps advisories: which items they affect, line by line.
+//! An [`Advisory`] names a product and a range of its versions. [`Advisories`] keeps them and the items, from edit to edit.
+//! The records of edits and questions are lines of JSON, and [`advise`] is the command that answers them line by line.
 #![tactic(auto)]
 
 mod advised;

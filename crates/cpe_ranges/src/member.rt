@@ -3,7 +3,7 @@ ghost use Rattle.std.specs.Prelude.{◌≡◌};
 ghost use Rattle.cpe_ranges.specs.Reading.{key_of};
 ghost use Rattle.cpe_ranges.specs.declared.member.AdviceReadFault.TheVariants as fault;
 
-use cpe_values::Memory;
+use cpe_rows::Memory;
 
 /// A member of a record.
 #[derive(Debug, Clone, Copy, PartialEq, Eq)]

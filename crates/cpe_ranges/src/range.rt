@@ -1,11 +1,11 @@
 // Which versions are in a range, and which items an advisory affects.
 ghost use Rattle.std.specs.Prelude.{◌≡◌, ◌&&◌, not, true};
 ghost use Rattle.std.specs.Option.{option_map_or};
-ghost use Rattle.cpe_values.specs.Parts.{has_special};
+ghost use Rattle.cpe_rows.specs.cpe_values.Parts.{has_special};
 ghost use Rattle.cpe_ranges.specs.Affected.{passes, is_behind, is_before, meets, has_version_in, is_in_range};
 
 use crate::advisory::Bound;
-use cpe_values::{Pattern, Value};
+use cpe_rows::{Pattern, Value};
 use cpe_versions::version_cmp;
 use std::cmp::Ordering;
 

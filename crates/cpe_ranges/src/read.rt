@@ -2,19 +2,17 @@
 ghost use Rattle.std.specs.Prelude.{◌≡◌, IfOk, Err, Option, option_map, true};
 ghost use Rattle.serde_json.specs.View.{view};
 ghost use Rattle.cpe_members.specs.Forms.{text_in};
-ghost use Rattle.cpe_uri.specs.EitherBinding.{read_any};
+ghost use Rattle.cpe_members.specs.cpe_uri.EitherBinding.{read_any};
 ghost use Rattle.cpe_ranges.specs.Gives.{Gives};
 ghost use Rattle.cpe_ranges.specs.Reading.{advice_by, advice_of, advisory_in, bound_of, bounds_in, flag_at, id_at, key_of, name_at, named, record_kind_at, version_at, version_in, required};
 ghost use Rattle.cpe_ranges.specs.Valid.{is_valid_advice};
 
-use crate::record_kind::{RecordKind, record_kind_of};
+use crate::advisory::{Advisory, Bound};
 use crate::edit::{AdviceEdit, AdviceQuery};
 use crate::member::{AdviceMember, AdviceReadFault};
-use crate::advisory::{Advisory, Bound};
-use cpe_members::{flag_in, lowered, text_in, unbound, value_of};
-use cpe_name::Wfn;
-use cpe_rows::{Text, is_id};
-use cpe_uri::UriFault;
+use crate::record_kind::{RecordKind, record_kind_of};
+use cpe_members::{UriFault, flag_in, lowered, text_in, unbound, value_of};
+use cpe_rows::{Text, Wfn, is_id};
 use serde_json::Value;
 use std::alloc::Global;
 

@@ -2,10 +2,9 @@
 ghost use Rattle.std.specs.Prelude.{◌≡◌, ◌++◌, OnOk, codes, length, flat_map};
 ghost use Rattle.cpe_ranges.specs.Lines.{advisory_line, affected_text, count_end, item_line, name_text, reply_text};
 
-use cpe_fs::append_fs;
-use cpe_name::Wfn;
 use crate::edit::AdviceReply;
-use cpe_rows::{List, Text};
+use cpe_fs::append_fs;
+use cpe_rows::{List, Text, Wfn};
 use cpe_session::Page;
 use std::alloc::{AllocError, Global};
 

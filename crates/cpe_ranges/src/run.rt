@@ -6,11 +6,10 @@ ghost use Rattle.cpe_session.specs.Task.{task};
 ghost use Rattle.cpe_ranges.specs.Rows.{no_rows};
 ghost use Rattle.cpe_ranges.specs.Records.{advice_session, most_steps};
 
-use crate::speaker::Advise;
-use cpe_io::{Sink, Source};
 use crate::advisories::Advisories;
-use cpe_session::{Status, answer_from};
-use cpe_steps::Steps;
+use crate::speaker::Advise;
+use cpe_session::{Sink, Source, Status, answer_from};
+use name_index::Steps;
 use std::alloc::Global;
 use std::sync::ledger::Ledger;
 

@@ -6,15 +6,14 @@ ghost use Rattle.cpe_ranges.specs.Lines.{reply_text};
 ghost use Rattle.cpe_ranges.specs.Reasons.{reason_text};
 ghost use Rattle.cpe_ranges.specs.Records.{by_step, advice_session};
 
-use crate::reason::AdviceReason;
-use crate::reply::push_reply;
-use cpe_io::{Sink, SinkFault};
-use crate::read::{Advice, read_advice};
+use crate::advisories::Advisories;
 use crate::edit::{AdviceEdit, AdviceFault, AdviceQuery};
 use crate::member::AdviceReadFault;
-use crate::advisories::Advisories;
-use cpe_session::{Line, Page, Speaker};
-use cpe_steps::Steps;
+use crate::read::{Advice, read_advice};
+use crate::reason::AdviceReason;
+use crate::reply::push_reply;
+use cpe_session::{Line, Page, Sink, SinkFault, Speaker};
+use name_index::Steps;
 use std::alloc::{AllocError, Global};
 use std::sync::ledger::Ledger;
 

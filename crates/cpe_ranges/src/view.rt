@@ -5,11 +5,8 @@ ghost use Rattle.names_in_order.specs.Prelude.{AreInOrder, IsLower, looked_count
 ghost use Rattle.cpe_rows.specs.Prelude.{covers, is_same, Values};
 ghost use Rattle.cpe_inventory.specs.Slots.{names_kept};
 
-use cpe_name::Wfn;
-use cpe_rows::List;
-use cpe_steps::Steps;
-use cpe_values::Memory;
-use name_index::{NameId, NameTable};
+use cpe_rows::{List, Memory, Wfn};
+use name_index::{NameId, NameTable, Steps};
 use names_in_order::ChangingNames;
 use std::alloc::Global;
 use std::marker::Model;

@@ -7,3 +7,4 @@ pub mod ValidRecords
 pub mod Strings
 pub mod TestReads
 pub mod RecordReads
+pub use Rattle.cpe_members.proofs as cpe_members

@@ -10,8 +10,8 @@ use Rattle.serde_json.specs.Find.{as_object}
 use Rattle.serde_json.specs.Read.{read}
 use Rattle.cpe_records.specs.JsonTexts.{HasTexts}
 use Rattle.cpe_records.proofs.Values.{values_text}
-use Rattle.cpe_name.specs.Eleven.{Values}
-use Rattle.cpe_name.specs.Names.{IsName}
+use Rattle.cpe_rows.specs.cpe_name.Eleven.{Values}
+use Rattle.cpe_rows.specs.cpe_name.Names.{IsName}
 use Rattle.cpe_rows.specs.Date.{is_date}
 use Rattle.cpe_rows.specs.Formed.{IsDated, IsFormedEntry, IsFormedStatement}
 use Rattle.cpe_rows.specs.Valid.{is_id}

@@ -11,7 +11,7 @@ use Rattle.cpe_rows.specs.declared.edit.Edit.TheVariants as edit
 use Rattle.cpe_rows.specs.declared.edit.Query.{Query}
 use Rattle.cpe_rows.specs.declared.entry.Deprecation.{Deprecation}
 use Rattle.cpe_rows.specs.declared.entry.Entry.{Entry}
-use Rattle.cpe_name.specs.Eleven.{Values}
+use Rattle.cpe_rows.specs.cpe_name.Eleven.{Values}
 use Rattle.cpe_members.specs.FirstFault.{Yields}
 use Rattle.cpe_members.proofs.YieldLemmas.{then_yields, behind, tested_yields}
 use Rattle.cpe_members.proofs.LowerNames.{name_lower, successors_lower}

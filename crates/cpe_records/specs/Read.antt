@@ -1,6 +1,6 @@
 -- What is so of a record that is read.
 use Rattle.std.specs.List.{AllByRecursion}
-use Rattle.cpe_name.specs.Names.{IsName}
+use Rattle.cpe_rows.specs.cpe_name.Names.{IsName}
 use Rattle.cpe_rows.specs.FactNames.{fact_names}
 use Rattle.cpe_rows.specs.Formed.{IsFormed}
 use Rattle.cpe_rows.specs.declared.edit.Edit as edits

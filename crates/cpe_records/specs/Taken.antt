@@ -1,7 +1,7 @@
 -- Records that an engine takes.
 use Rattle.std.specs.Prelude.{Bool}
 use Rattle.std.specs.Prelude.{⊤}
-use Rattle.cpe_name.specs.Names.{IsName}
+use Rattle.cpe_rows.specs.cpe_name.Names.{IsName}
 use Rattle.cpe_rows.specs.Formed.{IsFormed}
 use Rattle.cpe_rows.specs.declared.edit.Query as queries
 use Rattle.cpe_rows.specs.declared.edit.Query.TheVariants as query

@@ -14,10 +14,9 @@ use cpe_members::{
     Format, Member, RecordFault, date_at, flag_or_false, kind_of, mode_of, name_at,
     provenance_or_empty, successors_at, test_at, text_at, text_of, text_or_empty, truth_of,
 };
-use cpe_name::Wfn;
 use cpe_rows::{
     CheckKey, Date, Deprecation, Edit, Entry, Kind, Mode, Provenance, Query, Statement, Text,
-    Truth, is_id,
+    Truth, Wfn, is_id,
 };
 use serde_json::Value;
 use std::alloc::Global;

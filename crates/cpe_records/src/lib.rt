@@ -1,13 +1,13 @@
 //! Records: lines of JSON that edit a dictionary and an inventory, or ask about them.
 //!
 //! A record is a JSON object. Its member `do` says what it asks for, and each kind has its own members, which are tested in one
-//! order: the first that fails is the fault. Members that a kind does not know are passed over, and of members that stand twice
-//! the last counts. A member that may be absent has a default; where it is there, it has its form or is refused, `null` too. Names
+//! order: the first that fails is the fault. A member that the kind does not know is ignored, and of members of one name the
+//! last counts. A member that may be absent has a default. If it is there, it has its form or is refused, `null` too. Names
 //! are URIs or formatted strings, and are put in lower case.
 //!
-//! A record whose member `v` is the text `2` is of the second format, and one without `v` of the first. In the second a name may be an
-//! object too: its members are attributes, each with the component that its value has in a formatted string, and an absent one is
-//! ANY. `v` is tested right after `do`.
+//! A record whose member `v` is the text `2` is of the second format, and one without `v` of the first. In the second a name may
+//! be an object too: its members are attributes, each with the component that its value has in a formatted string, and an absent
+//! one is ANY. `v` is tested right after `do`.
 //!
 //! | `do` | Members in order |
 //! |---|---|
@@ -24,11 +24,10 @@
 //! | `verdict` | `id` |
 //!
 //! The `id` of a statement has 1 to 256 visible characters of ASCII; `system`, `href` and `id` of a check are any texts. The form
-//! of `test`, the test of a statement, stands at `cpe_members`, and the written form of a record at `written_records`.
+//! of a statement's `test` is described at `cpe_members`, and the written form of a record at `written_records`.
 //!
-//! Texts in JSON (RFC 8259): the strings of a value that is read of UTF-8 are UTF-8, and so is what is printed of such strings.
-//!
-//! These are laws of the definitions by which the kit's `serde_json` reads, and its `json` prints.
+//! [`json_law`] has laws of the kit's JSON (RFC 8259): the strings of a value that was read of UTF-8 are UTF-8, and so is what
+//! is printed of such strings.
 #![tactic(auto)]
 
 pub mod json_law;

@@ -4,7 +4,7 @@ use Rattle.std.specs.Prelude.{if◌then◌else◌, Option, Some, None, option_ma
 use Rattle.std.specs.List.{cons_option, filter_map, range_with_len}
 use Rattle.std.specs.Option.{option_map_or}
 use Rattle.std.proofs.lemmas.Option.{slice_get-map, slice_get_within}
-use Rattle.cpe_name.specs.Eleven.{Values}
+use Rattle.cpe_rows.specs.cpe_name.Eleven.{Values}
 use Rattle.cpe_rows.specs.Chains.{chain, ends, is_active, leads_to}
 use Rattle.cpe_rows.specs.Rows.{is_named}
 use Rattle.cpe_rows.specs.declared.entry.Entry.{Entry}
@@ -14,7 +14,7 @@ use Rattle.names_in_order.specs.InOrder.{AreLive as AreLiveAt}
 use Rattle.names_in_order.specs.Places.{rows_at}
 use Rattle.names_in_order.proofs.Rows.{rows_from}
 use Rattle.fact_laws.specs.Shown.{names_at}
-use Rattle.deprecation_graph.proofs.Rising.{Contains-filter_range, filter_range_rising, same_rising}
+use Rattle.cpe_dictionary.proofs.deprecation_graph.Rising.{Contains-filter_range, filter_range_rising, same_rising}
 use Rattle.cpe_dictionary.specs.Numbers.{entries_at}
 use Rattle.cpe_dictionary.specs.Kept.{entries_in, FitsTable, Stored, names_at as entry_names_at}
 use Rattle.cpe_dictionary.specs.Plans.{ends_at, ends_by}

@@ -4,7 +4,7 @@ use Rattle.std.specs.Prelude.{IsSome, IfOk, Result, Ok, Err, OnOk, OnErr}
 use Rattle.std.specs.List.{list_any}
 use Rattle.std.proofs.lemmas.Option.{none-some, same_Some}
 use Rattle.std.proofs.lemmas.List.{length-map}
-use Rattle.cpe_name.specs.Eleven.{Values}
+use Rattle.cpe_rows.specs.cpe_name.Eleven.{Values}
 use Rattle.name_index.specs.declared.table.NameId.{NameId}
 use Rattle.name_index.specs.Index.{name_id}
 use Rattle.name_index.specs.Table.{AreNames, find_kept, HasName, Holds, IsLive, Kept, kept_at, kept_or, Names, Releases}
@@ -18,7 +18,7 @@ use Rattle.cpe_rows.specs.Names.{is_same}
 use Rattle.cpe_rows.specs.Rows.{is_named}
 use Rattle.cpe_rows.specs.declared.entry.Entry.{Entry}
 use Rattle.cpe_dictionary.specs.Kept.{entries_in, entries_of, FitsTable, IsKept, names_of, Stored}
-use Rattle.entries_in_order.proofs.EntryLemmas.{names_are}
+use Rattle.cpe_dictionary.proofs.entries_in_order.EntryLemmas.{names_are}
 use Rattle.cpe_registry.specs.Moved.{NameHeld}
 use Rattle.cpe_registry.specs.Registered.{AreFitting, AreHeld, Registered, registered}
 use Rattle.cpe_registry.proofs.HeldLemmas.{second_stands, third_stands}

@@ -1,13 +1,13 @@
 -- What is so of a registry after a change of it.
 use Rattle.std.specs.Prelude.{◌≡◌, ◌∷◌, ◌++◌, [], List, Option, Result, IfOk, IfErr, OnOk, OnErr}
-use Rattle.cpe_name.specs.Eleven.{Values}
+use Rattle.cpe_rows.specs.cpe_name.Eleven.{Values}
 use Rattle.cpe_rows.specs.Lawful.{IsDictionary}
 use Rattle.cpe_rows.specs.declared.entry.Deprecation.{Deprecation}
 use Rattle.cpe_rows.specs.declared.entry.Entry.{Entry}
 use Rattle.name_index.specs.declared.table.NameId.{NameId}
 use Rattle.name_index.specs.Table.{Holds, IsLive}
-use Rattle.deprecation_graph.specs.declared.fill_fault.FillFault.{FillFault}
-use Rattle.deprecation_graph.specs.declared.fill_fault.FillFault.TheVariants as fault
+use Rattle.cpe_dictionary.specs.deprecation_graph.declared.fill_fault.FillFault.{FillFault}
+use Rattle.cpe_dictionary.specs.deprecation_graph.declared.fill_fault.FillFault.TheVariants as fault
 use Rattle.cpe_dictionary.specs.Given.{each_deprecated}
 use Rattle.cpe_registry.specs.Given.{KeepsHolds}
 use Rattle.cpe_registry.specs.Registered.{AreHeld, name_in, Registered}

@@ -1,7 +1,7 @@
 -- A registry: one table of names, of which entries (NIST IR 7697) and items (NIST IR 7698) keep numbers.
 use Rattle.std.specs.Prelude.{◌≡◌, ◌∷◌, ◌++◌, [], Bool, List, filter, if◌then◌else◌, map}
 use Rattle.std.specs.List.{AllByRecursion, list_any}
-use Rattle.cpe_name.specs.Eleven.{Values}
+use Rattle.cpe_rows.specs.cpe_name.Eleven.{Values}
 use Rattle.cpe_rows.specs.Chains.{leads_to}
 use Rattle.cpe_rows.specs.Names.{is_same}
 use Rattle.cpe_rows.specs.Rows.{is_named}
@@ -9,7 +9,7 @@ use Rattle.cpe_rows.specs.declared.entry.Entry.{Entry}
 use Rattle.name_index.specs.declared.table.NameId.{NameId}
 use Rattle.name_index.specs.Table.{IsLive, Names, kept_at}
 use Rattle.names_in_order.specs.InOrder.{AreLive as AreLiveAt, names_numbered}
-use Rattle.product_orders.specs.Elements.{SameElements}
+use Rattle.name_index.specs.product_orders.Elements.{SameElements}
 use Rattle.fact_laws.specs.Shown.{Shows, holds_in, names_at}
 use Rattle.cpe_dictionary.specs.Kept.{entries_in, FitsTable, names_of, Stored}
 

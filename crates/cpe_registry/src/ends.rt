@@ -11,7 +11,7 @@ ghost use Rattle.cpe_registry.specs.Registered.{AreLive, items_leading, name_in}
 
 use crate::registry::Registry;
 use cpe_dictionary::Plan;
-use cpe_values::Memory;
+use cpe_rows::Memory;
 use name_index::NameId;
 use std::alloc::Global;
 use std::slice::from_ref;

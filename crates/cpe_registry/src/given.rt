@@ -3,8 +3,8 @@ ghost use Rattle.std.specs.Prelude.{◌≡◌, length};
 ghost use Rattle.cpe_registry.specs.Moved.{AllDeprecated};
 
 use crate::registry::Registry;
+use cpe_dictionary::FillFault;
 use cpe_rows::{Deprecation, List};
-use deprecation_graph::FillFault;
 
 impl Registry {
     /// Gives each entry the deprecation at its place, or none, all at once, in the place of what it had; names and notes stay. It costs

@@ -4,9 +4,7 @@ ghost use Rattle.cpe_inventory.specs.Slots.{names_kept};
 ghost use Rattle.cpe_registry.specs.Registered.{AreLive, PutsItemsInOrder};
 
 use crate::registry::Registry;
-use cpe_name::Wfn;
-use cpe_rows::List;
-use cpe_values::Memory;
+use cpe_rows::{List, Memory, Wfn};
 use name_index::{NameId, NameTable};
 use std::alloc::Global;
 

@@ -16,4 +16,6 @@ mod given;
 mod items;
 mod registry;
 
+pub use cpe_dictionary::FillFault;
+pub use cpe_inventory::Checks;
 pub use registry::Registry;

@@ -13,9 +13,7 @@ ghost use Rattle.cpe_registry.specs.Registered.{AreHeld, AreLive, name_in};
 
 use cpe_dictionary::{Dictionary, KeptDictionary, Plan};
 use cpe_inventory::ItemSlots;
-use cpe_name::Wfn;
-use cpe_rows::{Deprecation, EntryRef, Note, Provenance, Text};
-use cpe_values::Memory;
+use cpe_rows::{Deprecation, EntryRef, Memory, Note, Provenance, Text, Wfn};
 use name_index::{NameId, NameTable};
 use names_in_order::{MarkedNumbers, PushNumber};
 use std::alloc::Global;

@@ -11,3 +11,4 @@ pub mod Order
 pub mod Near
 pub mod Maybe
 pub mod Prelude
+pub use Rattle.cpe_values.specs as cpe_values

@@ -1,42 +1,35 @@
-//! The relation of two names (NIST IR 7696): of each attribute, of the names as a whole, and whether one name covers
-//! the other. Letters are compared in lower case. No call but [`deciding_order`] takes memory, and each answers for any two
-//! values or names.
+//! The relation of two names (NIST IR 7696): of each attribute, of the names as a whole, and whether one name covers the
+//! other. Letters are compared in lower case. Each call answers for any two values or names. Only [`deciding_order`] takes
+//! memory.
 //!
-//! [`compare_values`] is the table of the report. A source that is a pattern, a text with `*` or `?` before or after its
-//! body, matches a plain text where that is some characters that the lead allows, the body, and some that the trail
-//! allows: nothing allows none, `*` any number, and so many `?` at most so many. So `sp??` matches `sp`, `sp1` and
-//! `sp12`. Every such split is found: `*ab` matches `abab`.
+//! [`compare_values`] is the report's table. A source that is a pattern has `*` or `?` before or after its body. It matches
+//! a plain text that consists of characters which the lead allows, the body, and characters which the trail allows. `*`
+//! allows any number of characters, `??` at most two, and nothing allows none. So `sp??` matches `sp`, `sp1` and `sp12`.
+//! Every such split is found: `*ab` matches `abab`.
 //!
 //! [`compare_borrowed`] does the same for values whose text lies elsewhere, as in a line, and [`compare_lent`] for names of
-//! such values; relations that were found one by one are put into [`Relations`], of
-//! which [`relation_of_names`] makes the relation of the names.
+//! such values. [`relation_of_names`] makes the relation of two names of the relations of their attributes ([`Relations`]).
 //!
-//! A name that is asked of many targets is compared by [`covers_in_order`]: [`deciding_order`] finds once which of its
-//! attributes soonest decide, and most targets are then told by one of them.
+//! If a name is compared with many targets, [`covers_in_order`] compares the deciding attributes first.
+//! [`deciding_order`] finds their order once.
 //!
-//! [`near`] compares products alone, and more coarsely: a name covers no name to whose product its own is not near, and which
-//! products are near is found by the prefixes and the ends of their texts.
+//! [`near`] compares products alone, and more coarsely: a name covers no name to whose product its own is not near. The
+//! products near to one are found by the prefixes and the ends of their texts.
 //!
-//! A target whose attributes are known only in part has specials. No name covers it, but [`maybe`] tells whether a name may
-//! cover it: no attribute speaks against it, and one is UNDEFINED.
+//! A target whose attributes are known only in part has specials. No name covers it, but a name may cover it ([`maybe`]):
+//! no attribute is DISJOINT, and one is UNDEFINED.
 //!
-//! Some laws are stated as functions that do nothing: [`one_relation`](law::one_relation), [`cover_laws`](law::cover_laws),
-//! [`relation_laws`](law::relation_laws) and [`maybe_laws`](law::maybe_laws).
-//! What does not hold:
-//! - `8.*` against itself is UNDEFINED, as each attribute is whose target has a special; so [`covers`] is not reflexive
-//!   where there are specials.
-//! - With specials, a relation tells nothing of the other way round. `8.*` to `8.0` is SUPERSET, but `8.0` to `8.*`
-//!   UNDEFINED; `sp??` to `sp123` is DISJOINT, and back UNDEFINED; NA to `8.*` is UNDEFINED, and back DISJOINT.
+//! Some laws are functions without effect: [`one_relation`](law::one_relation), [`cover_laws`](law::cover_laws),
+//! [`relation_laws`](law::relation_laws) and [`maybe_laws`](law::maybe_laws). Two things do not hold:
+//! - [`covers`] is not reflexive for names with specials. `8.*` against itself is UNDEFINED, as each attribute is whose
+//!   target has a special.
+//! - With specials, a relation does not give the relation of the swapped names. `8.*` to `8.0` is SUPERSET, but `8.0` to
+//!   `8.*` UNDEFINED. `sp??` to `sp123` is DISJOINT, and swapped UNDEFINED.
 //!
-//! Whether a body stands in a text, letters without regard to case, at a place within bounds.
-//!
-//! The search is the Two-Way algorithm (Crochemore and Perrin, "Two-way string-matching", Journal of the ACM 38, 1991).
-//! It takes no memory, neither for the body nor for a copy in lower case. In the worst case it compares a number of
-//! bytes that is linear in the text and the body together, also where both are periodic, as `aaaa` in `aaaaaaaa`; where
-//! each place is tried by itself, the worst case is their product. So places are tried by themselves only where the
-//! body is short or the places are few, which is linear too, and faster there, since nothing is prepared. The bound on
-//! the comparisons is a known property of the algorithm: no clause tells it. What is proved is the answer, and that
-//! there always is one.
+//! A body is found in a text by the Two-Way algorithm (Crochemore and Perrin, "Two-way string-matching", Journal of the ACM
+//! 38, 1991; `standing`). It takes no memory, and the number of bytes that it compares is linear in the text and the body
+//! together. Each place is tried by itself if the body is short or the places are few. The bound is a known property of the
+//! algorithm, and no clause says it. What is proved is the answer.
 #![tactic(auto)]
 
 mod above;
@@ -54,6 +47,7 @@ mod seen;
 mod standing;
 mod table;
 
+pub use cpe_values::{Edge, Memory, Pattern, Value};
 pub use names::{compare_lent, compare_names, covers};
 pub use nearness::near;
 pub use order::{covers_in_order, deciding_order};

@@ -1,1 +1,2 @@
 pub mod ChainTexts
+pub use Rattle.cpe_session.proofs.cpe_io as cpe_io

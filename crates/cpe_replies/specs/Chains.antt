@@ -1,7 +1,7 @@
 -- The lines of a chain, by its entries.
 use Rattle.std.specs.Prelude.{◌++◌, ℕ, List, [], codes, filter, if◌then◌else◌, length, nat_eq}
 use Rattle.std.specs.List.{flat_map}
-use Rattle.cpe_name.specs.Eleven.{Values}
+use Rattle.cpe_rows.specs.cpe_name.Eleven.{Values}
 use Rattle.cpe_rows.specs.Answers.{row_of}
 use Rattle.cpe_rows.specs.Chains.{is_active}
 use Rattle.cpe_rows.specs.Lent.{entry_lent}

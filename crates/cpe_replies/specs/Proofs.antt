@@ -3,8 +3,8 @@ use Rattle.std.specs.Prelude.{ℕ, List, ◌++◌, codes}
 use Rattle.std.specs.List.{flat_map}
 use Rattle.cpe_rows.specs.Rows.{Rows}
 use Rattle.cpe_rows.specs.declared.statement.Statement.{Statement}
-use Rattle.checked_certificates.specs.declared.proof.Checked.{Checked}
-use Rattle.checked_certificates.specs.declared.proof.Checked.TheVariants.{Holds, Fails, Absent}
+use Rattle.cpe_explain.specs.checked_certificates.declared.proof.Checked.{Checked}
+use Rattle.cpe_explain.specs.checked_certificates.declared.proof.Checked.TheVariants.{Holds, Fails, Absent}
 use Rattle.cpe_explain.specs.Choices.{certificate}
 use Rattle.proof_lines.specs.Written.{proof_text}
 

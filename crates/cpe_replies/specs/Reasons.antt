@@ -5,7 +5,7 @@ use Rattle.cpe_rows.specs.declared.fault.EditFault.{EditFault}
 use Rattle.cpe_rows.specs.declared.fault.EditFault.TheVariants as edit
 use Rattle.cpe_rows.specs.declared.fault.Which.{Which}
 use Rattle.cpe_rows.specs.declared.fault.Which.TheVariants.{Entries, Items, Statements, Facts, Checks, Weight}
-use Rattle.cpe_name.specs.Text.{attribute_name}
+use Rattle.cpe_rows.specs.cpe_name.Text.{attribute_name}
 use Rattle.cpe_members.specs.Keys.{key_of}
 use Rattle.cpe_members.specs.declared.member.NameSpot.{NameSpot}
 use Rattle.cpe_members.specs.declared.member.NameSpot.TheVariants.{Name, Successor, Fact}

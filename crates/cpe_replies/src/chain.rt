@@ -11,8 +11,7 @@ ghost use Rattle.cpe_replies.specs.Replies.{reply_text};
 
 use crate::reply::push_chain;
 use crate::row::{push_name_line, push_state_line};
-use cpe_name::Wfn;
-use cpe_rows::{Deprecation, EntryRef, State};
+use cpe_rows::{Deprecation, EntryRef, State, Wfn};
 use cpe_session::Page;
 use std::alloc::{AllocError, Global};
 

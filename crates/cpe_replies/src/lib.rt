@@ -11,6 +11,7 @@ mod row;
 
 pub use chain::push_chain_lent;
 pub use change::push_change;
+pub use cpe_session::{LONGEST, Page, Reason, Stateless};
 pub use proof::{push_checked, push_proof};
 pub use reason::{RecordReason, push_record_fault};
 pub use reply::{push_reply, push_verdict};

@@ -3,7 +3,7 @@ ghost use Rattle.std.specs.Prelude.{◌≡◌, ◌++◌, OnOk, codes};
 ghost use Rattle.proof_lines.specs.Written.{proof_text};
 ghost use Rattle.cpe_replies.specs.Proofs.{checked_word, checked_line};
 
-use checked_certificates::{Checked, Proof};
+use cpe_explain::{Checked, Proof};
 use cpe_session::Page;
 use proof_lines::write_proof;
 use std::alloc::{AllocError, Global};

@@ -5,8 +5,7 @@ ghost use Rattle.cpe_replies.specs.Reasons.{spot_text, record_fault_text, which_
 
 use crate::row::push_name;
 use cpe_members::{Member, NameSpot, RecordFault, attribute_word};
-use cpe_name::{Attribute, Wfn};
-use cpe_rows::{EditFault, Which};
+use cpe_rows::{Attribute, EditFault, Wfn, Which};
 use cpe_session::{Page, Reason};
 use proof_lines::ProofFault;
 use std::alloc::{AllocError, Global};

@@ -5,8 +5,7 @@ ghost use Rattle.written_records.specs.Written.{entry_text};
 
 use crate::row::{push_name, push_names, push_rows, push_state};
 use cpe_members::truth_word;
-use cpe_name::Wfn;
-use cpe_rows::{Entry, Reply, State, Truth};
+use cpe_rows::{Entry, Reply, State, Truth, Wfn};
 use cpe_session::Page;
 use std::alloc::{AllocError, Global};
 use written_records::append_entry;

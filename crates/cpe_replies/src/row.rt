@@ -4,10 +4,8 @@ ghost use Rattle.cpe_replies.specs.Replies.{state_word, name_text, name_line, ro
 
 use cpe_fs::append_fs;
 use cpe_members::kind_word;
-use cpe_name::Wfn;
-use cpe_rows::{Row, State};
+use cpe_rows::{Memory, Row, State, Wfn};
 use cpe_session::Page;
-use cpe_values::Memory;
 use std::alloc::{AllocError, Global};
 
 /// Puts the formatted string of a name after what is gathered.

@@ -32,3 +32,4 @@ pub mod DeprecationChanges
 pub mod EntryChanges
 pub mod Untouched
 pub mod Differing
+pub use Rattle.cpe_name.proofs as cpe_name

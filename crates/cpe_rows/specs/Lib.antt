@@ -28,3 +28,7 @@ pub mod Lawful
 pub mod Accepted
 pub mod Prelude
 pub mod Touching
+pub use Rattle.cpe_name.specs as cpe_name
+pub use Rattle.cpe_values.specs as cpe_values
+pub use Rattle.cpe_relation.specs as cpe_relation
+pub use Rattle.cpe_fs.specs as cpe_fs

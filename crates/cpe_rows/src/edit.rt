@@ -4,14 +4,14 @@ ghost use Rattle.std.specs.List.{list_all};
 ghost use Rattle.cpe_rows.specs.Names.{is_lower};
 ghost use Rattle.cpe_rows.specs.Valid.{is_valid_edit, is_valid_query, is_id, is_visible, is_statement_test};
 
-use crate::test::{CheckKey, Test};
 use crate::date::Date;
 use crate::entry::{Deprecation, Entry};
 use crate::limits::{MOST_ID_BYTES, MOST_LEVELS};
+use crate::names::is_lower;
 use crate::statement::Statement;
+use crate::test::{CheckKey, Test};
 use crate::text::Text;
 use crate::truth::Truth;
-use crate::names::is_lower;
 use cpe_name::Wfn;
 
 /// A change of the rows.

@@ -5,12 +5,8 @@
 //! answers and which verdict a statement has: [`Edit`], [`Query`], [`Reply`] and [`EditFault`] are what they speak of.
 //! An engine above keeps the rows.
 //!
-//! What an edit touches, and what it leaves as it was.
-//!
-//! An edit of the rows of a dictionary and of an inventory (`cpe_rows`) changes the verdicts of few statements. The laws say what it
-//! can't touch: a test of which no fact reference and no check reference is touched keeps its truth ([`untouched_tests_stay`]). What
-//! each edit touches is told by [`items_touch`], [`checks_touch`] and [`deprecations_touch`]; an entry that is added touches nothing
-//! ([`entries_change_nothing`]). All of it together is [`untouched_verdicts_stay`].
+//! An edit changes the verdicts of few statements. The laws of [`touching`] say which: a test of which no fact reference and
+//! no check reference is touched keeps its truth.
 #![tactic(auto)]
 
 mod boxed;
@@ -36,6 +32,8 @@ mod truth;
 
 pub use boxed::BoxedName;
 pub use counts::Counts;
+pub use cpe_name::{ATTRIBUTES, Attribute, NameRef, Wfn};
+pub use cpe_values::{Edge, Memory, Pattern, Value, ValueRef};
 pub use date::Date;
 pub use edit::{Edit, Query, is_id};
 pub use entry::{Deprecation, Entry, Kind, Note, NoteKind, Provenance, copy_of_deprecation};

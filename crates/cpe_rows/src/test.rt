@@ -4,8 +4,8 @@ ghost use Rattle.cpe_rows.specs.Shape.{depth_of, is_sound};
 
 use crate::boxed::BoxedName;
 use crate::list::List;
-use crate::text::Text;
 use crate::names::is_lower;
+use crate::text::Text;
 use cpe_values::Memory;
 use std::alloc::Global;
 

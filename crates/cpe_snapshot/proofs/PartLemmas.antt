@@ -3,7 +3,7 @@ use Rattle.std.proofs.Common.{◌≡◌, subst, refl, ap, ℕ, Bool, true, false
 use Rattle.std.specs.Prelude.{if◌then◌else◌}
 use Rattle.std.specs.Str.{is_utf8, IsUtf8}
 use Rattle.std.proofs.lemmas.Str.{IsUtf8-from_is_utf8, is_utf8-from_IsUtf8}
-use Rattle.cpe_name.specs.Eleven.{Values}
+use Rattle.cpe_rows.specs.cpe_name.Eleven.{Values}
 use Rattle.cpe_fs.specs.Grammar.{Fs, IsFs, Refuses}
 use Rattle.cpe_fs.specs.declared.FsFault.{FsFault}
 use Rattle.cpe_fs.specs.declared.FsFault.TheVariants as fs_fault

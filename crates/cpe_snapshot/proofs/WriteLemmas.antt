@@ -1,7 +1,7 @@
 -- What is written part after part.
 use Rattle.std.proofs.Common.{◌≡◌, sym, ◌∙◌, ap, ℕ, ◌/◌, ◌%◌, Bool, List, [], ◌∷◌, ◌++◌, length, arith, append_assoc}
 use Rattle.std.specs.List.{flat_map}
-use Rattle.cpe_name.specs.Eleven.{Values}
+use Rattle.cpe_rows.specs.cpe_name.Eleven.{Values}
 use Rattle.cpe_rows.specs.declared.test.CheckKey.{CheckKey}
 use Rattle.cpe_rows.specs.declared.test.Operator.{Operator}
 use Rattle.cpe_rows.specs.declared.test.Test.{Test, Logic, Fact, Check}

@@ -1,10 +1,10 @@
 -- Rows for small cases, and their bytes written out.
 use Rattle.std.specs.Prelude.{ℕ, List, [], ◌∷◌, ◌++◌, codes, Some, None}
-use Rattle.cpe_values.specs.declared.value.Value.{Value}
-use Rattle.cpe_values.specs.declared.value.Value.TheVariants as value
-use Rattle.cpe_values.specs.declared.value.Edge.TheVariants as edge
-use Rattle.cpe_name.specs.Eleven.{Values}
-use Rattle.cpe_name.specs.Names.{any_values}
+use Rattle.cpe_rows.specs.cpe_values.declared.value.Value.{Value}
+use Rattle.cpe_rows.specs.cpe_values.declared.value.Value.TheVariants as value
+use Rattle.cpe_rows.specs.cpe_values.declared.value.Edge.TheVariants as edge
+use Rattle.cpe_rows.specs.cpe_name.Eleven.{Values}
+use Rattle.cpe_rows.specs.cpe_name.Names.{any_values}
 use Rattle.cpe_rows.specs.Rows.{Rows, no_rows}
 use Rattle.cpe_rows.specs.declared.entry.Entry.{Entry}
 use Rattle.cpe_rows.specs.declared.entry.NoteKind.TheVariants as note

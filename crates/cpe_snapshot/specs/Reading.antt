@@ -2,7 +2,7 @@
 use Rattle.std.specs.Prelude.{nat_le, ◌&&◌, ◌≡◌, ℕ, zero, suc, ◌==◌, List, [], ◌∷◌, length, take, drop, Bool, true, false, Option, Some, None, Result, Ok, Err, nat_lt, slice_get, if◌then◌else◌}
 use Rattle.std.specs.Str.{is_utf8, bytes_eq}
 use Rattle.std.specs.Int.{w32, from_be_bytes}
-use Rattle.cpe_name.specs.Eleven.{Values}
+use Rattle.cpe_rows.specs.cpe_name.Eleven.{Values}
 use Rattle.cpe_fs.specs.Unbound.{read_fs}
 use Rattle.cpe_rows.specs.Date.{is_date}
 use Rattle.cpe_rows.specs.Names.{is_lower}

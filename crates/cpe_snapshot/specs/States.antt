@@ -3,7 +3,7 @@ use Rattle.std.specs.Prelude.{position, ◌≡◌, ◌+◌, ◌≤◌, ℕ, suc,
 use Rattle.std.specs.Option.{option_map}
 use Rattle.std.specs.List.{AllByRecursion, flat_map}
 use Rattle.std.specs.Str.{is_utf8}
-use Rattle.cpe_name.specs.Eleven.{Values}
+use Rattle.cpe_rows.specs.cpe_name.Eleven.{Values}
 use Rattle.cpe_rows.specs.Rows.{Rows, is_named}
 use Rattle.cpe_rows.specs.Lawful.{IsLawful}
 use Rattle.cpe_rows.specs.Weight.{weight}

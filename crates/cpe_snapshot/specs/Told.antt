@@ -3,8 +3,8 @@
 use Rattle.std.specs.Prelude.{nat_le, ◌≡◌, ◌⊎◌, ℕ, suc, zero, ◌<◌, ◌^◌, List, length, true, Option, Some, None, Result, Ok, Err}
 use Rattle.std.specs.Str.{is_utf8}
 use Rattle.std.specs.List.{AllByRecursion}
-use Rattle.cpe_name.specs.Eleven.{Values}
-use Rattle.cpe_name.specs.Names.{IsName}
+use Rattle.cpe_rows.specs.cpe_name.Eleven.{Values}
+use Rattle.cpe_rows.specs.cpe_name.Names.{IsName}
 use Rattle.cpe_fs.specs.Grammar.{fs_text}
 use Rattle.cpe_rows.specs.Date.{is_date}
 use Rattle.cpe_rows.specs.Names.{is_lower}

@@ -2,7 +2,7 @@
 ghost use Rattle.std.specs.Prelude.{◌≡◌};
 ghost use Rattle.cpe_snapshot.specs.declared.fault.LoadFault.TheVariants.{Memory as OutOfMemory};
 
-use cpe_values::Memory;
+use cpe_rows::Memory;
 
 /// Why no rows are read from bytes.
 #[derive(Debug, Clone, Copy, PartialEq, Eq)]

@@ -7,8 +7,7 @@ use crate::cursor::Cursor;
 use crate::fault::LoadFault;
 use crate::parts::many;
 use crate::rows::{KeptResult, PlacedEntry, PlacedRows};
-use cpe_name::Wfn;
-use cpe_rows::{MOST_CHECKS, MOST_ENTRIES, MOST_ITEMS, MOST_STATEMENTS, Statement};
+use cpe_rows::{MOST_CHECKS, MOST_ENTRIES, MOST_ITEMS, MOST_STATEMENTS, Statement, Wfn};
 use std::alloc::Global;
 
 /// How many rows of each kind there are.

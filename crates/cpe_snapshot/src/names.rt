@@ -1,12 +1,11 @@
 // The names that places mean.
 ghost use Rattle.std.specs.Prelude.{◌≡◌, List, IfOk, IfErr};
-ghost use Rattle.cpe_name.specs.Eleven.{Values};
+ghost use Rattle.cpe_rows.specs.cpe_name.Eleven.{Values};
 ghost use Rattle.cpe_snapshot.specs.States.{AreNamed};
 
 use crate::fault::LoadFault;
 use crate::rows::PlacedEntry;
-use cpe_name::Wfn;
-use cpe_rows::List;
+use cpe_rows::{List, Wfn};
 use std::alloc::Global;
 
 /// The names of the entries at these places, one by one, as copies.

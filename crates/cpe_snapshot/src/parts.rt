@@ -8,8 +8,7 @@ ghost use Rattle.cpe_snapshot.specs.Reading.{Took, counted_at, text_at, name_at,
 use crate::cursor::Cursor;
 use crate::fault::LoadFault;
 use cpe_fs::{FsFault, read_fs_is, unbind_fs};
-use cpe_name::Wfn;
-use cpe_rows::{List, Text, is_lower};
+use cpe_rows::{List, Text, Wfn, is_lower};
 use std::alloc::Global;
 
 /// A part of rows that is read from bytes.

@@ -6,8 +6,7 @@ use crate::cursor::Cursor;
 use crate::fault::LoadFault;
 use crate::parts::{Part, list, name, text};
 use crate::rows::{KeptResult, PlacedDeprecation, PlacedEntry};
-use cpe_name::Wfn;
-use cpe_rows::{CheckKey, Date, Kind, Note, NoteKind, Provenance, Text, Truth};
+use cpe_rows::{CheckKey, Date, Kind, Note, NoteKind, Provenance, Text, Truth, Wfn};
 use std::alloc::Global;
 
 // ---- bytes of kinds

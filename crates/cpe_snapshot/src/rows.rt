@@ -1,6 +1,5 @@
 // Rows as a snapshot has them: an entry's successors are places in the list of entries.
-use cpe_name::Wfn;
-use cpe_rows::{CheckKey, Kind, List, Provenance, Statement, Text, Truth};
+use cpe_rows::{CheckKey, Kind, List, Provenance, Statement, Text, Truth, Wfn};
 
 /// That an entry is deprecated, with its successors by their places.
 #[derive(Debug, Drop)]

@@ -7,11 +7,10 @@ ghost use Rattle.cpe_snapshot.specs.declared.rows.PlacedEntry.{PlacedEntry};
 ghost use Rattle.cpe_snapshot.specs.declared.rows.KeptResult.{KeptResult};
 
 use cpe_fs::{append_fs, fs_len};
-use cpe_name::Wfn;
 use cpe_rows::{
-    CheckKey, Kind, Mode, Note, NoteKind, Operator, Provenance, Statement, Test, Text, Truth,
+    CheckKey, Kind, Memory, Mode, Note, NoteKind, Operator, Provenance, Statement, Test, Text,
+    Truth, Wfn,
 };
-use cpe_values::Memory;
 
 // ---- parts
 

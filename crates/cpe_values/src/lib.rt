@@ -1,13 +1,9 @@
 //! The values of an attribute (NIST IR 7695, 5.3): ANY, NA, or a text of a lead, a body and a trail.
 //!
-//! A text is made by [`Pattern::new`], which tells by name what is wrong with one. How a text is spelled in a
-//! well-formed name and in a formatted string stands in `spelling`. [`ValueRef`] is to [`Value`] as `&str` is to
-//! `String`: a value whose text lies elsewhere.
-//!
-//! Texts as they are spelled in a well-formed name (NIST IR 7695, 5.3) and in a formatted string (6.2): scanners of their
-//! leads, bodies and trails.
-//!
-//! The style in which a text is spelled is a parameter of each scanner that depends on it. The scanners take no memory.
+//! [`Pattern::new`] makes a text, or names what is wrong with it. [`ValueRef`] is to [`Value`] as `&str` is to `String`: a
+//! value whose text lies elsewhere. `spelling` says how a text is spelled in a well-formed name (5.3) and in a formatted
+//! string (6.2), and `scan` has the scanners of such texts. The style of the spelling is a parameter of each scanner that
+//! depends on it. Scanners take no memory.
 #![tactic(auto)]
 
 ghost use Rattle.std.specs.Prelude.{◌≡◌, ◌++◌, ℕ, List, Ok};

@@ -8,8 +8,8 @@ ghost use Rattle.cpe_values.specs.Spelling.{is_bare};
 ghost use Rattle.cpe_values.specs.Skipping.{skip_while};
 ghost use Rattle.cpe_values.specs.Scanning.{is_quoted, begins_with_backslash, starts_body, marks_end, edge_end, character_end, body_end, stem_end};
 
-use crate::spelling::{Style, is_bare_byte, is_printable_byte};
 use crate::bare::skip_word;
+use crate::spelling::{Style, is_bare_byte, is_printable_byte};
 
 // An edge has no more marks than a `u32` counts.
 #[inline(always)]

@@ -4,9 +4,9 @@ ghost use Rattle.cpe_values.specs.Parts.{is_character};
 ghost use Rattle.cpe_values.specs.Skipping.{skip_while};
 ghost use Rattle.cpe_values.specs.Spelling.{is_bare, character, edge_text, spelling, is_letter, is_digit};
 
+use crate::bare::{skip_bare, skip_word};
 use crate::value::{Edge, Pattern};
 use out_of_memory::Memory;
-use crate::bare::{skip_bare, skip_word};
 
 /// Where a text is spelled.
 #[derive(Clone, Copy, Debug, PartialEq, Eq)]

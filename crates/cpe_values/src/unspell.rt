@@ -7,10 +7,10 @@ ghost use Rattle.cpe_values.specs.Spelled.{IsSpelling};
 ghost use Rattle.cpe_values.specs.Borrowed.{text_lent};
 ghost use Rattle.cpe_values.specs.Unspelling.{marks_count, edge_at, behind_edge, body_at, behind_body, ends_body, parts_at};
 
+use crate::bare::skip_bare;
+use crate::borrowed::TextRef;
 use crate::value::{Edge, Pattern, own_text, text_of};
 use out_of_memory::Memory;
-use crate::borrowed::TextRef;
-use crate::bare::skip_bare;
 use std::alloc::Global;
 
 // How many marks stand at the start.

@@ -7,9 +7,9 @@ ghost use Rattle.cpe_values.specs.Faults.{first_fault, is_lone_hyphen, has_no_ma
 ghost use Rattle.cpe_values.specs.Values.{IsValue};
 ghost use Rattle.cpe_values.specs.Lower.{has_specials};
 
-use out_of_memory::Memory;
 use crate::short::{SHORT, ShortBody};
 use crate::spelling::is_printable_byte;
+use out_of_memory::Memory;
 use std::alloc::Global;
 use std::marker::Model;
 use thiserror::Error;

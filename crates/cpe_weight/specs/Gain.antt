@@ -1,7 +1,7 @@
 -- What an edit adds to the weight of the rows and what it takes away, whether or not it is accepted.
 use Rattle.std.specs.Prelude.{ℕ, ◌+◌, List, Bool, if◌then◌else◌, find}
 use Rattle.std.specs.Option.{option_map_or}
-use Rattle.cpe_name.specs.Eleven.{Values}
+use Rattle.cpe_rows.specs.cpe_name.Eleven.{Values}
 use Rattle.cpe_rows.specs.Names.{is_same}
 use Rattle.cpe_rows.specs.Rows.{Rows, is_named, is_entry, is_checked, has_id, has_key}
 use Rattle.cpe_rows.specs.Weight.{name_weight, note_weight, deprecation_weight, entry_weight, statement_weight, key_weight, check_weight}

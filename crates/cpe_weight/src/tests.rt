@@ -2,12 +2,10 @@
 // the clauses of what it calls would take long to prove. So would one that let a row go at the end of a scope, in place of one call.
 use crate::{with_entry, with_name, with_statement};
 use cpe_fs::unbind_fs;
-use cpe_name::{Attribute, Wfn};
 use cpe_rows::{
-    BoxedName, CheckKey, Date, Deprecation, Entry, Kind, List, Mode, Note, NoteKind, Operator,
-    Provenance, Statement, Test, Text,
+    Attribute, BoxedName, CheckKey, Date, Deprecation, Edge, Entry, Kind, List, Memory, Mode, Note,
+    NoteKind, Operator, Pattern, Provenance, Statement, Test, Text, Value, Wfn,
 };
-use cpe_values::{Edge, Memory, Pattern, Value};
 use std::alloc::Global;
 
 fn of_fs(alloc: Global, fs: &[u8]) -> Result<Wfn, Memory> {

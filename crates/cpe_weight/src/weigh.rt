@@ -4,8 +4,7 @@ ghost use Rattle.cpe_rows.specs.Weight.{weighs, name_weight, note_weight, deprec
 ghost use Rattle.cpe_weight.specs.Capped.{capped};
 
 use cpe_fs::fs_len;
-use cpe_name::Wfn;
-use cpe_rows::{CheckKey, Date, Deprecation, Entry, Note, Provenance, Statement, Test, Text};
+use cpe_rows::{CheckKey, Date, Deprecation, Entry, Note, Provenance, Statement, Test, Text, Wfn};
 
 // The weight with that of a row or a part of one, without its texts.
 fn with_one(weight: u64) -> u64

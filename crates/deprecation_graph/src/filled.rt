@@ -5,8 +5,8 @@ ghost use Rattle.deprecation_graph.specs.Filled.{nodes_of_lists, AreAllowed};
 use crate::fill_fault::FillFault;
 use crate::filling::{begin, finish_all};
 use crate::fit::are_fit;
-use cpe_rows::List;
 use crate::graph::DeprecationGraph;
+use cpe_rows::List;
 use std::alloc::Global;
 
 /// The graph whose node k is active where the k-th list is `None`, and has the successors of the list where it is `Some`.

@@ -8,11 +8,11 @@ ghost use Rattle.deprecation_graph.specs.Filled.{nodes_of_lists};
 ghost use Rattle.deprecation_graph.specs.Fit.{AreFit};
 ghost use Rattle.deprecation_graph.specs.Filling.{is_new, mark_of, IsFilling, IsLast, IsStep, NoneIsNewer};
 
+use crate::fault::GraphFault;
 use crate::fill_fault::FillFault;
 use crate::fit::{change_to, successors};
-use cpe_rows::List;
 use crate::graph::DeprecationGraph;
-use crate::fault::GraphFault;
+use cpe_rows::List;
 use out_of_memory::Memory;
 use std::alloc::Global;
 

@@ -5,8 +5,8 @@ ghost use Rattle.deprecation_graph.specs.Graph.{successors as successors_in};
 ghost use Rattle.deprecation_graph.specs.Filled.{IsBrief};
 ghost use Rattle.deprecation_graph.specs.Fit.{IsFit, AreFit};
 
-use cpe_rows::List;
 use crate::limits::{MOST_NODES, MOST_SUCCESSORS};
+use cpe_rows::List;
 
 /// The list as a change takes it.
 pub(crate) fn change_to(list: &Option<List<u32>>) -> Option<&[u32]>

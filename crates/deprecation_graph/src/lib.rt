@@ -3,19 +3,18 @@
 //! Nodes are numbers from 0 without gaps. A node is active, or it is inactive and has a list of successors, which may be
 //! empty. A path is a list of nodes in which each is a successor of the one before. The chain of a node is what paths
 //! lead to from it, itself included; its ends are the active nodes of its chain; its sources are the nodes whose chain
-//! has it. There is never a cycle, and no node has more than [`MOST_ENDS`] ends: [`DeprecationGraph::check`] tells whether
-//! a change keeps it so, and [`DeprecationGraph::set_edges`] makes a change that is allowed, without memory.
+//! has it. There is never a cycle, and no node has more than [`MOST_ENDS`] ends: [`DeprecationGraph::check`] decides whether
+//! a change keeps this, and [`DeprecationGraph::set_edges`] makes a change that is allowed, without memory.
 //!
-//! Edges are kept both ways. A search costs what it finds, and not the number of nodes. Nodes are also kept in groups that no edge
-//! leaves, each with the number of its active nodes: where these are few, a change needs no search.
+//! Edges are kept both ways. A search costs what it finds, and not the number of nodes. Nodes are also kept in groups that no
+//! edge leaves, each with the number of its active nodes. If these are few, a change needs no search.
 //!
-//! Laws are stated as functions that do nothing: [`chains_are_paths`], [`changes_are_local`], [`additions_are_local`].
+//! [`fill`] makes a graph of given nodes, whose edges may be in any order. It gives a node its successors after these have
+//! theirs. So each graph in between is lawful if the last one is, and a graph that is refused shows that the given nodes make
+//! none.
 //!
-//! A [`DeprecationGraph`](deprecation_graph::DeprecationGraph) of given nodes, all at once: [`fill`] asks for no order of the edges.
-//!
-//! Where edges are set one after the other, a state between may be refused although the last one is lawful: a node may have
-//! too many ends until its successors have theirs. Here a node gets its successors after they got theirs. So each state between is
-//! lawful where the last one is, and one that is refused shows that no graph may have these nodes.
+//! Laws are functions without effect: [`chains_are_paths`](law::chains_are_paths),
+//! [`changes_are_local`](law::changes_are_local), [`additions_are_local`](law::additions_are_local).
 #![tactic(auto)]
 
 mod changes;

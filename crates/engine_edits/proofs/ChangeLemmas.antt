@@ -1,7 +1,7 @@
 -- What a change of a deprecation leaves, by its plan and by its name.
 use Rattle.std.proofs.Common.{◌≡◌, List, sym, ◌∙◌}
 use Rattle.std.specs.Prelude.{Option}
-use Rattle.cpe_name.specs.Eleven.{Values}
+use Rattle.cpe_rows.specs.cpe_name.Eleven.{Values}
 use Rattle.cpe_dictionary.specs.Faults.{WritesByNumber}
 use Rattle.cpe_dictionary.specs.Kept.{rewritten}
 use Rattle.cpe_dictionary.specs.Plans.{AreLeftBy, IsPlan}

@@ -9,8 +9,8 @@ use Rattle.std.proofs.lemmas.List.Recursion.{max_bounds}
 use Rattle.std.proofs.lemmas.List.Folds.{list_all-map, list_all_at}
 use Rattle.std.proofs.lemmas.List.Sums.{sum_by-cons, sum_by-append}
 use Rattle.std.proofs.lemmas.Option.{none-some}
-use Rattle.cpe_name.specs.Eleven.{Values}
-use Rattle.product_orders.specs.Elements.{SameElements}
+use Rattle.cpe_rows.specs.cpe_name.Eleven.{Values}
+use Rattle.name_index.specs.product_orders.Elements.{SameElements}
 use Rattle.name_index.specs.declared.table.NameId.{NameId}
 use Rattle.name_index.specs.Table.{AreNames, find_kept, Holds, IsLive, kept_at, kept_or, Names, Releases}
 use Rattle.fact_laws.specs.Shown.{holds_in, IsKnown, name_at, names_at, Shows, times_named}
@@ -27,7 +27,7 @@ use Rattle.cpe_rows.specs.declared.test.Test.TheFolds.{fold-roll-Test}
 use Rattle.cpe_rows.specs.declared.test.Test.TheOpen.{Test-F}
 use Rattle.cpe_rows.specs.declared.test.Test.TheVariants.{rolls-Logic}
 use Rattle.fact_laws.specs.Asked.{entry_names, names_kept}
-use Rattle.cpe_registry.specs.Registered.{AreHeld, AreLive, Registered}
+use Rattle.verdicts.specs.cpe_registry.Registered.{AreHeld, AreLive, Registered}
 use Rattle.verdicts.specs.Verdicts.{HasVerdicts, VerdictsNow}
 use Rattle.engine_edits.specs.Holding.{AreFew, Grows}
 use Rattle.engine_edits.specs.Parts.{AreOf}

@@ -12,13 +12,13 @@ use Rattle.cpe_rows.specs.Changes.{differing, others}
 use Rattle.cpe_rows.specs.Rows.{Rows}
 use Rattle.cpe_rows.specs.Verdict.{verdict}
 use Rattle.cpe_rows.specs.declared.reply.Changed.{Changed}
-use Rattle.cpe_name.specs.Eleven.{Values}
+use Rattle.cpe_rows.specs.cpe_name.Eleven.{Values}
 use Rattle.name_index.specs.Table.{kept_at, Names}
 use Rattle.name_index.specs.declared.table.NameId.{NameId}
 use Rattle.fact_laws.specs.Shown.{holds_in, name_at, names_at, Shows}
 use Rattle.fact_laws.specs.Asked.{names_kept}
-use Rattle.cpe_registry.specs.Registered.{AreLive, Registered}
-use Rattle.facts.specs.Facts.{LeadsTo}
+use Rattle.verdicts.specs.cpe_registry.Registered.{AreLive, Registered}
+use Rattle.verdicts.specs.facts.Facts.{LeadsTo}
 use Rattle.cpe_rows.specs.declared.statement.Mode.TheVariants.{Follow}
 use Rattle.verdicts.specs.Verdicts.{HasVerdicts, known_in, VerdictsNow}
 use Rattle.engine_edits.specs.Parts.{AreOf}

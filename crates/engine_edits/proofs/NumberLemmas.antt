@@ -13,7 +13,7 @@ use Rattle.cpe_rows.specs.Step.{first_some}
 use Rattle.cpe_rows.specs.declared.fault.EditFault.TheVariants as fault
 use Rattle.cpe_rows.specs.declared.fault.Which.TheVariants as limit
 use Rattle.cpe_rows.specs.declared.statement.Statement.{Statement}
-use Rattle.cpe_name.specs.Eleven.{Values}
+use Rattle.cpe_rows.specs.cpe_name.Eleven.{Values}
 use Rattle.engine_edits.proofs.PartsLemmas.{none_behind, none_here}
 
 length_both : (xs ys : List Values) → length (xs ++ ys) ≡ length xs + length ys

@@ -1,8 +1,8 @@
 -- The names that come with an edit, and why a change of a deprecation is refused, whatever becomes of the deprecation.
 use Rattle.std.proofs.Common.{◌≡◌, ℕ, Bool, List, Option, Some, refl, sym, ap, ◌∙◌}
 use Rattle.name_index.specs.Table.{Names}
-use Rattle.cpe_registry.specs.Registered.{AreLive}
-use Rattle.cpe_name.specs.Eleven.{Values}
+use Rattle.verdicts.specs.cpe_registry.Registered.{AreLive}
+use Rattle.cpe_rows.specs.cpe_name.Eleven.{Values}
 use Rattle.cpe_rows.specs.Causes.{causes}
 use Rattle.cpe_rows.specs.Rows.{Rows}
 use Rattle.cpe_rows.specs.Step.{first_some}

@@ -21,12 +21,12 @@ use Rattle.cpe_rows.specs.declared.fault.EditFault.TheVariants as fault
 use Rattle.cpe_rows.specs.declared.fault.Which.TheVariants as limit
 use Rattle.cpe_rows.proofs.Limited.{each_within}
 use Rattle.cpe_weight.specs.Capped.{capped}
-use Rattle.cpe_name.specs.Eleven.{Values}
+use Rattle.cpe_rows.specs.cpe_name.Eleven.{Values}
 use Rattle.name_index.specs.Table.{kept_at, Names}
 use Rattle.name_index.specs.declared.table.NameId.{NameId}
 use Rattle.fact_laws.specs.Shown.{holds_in, name_at, names_at, Shows}
 use Rattle.fact_laws.specs.Asked.{names_kept}
-use Rattle.cpe_registry.specs.Registered.{Registered}
+use Rattle.verdicts.specs.cpe_registry.Registered.{Registered}
 use Rattle.verdicts.specs.Verdicts.{checks_in, HasVerdicts, statements_in, VerdictsNow}
 use Rattle.engine_edits.specs.Parts.{AreKept, AreOf, rows_in}
 use Rattle.engine_edits.specs.declared.parts.Parts.{Parts}

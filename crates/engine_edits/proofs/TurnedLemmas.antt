@@ -1,6 +1,6 @@
 -- What a change of a deprecation leaves and tells, whatever becomes of the deprecation.
 use Rattle.std.proofs.Common.{◌≡◌, ◌∙◌, ℕ, List, Option, Some, refl, sym, ap}
-use Rattle.cpe_name.specs.Eleven.{Values}
+use Rattle.cpe_rows.specs.cpe_name.Eleven.{Values}
 use Rattle.cpe_rows.specs.After.{after, changed}
 use Rattle.cpe_rows.specs.Changes.{changes, others}
 use Rattle.cpe_rows.specs.Rows.{Rows}
@@ -8,7 +8,7 @@ use Rattle.cpe_rows.specs.declared.entry.Deprecation.{Deprecation}
 use Rattle.cpe_rows.specs.declared.entry.Note.{Note}
 use Rattle.cpe_rows.specs.Touching.{deprecation_changed}
 use Rattle.cpe_dictionary.specs.Kept.{rewritten, with_entries, written}
-use Rattle.facts.specs.Looks.{lead_looks}
+use Rattle.verdicts.specs.facts.Looks.{lead_looks}
 use Rattle.engine_edits.specs.Looks.{made_looks}
 use Rattle.engine_edits.specs.Numbered.{given, note_of, turned}
 use Rattle.engine_edits.specs.declared.numbered.Turn.{Turn}

@@ -1,11 +1,11 @@
 -- Names that are held for the fact references of a statement.
 use Rattle.std.specs.Prelude.{◌≡◌, ◌+◌, ◌≤◌, ◌++◌, ℕ, List, length}
-use Rattle.cpe_name.specs.Eleven.{Values}
+use Rattle.cpe_rows.specs.cpe_name.Eleven.{Values}
 use Rattle.cpe_rows.specs.Rows.{Rows}
 use Rattle.name_index.specs.declared.table.NameId.{NameId}
 use Rattle.name_index.specs.Table.{Names}
 use Rattle.fact_laws.specs.Shown.{holds_in, names_at, Shows}
-use Rattle.cpe_registry.specs.Registered.{AreLive, Registered}
+use Rattle.verdicts.specs.cpe_registry.Registered.{AreLive, Registered}
 use Rattle.verdicts.specs.Verdicts.{VerdictsNow}
 use Rattle.engine_edits.specs.Parts.{AreOf}
 

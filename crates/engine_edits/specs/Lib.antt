@@ -8,3 +8,4 @@ pub mod Prelude
 pub mod Ready
 pub mod Told
 pub mod Looks
+pub use Rattle.fact_laws.specs as fact_laws

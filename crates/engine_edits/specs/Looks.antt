@@ -7,7 +7,7 @@ use Rattle.cpe_rows.specs.Step.{step}
 use Rattle.cpe_rows.specs.declared.edit.Edit.{Edit}
 use Rattle.cpe_rows.specs.declared.edit.Edit.TheVariants as edit
 use Rattle.cpe_rows.specs.declared.fault.EditFault.{EditFault}
-use Rattle.facts.specs.Looks.{item_looks, lead_looks, statement_looks}
+use Rattle.verdicts.specs.facts.Looks.{item_looks, lead_looks, statement_looks}
 
 -- an edit that is made takes for an item as many as it and its ends take, for a statement as many as its fact references take, for a change
 -- of a deprecation as many as the ends take of all that leads to the entry, before and after it, and for each other edit none

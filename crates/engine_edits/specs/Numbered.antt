@@ -1,6 +1,6 @@
 -- Edits whose names are numbers of the engine's table.
 use Rattle.std.specs.Prelude.{◌≡◌, ◌∷◌, ⊤, Bool, true, false, List, [], ℕ, Option, Some, None}
-use Rattle.cpe_name.specs.Eleven.{Values}
+use Rattle.cpe_rows.specs.cpe_name.Eleven.{Values}
 use Rattle.name_index.specs.declared.table.NameId.{NameId}
 use Rattle.name_index.specs.Table.{Names, IsLive}
 use Rattle.cpe_rows.specs.FactNames.{fact_names}
@@ -13,7 +13,7 @@ use Rattle.cpe_rows.specs.declared.entry.NoteKind.TheVariants as kind
 use Rattle.cpe_rows.specs.declared.statement.Statement.{Statement}
 use Rattle.fact_laws.specs.Shown.{names_at}
 use Rattle.cpe_dictionary.specs.Kept.{new_entry}
-use Rattle.cpe_registry.specs.Registered.{AreLive, name_in}
+use Rattle.verdicts.specs.cpe_registry.Registered.{AreLive, name_in}
 use Rattle.engine_edits.specs.declared.numbered.Coming.{Coming}
 use Rattle.engine_edits.specs.declared.numbered.Coming.TheVariants as comes
 use Rattle.engine_edits.specs.declared.numbered.Turn.{Turn}

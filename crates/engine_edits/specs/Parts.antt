@@ -1,6 +1,6 @@
 -- The rows of an engine's parts, between edits and while an edit is on its way.
 use Rattle.std.specs.Prelude.{◌≡◌, ◌++◌, List, [], true}
-use Rattle.cpe_name.specs.Eleven.{Values}
+use Rattle.cpe_rows.specs.cpe_name.Eleven.{Values}
 use Rattle.cpe_rows.specs.Formed.{IsFormed}
 use Rattle.cpe_rows.specs.Lawful.{IsLawful}
 use Rattle.cpe_rows.specs.Rows.{Rows}
@@ -9,7 +9,7 @@ use Rattle.cpe_rows.specs.Weight.{weight}
 use Rattle.cpe_rows.specs.declared.edit.Edit.{Edit}
 use Rattle.fact_laws.specs.Shown.{holds_in, Shows}
 use Rattle.fact_laws.specs.Asked.{names_kept}
-use Rattle.cpe_registry.specs.Registered.{Registered}
+use Rattle.verdicts.specs.cpe_registry.Registered.{Registered}
 use Rattle.verdicts.specs.Verdicts.{checks_in, HasVerdicts, statements_in, VerdictsNow}
 use Rattle.engine_edits.specs.Numbered.{edit_of, IsFound, names_coming}
 use Rattle.engine_edits.specs.declared.numbered.Numbered.{Numbered}

@@ -1,6 +1,6 @@
 -- An edit that was looked at before it is made: a change of a deprecation has its plan.
 use Rattle.std.specs.Prelude.{⊤, List, Option, Some, None}
-use Rattle.cpe_name.specs.Eleven.{Values}
+use Rattle.cpe_rows.specs.cpe_name.Eleven.{Values}
 use Rattle.cpe_rows.specs.declared.entry.Entry.{Entry}
 use Rattle.cpe_rows.specs.declared.entry.Deprecation.{Deprecation}
 use Rattle.cpe_rows.specs.declared.edit.Edit.{Edit}

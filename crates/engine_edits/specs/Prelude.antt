@@ -1,6 +1,6 @@
 -- What most contracts over the parts of an engine name, in one place.
 pub use Rattle.name_index.specs.Table.{IsLive}
-pub use Rattle.cpe_registry.specs.Registered.{name_in}
+pub use Rattle.verdicts.specs.cpe_registry.Registered.{name_in}
 pub use Rattle.verdicts.specs.Leads.{IsReadyLead}
 pub use Rattle.verdicts.specs.Verdicts.{known_in}
 pub use Rattle.engine_edits.specs.Numbered.{given}

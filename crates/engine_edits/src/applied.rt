@@ -1,6 +1,6 @@
 // Edits that have their numbers: they are foreseen, with room for what they change of the verdicts, and made, or refused.
 ghost use Rattle.std.specs.Prelude.{◌≡◌, ◌≤◌, [], IfErr, IfOk, OnErr, OnOk, map};
-ghost use Rattle.cpe_steps.specs.Within.{StepsWithin};
+ghost use Rattle.name_index.specs.cpe_steps.Within.{StepsWithin};
 ghost use Rattle.cpe_rows.specs.Prelude.{after, Applied, changes, Refuses, step, verdict};
 ghost use Rattle.verdicts.specs.Verdicts.{known_in};
 ghost use Rattle.engine_edits.specs.Checked.{IsChecked};
@@ -8,13 +8,12 @@ ghost use Rattle.engine_edits.specs.Parts.{AreBeside, AreKept, edit_in, rows_in}
 ghost use Rattle.engine_edits.specs.Looks.{edit_looks, made_looks};
 ghost use Rattle.engine_edits.specs.Ready.{places};
 
-use crate::made::make;
-use cpe_rows::{Changed, EditFault, List, Room};
-use cpe_steps::Steps;
-use cpe_values::Memory;
 use crate::checked::Checked;
+use crate::made::make;
 use crate::numbered::Numbered;
 use crate::parts::Parts;
+use cpe_rows::{Changed, EditFault, List, Memory, Room};
+use name_index::Steps;
 use std::alloc::Global;
 use std::sync::ledger::Ledger;
 

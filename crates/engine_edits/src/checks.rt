@@ -4,10 +4,9 @@ ghost use Rattle.cpe_rows.specs.Prelude.{after, changes};
 ghost use Rattle.engine_edits.specs.Parts.{AreOf, edit_in, rows_in};
 ghost use Rattle.engine_edits.specs.Ready.{IsReady};
 
-use cpe_rows::{Changed, CheckKey, List, Room, Truth};
-use cpe_values::Memory;
 use crate::numbered::Numbered;
 use crate::parts::Parts;
+use cpe_rows::{Changed, CheckKey, List, Memory, Room, Truth};
 
 /// Keeps the result of a check.
 ///

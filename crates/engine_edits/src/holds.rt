@@ -4,18 +4,16 @@ ghost use Rattle.cpe_rows.specs.Prelude.{fact_names, is_lower, Rows, Values};
 ghost use Rattle.cpe_rows.specs.Shape.{is_sound};
 ghost use Rattle.name_index.specs.Table.{IsLive};
 ghost use Rattle.fact_laws.specs.Shown.{names_at};
-ghost use Rattle.cpe_registry.specs.Registered.{AreLive, name_in};
+ghost use Rattle.verdicts.specs.cpe_registry.Registered.{AreLive, name_in};
 ghost use Rattle.verdicts.specs.Verdicts.{VerdictsNow};
 ghost use Rattle.engine_edits.specs.Holding.{AreFew, Grows};
 ghost use Rattle.engine_edits.specs.Numbered.{numbers_of};
 ghost use Rattle.engine_edits.specs.Parts.{AreOf};
 
 use crate::numbered::Coming;
-use cpe_name::Wfn;
-use cpe_registry::Registry;
-use cpe_rows::Test;
-use cpe_values::Memory;
+use cpe_rows::{Memory, Test, Wfn};
 use name_index::NameId;
+use verdicts::Registry;
 
 /// Holds the names of all fact references of a test, in their order, and puts their numbers last.
 ///

@@ -3,24 +3,21 @@ ghost use Rattle.std.specs.Prelude.{◌≡◌, ◌∷◌, [], IfErr, IfOk, OnErr
 ghost use Rattle.cpe_rows.specs.Prelude.{causes, first_some, is_lower, IsCause, after, changes, is_same, IsLawful};
 ghost use Rattle.cpe_rows.specs.declared.edit.Edit.TheVariants as edit;
 ghost use Rattle.name_index.specs.Table.{IsLive};
-ghost use Rattle.cpe_registry.specs.Registered.{name_in};
+ghost use Rattle.verdicts.specs.cpe_registry.Registered.{name_in};
 ghost use Rattle.engine_edits.specs.Numbered.{IsFound, names_coming};
 ghost use Rattle.engine_edits.specs.Parts.{AreKept, AreOf, edit_in, rows_in};
 ghost use Rattle.std.specs.List.{list_any};
-ghost use Rattle.cpe_steps.specs.Within.{StepsWithin};
+ghost use Rattle.name_index.specs.cpe_steps.Within.{StepsWithin};
 ghost use Rattle.engine_edits.specs.Prelude.{known_in};
-ghost use Rattle.facts.specs.Looks.{item_looks};
+ghost use Rattle.verdicts.specs.facts.Looks.{item_looks};
 ghost use Rattle.engine_edits.specs.Looks.{made_looks};
 ghost use Rattle.engine_edits.specs.Ready.{IsReady};
 
-use cpe_name::Wfn;
-use cpe_rows::{Changed, EditFault, List, Room};
-use cpe_values::Memory;
-use name_index::NameId;
-use cpe_steps::Steps;
+use crate::holds::release_all;
 use crate::numbered::Numbered;
 use crate::parts::Parts;
-use crate::holds::release_all;
+use cpe_rows::{Changed, EditFault, List, Memory, Room, Wfn};
+use name_index::{NameId, Steps};
 use std::alloc::Global;
 use std::sync::ledger::Ledger;
 

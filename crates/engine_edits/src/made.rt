@@ -1,6 +1,6 @@
 // Edits that are made, by their kinds.
 ghost use Rattle.std.specs.Prelude.{◌≡◌, [], IfOk, OnErr, OnOk};
-ghost use Rattle.cpe_steps.specs.Within.{StepsWithin};
+ghost use Rattle.name_index.specs.cpe_steps.Within.{StepsWithin};
 ghost use Rattle.cpe_rows.specs.Prelude.{after, changes};
 ghost use Rattle.engine_edits.specs.Parts.{AreOf, edit_in, rows_in};
 ghost use Rattle.engine_edits.specs.Looks.{made_looks};
@@ -9,13 +9,12 @@ ghost use Rattle.engine_edits.specs.Ready.{MayBeMade};
 use crate::checks::{drop_check, set_check};
 use crate::entries::{add_entry, change_entry};
 use crate::items::{add_item, drop_item};
-use crate::statements::{drop_statement, put_statement};
-use cpe_dictionary::Plan;
-use cpe_rows::{Changed, List, Room};
-use cpe_steps::Steps;
-use cpe_values::Memory;
 use crate::numbered::Numbered;
 use crate::parts::Parts;
+use crate::statements::{drop_statement, put_statement};
+use cpe_dictionary::Plan;
+use cpe_rows::{Changed, List, Memory, Room};
+use name_index::Steps;
 use std::alloc::Global;
 use std::sync::ledger::Ledger;
 

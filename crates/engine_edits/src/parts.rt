@@ -4,9 +4,8 @@ ghost use Rattle.cpe_rows.specs.Prelude.{no_rows, verdict};
 ghost use Rattle.verdicts.specs.Verdicts.{known_in};
 ghost use Rattle.engine_edits.specs.Parts.{AreKept, AreOf, rows_in};
 
-use cpe_registry::Registry;
 use std::alloc::Global;
-use verdicts::Verdicts;
+use verdicts::{Registry, Verdicts};
 
 /// The lists of rows that an engine keeps, and their weight.
 #[derive(Drop)]

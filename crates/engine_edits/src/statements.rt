@@ -15,14 +15,12 @@ ghost use Rattle.engine_edits.specs.Ready.{IsReady};
 ghost use Rattle.engine_edits.specs.Told.{dropped_by, put_by};
 
 use crate::holds::{hold_facts, release_all};
-use cpe_rows::{Changed, EditFault, List, Room, Statement, Text, Truth};
-use cpe_values::Memory;
-use cpe_weight::with_statement;
-use std::alloc::Global;
-use cpe_steps::Steps;
 use crate::numbered::Numbered;
 use crate::parts::Parts;
-use name_index::NameId;
+use cpe_rows::{Changed, EditFault, List, Memory, Room, Statement, Text, Truth};
+use cpe_weight::with_statement;
+use name_index::{NameId, Steps};
+use std::alloc::Global;
 use std::sync::ledger::Ledger;
 use verdicts::Verdicts;
 

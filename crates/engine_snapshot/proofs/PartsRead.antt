@@ -1,7 +1,7 @@
 -- What is read one after the other, and the case of names that are read.
 use Rattle.std.proofs.Common.{◌≡◌, ℕ, List, Option, Some, true, ap, subst, ◌∙◌}
-use Rattle.cpe_name.specs.Eleven.{Values}
-use Rattle.cpe_fs.specs.Unbound.{read_fs}
+use Rattle.cpe_rows.specs.cpe_name.Eleven.{Values}
+use Rattle.cpe_rows.specs.cpe_fs.Unbound.{read_fs}
 use Rattle.cpe_rows.specs.Names.{is_lower}
 use Rattle.cpe_snapshot.specs.Reading.{◌>>=◌, both, counted_at, details_at, entry_at, entry_from, name_at, name_of, named_by, when}
 use Rattle.cpe_snapshot.specs.declared.rows.PlacedEntry.{PlacedEntry}

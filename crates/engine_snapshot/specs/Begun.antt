@@ -1,6 +1,6 @@
 -- Rows that an engine puts one after the other.
 use Rattle.std.specs.Prelude.{◌≡◌, ◌++◌, List, true, Ok}
-use Rattle.cpe_name.specs.Eleven.{Values}
+use Rattle.cpe_rows.specs.cpe_name.Eleven.{Values}
 use Rattle.std.specs.List.{list_all}
 use Rattle.cpe_rows.specs.After.{after}
 use Rattle.cpe_rows.specs.Lawful.{are_different, is_entry_name}

@@ -1,7 +1,7 @@
 -- The deprecations that are meant by rows with places.
 use Rattle.std.specs.Prelude.{◌≡◌, ℕ, List, [], ◌∷◌, Option, None, map, slice_get}
 use Rattle.std.specs.Option.{option_map}
-use Rattle.cpe_name.specs.Eleven.{Values}
+use Rattle.cpe_rows.specs.cpe_name.Eleven.{Values}
 use Rattle.cpe_rows.specs.Rows.{Rows}
 use Rattle.cpe_rows.specs.declared.entry.Deprecation.{Deprecation}
 use Rattle.cpe_rows.specs.declared.entry.Entry.{Entry}

@@ -1,8 +1,8 @@
 // Deprecations in memory of their own.
 ghost use Rattle.std.specs.Prelude.{◌≡◌, IfOk};
 
+use cpe_rows::Memory;
 use cpe_snapshot::PlacedDeprecation;
-use cpe_values::Memory;
 use std::alloc::Global;
 use std::marker::Model;
 

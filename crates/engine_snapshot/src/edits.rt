@@ -6,10 +6,9 @@ ghost use Rattle.cpe_rows.specs.declared.truth.Truth.{Truth as TruthRow};
 ghost use Rattle.cpe_snapshot.specs.States.{pair_of};
 ghost use Rattle.engine_snapshot.specs.Begun.{adopt_fault, IsTaken, with_checks};
 
-use cpe_engine::{AdoptFault, Engine};
+use cpe_engine::{AdoptFault, Engine, Steps};
 use cpe_rows::{Edit, EditFault};
 use cpe_snapshot::KeptResult;
-use cpe_steps::Steps;
 use std::sync::ledger::Ledger;
 
 // Lets an edit go that isn't in order, or a key for which a result is kept already.

@@ -16,5 +16,6 @@ mod runs;
 mod texts;
 mod write;
 
+pub use cpe_engine::Engine;
 pub use read::{MOST_BYTES, read_snapshot};
 pub use write::write_snapshot;

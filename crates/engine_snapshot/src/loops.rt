@@ -7,11 +7,9 @@ ghost use Rattle.engine_snapshot.specs.Read.{AreEntriesPut, ArePut, NonePut, wit
 
 use crate::puts::{put_entry, put_item, put_result, put_statement};
 use crate::runs::PlacedDeprecations;
-use cpe_engine::Engine;
-use cpe_name::Wfn;
-use cpe_rows::Statement;
+use cpe_engine::{Engine, Steps};
+use cpe_rows::{Statement, Wfn};
 use cpe_snapshot::{Cursor, KeptResult, LoadFault, Part, PlacedEntry};
-use cpe_steps::Steps;
 use std::alloc::Global;
 use std::sync::ledger::Ledger;
 

@@ -10,8 +10,7 @@ use crate::boxed::BoxedDeprecation;
 use crate::puts::load_fault;
 use crate::runs::PlacedDeprecations;
 use cpe_engine::Engine;
-use cpe_name::Wfn;
-use cpe_rows::{Deprecation, List};
+use cpe_rows::{Deprecation, List, Wfn};
 use cpe_snapshot::{LoadFault, PlacedDeprecation};
 use std::alloc::Global;
 

@@ -6,11 +6,9 @@ ghost use Rattle.engine_snapshot.specs.Read.{NotAfter, with_placed, with_results
 
 use crate::edits::{add_check, make, make_valid};
 use crate::runs::PlacedDeprecations;
-use cpe_engine::{AdoptFault, Engine};
-use cpe_name::Wfn;
-use cpe_rows::{Edit, Entry, Statement};
+use cpe_engine::{AdoptFault, Engine, Steps};
+use cpe_rows::{Edit, Entry, Statement, Wfn};
 use cpe_snapshot::{KeptResult, LoadFault, PlacedDeprecation, PlacedEntry};
-use cpe_steps::Steps;
 use std::alloc::Global;
 use std::sync::ledger::Ledger;
 

@@ -9,9 +9,8 @@ use crate::law;
 use crate::loops::{read_entries, read_items, read_results, read_statements};
 use crate::meant::give_all;
 use crate::runs::PlacedDeprecations;
-use cpe_engine::Engine;
+use cpe_engine::{Engine, Steps};
 use cpe_snapshot::{Cursor, Head, LoadFault, read_head};
-use cpe_steps::Steps;
 use std::alloc::Global;
 use std::sync::ledger::Ledger;
 

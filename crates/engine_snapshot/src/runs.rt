@@ -4,9 +4,8 @@ ghost use Rattle.std.specs.List.{flat_map, list_all};
 ghost use Rattle.engine_snapshot.specs.Runs.{deprecations_in, run_of};
 
 use crate::boxed::BoxedDeprecation;
-use cpe_rows::List;
+use cpe_rows::{List, Memory};
 use cpe_snapshot::PlacedDeprecation;
-use cpe_values::Memory;
 use std::alloc::Global;
 use std::marker::Model;
 

@@ -15,10 +15,8 @@ ghost use Rattle.cpe_snapshot.specs.States.{IsTextEntry, IsTextKey, IsTextStatem
 
 use crate::texts::{are_entry_texts, are_key_texts, are_statement_texts};
 use cpe_engine::Engine;
-use cpe_name::Wfn;
-use cpe_rows::EntryRef;
+use cpe_rows::{EntryRef, Memory, Wfn};
 use cpe_snapshot::{push_entry, push_head, push_name, push_result, push_statement};
-use cpe_values::Memory;
 use std::alloc::Global;
 
 // ---- entries

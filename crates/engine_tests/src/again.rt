@@ -3,10 +3,8 @@
 // What is tried stands in functions without clauses.
 ghost use Rattle.std.specs.Prelude.{◌≡◌, ◌<◌};
 
-use cpe_drill::Drilled;
-use cpe_engine::Engine;
+use cpe_drill::{Drilled, Engine, Steps};
 use cpe_rows::{Counts, Truth};
-use cpe_steps::Steps;
 use std::alloc::Global;
 use std::marker::Brand;
 use std::sync::ledger::{Blank, Ledger};

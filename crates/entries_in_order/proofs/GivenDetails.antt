@@ -1,7 +1,7 @@
 -- What stands beside names, once each was given its deprecation.
 use Rattle.std.proofs.Common.{◌≡◌, ◌<◌, ℕ, zero, suc, List, [], ◌∷◌, get_or, length, slice_set, refl, ap, arith}
 use Rattle.std.specs.Prelude.{Option}
-use Rattle.cpe_name.specs.Eleven.{Values}
+use Rattle.cpe_rows.specs.cpe_name.Eleven.{Values}
 use Rattle.cpe_rows.specs.declared.entry.Deprecation.{Deprecation}
 use Rattle.cpe_rows.specs.declared.entry.Entry.{Entry}
 use Rattle.entries_in_order.specs.declared.kept.Details.{Details}

@@ -1,15 +1,15 @@
 -- Entries found by their names.
 use Rattle.std.proofs.Common.{◌≡◌, List, [], ◌∷◌, ◌++◌, map, filter, Bool, true, false, cond, ◌||◌, refl, ap, ◌∙◌}
 use Rattle.std.specs.List.{list_any}
-use Rattle.cpe_name.specs.Eleven.{Values}
-use Rattle.cpe_name.specs.Equal.{same_name}
+use Rattle.cpe_rows.specs.cpe_name.Eleven.{Values}
+use Rattle.cpe_rows.specs.cpe_name.Equal.{same_name}
 use Rattle.cpe_rows.specs.Names.{is_same}
 use Rattle.cpe_rows.specs.Rows.{is_named}
 use Rattle.cpe_rows.specs.Answers.{rows_found, row_of}
 use Rattle.cpe_rows.specs.declared.entry.Entry.{Entry}
 use Rattle.cpe_rows.specs.declared.reply.Row.{Row}
 use Rattle.cpe_rows.proofs.Lists.{both_pass}
-use Rattle.cpe_relation.specs.NameRelation.{covers}
+use Rattle.cpe_rows.specs.cpe_relation.NameRelation.{covers}
 use Rattle.names_in_order.specs.Places.{places_covered, rows_at}
 use Rattle.names_in_order.proofs.Rows.{covered_rows}
 use Rattle.entries_in_order.specs.Listed.{is_wanted, names_of}

@@ -5,9 +5,7 @@ ghost use Rattle.entries_in_order.specs.Listed.{entries_at};
 
 use crate::entries::Entries;
 use crate::kept::row_of;
-use cpe_name::Wfn;
-use cpe_rows::{List, Row};
-use cpe_values::Memory;
+use cpe_rows::{List, Memory, Row, Wfn};
 use std::alloc::Global;
 
 /// The entries of these numbers in short; a number that is none of an entry is passed over.

@@ -7,10 +7,8 @@ ghost use Rattle.entries_in_order.specs.Listed.{entries_of, entry_from, names_of
 
 use crate::kept::{Details, entry_of, state_of};
 use crate::search::wanted_at;
-use cpe_name::Wfn;
-use cpe_rows::{Deprecation, Entry, List, Row, State};
-use cpe_steps::Steps;
-use cpe_values::Memory;
+use cpe_rows::{Deprecation, Entry, List, Memory, Row, State, Wfn};
+use name_index::Steps;
 use names_in_order::NamesInOrder;
 use std::alloc::Global;
 use std::marker::Model;

@@ -4,8 +4,7 @@ ghost use Rattle.cpe_rows.specs.Lent.{entry_lent};
 ghost use Rattle.entries_in_order.specs.Listed.{entry_from};
 
 use crate::kept::Details;
-use cpe_name::Wfn;
-use cpe_rows::EntryRef;
+use cpe_rows::{EntryRef, Wfn};
 
 /// The parts of the entry of a name and what stands beside it, if there is any.
 pub(crate) fn lent<'e>(name: &'e Wfn, details: Option<&'e Details>) -> Option<EntryRef<'e>>

@@ -11,8 +11,7 @@ ghost use Rattle.entries_in_order.specs.Listed.{AreListed, details_written, entr
 use crate::entries::{Entries, details_at};
 use crate::entry_ref::lent;
 use crate::kept::{Details, rewrite};
-use cpe_rows::{Deprecation, EntryRef, List, Note, Provenance, Text};
-use cpe_values::Memory;
+use cpe_rows::{Deprecation, EntryRef, List, Memory, Note, Provenance, Text};
 use name_index::{NameId, NameTable};
 use names_in_order::GrowingNames;
 use std::alloc::Global;

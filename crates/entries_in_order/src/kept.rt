@@ -6,9 +6,9 @@ ghost use Rattle.cpe_rows.specs.Prelude.{row_of, state_of};
 ghost use Rattle.entries_in_order.specs.Listed.{entry_from, rewritten_details};
 ghost use Rattle.cpe_rows.specs.declared.entry.Deprecation.{Deprecation};
 
-use cpe_name::Wfn;
-use cpe_rows::{Deprecation, Entry, List, Note, Provenance, Row, State, Text, copy_of_deprecation};
-use cpe_values::Memory;
+use cpe_rows::{
+    Deprecation, Entry, List, Memory, Note, Provenance, Row, State, Text, Wfn, copy_of_deprecation,
+};
 use std::alloc::Global;
 
 /// What an entry has beside its name.

@@ -6,8 +6,7 @@ ghost use Rattle.entries_in_order.specs.Listed.{is_wanted};
 
 use crate::entries::Entries;
 use crate::kept::{Details, row_of};
-use cpe_rows::{List, Row};
-use cpe_values::Memory;
+use cpe_rows::{List, Memory, Row};
 use std::alloc::Global;
 
 // Whether an entry with these details is active, where that is asked.

@@ -4,7 +4,7 @@ use Rattle.std.specs.Prelude.{filter}
 use Rattle.std.specs.List.{list_any, flat_map}
 use Rattle.std.proofs.lemmas.Bool.{or_cases, or_left, or_right}
 use Rattle.std.proofs.lemmas.List.Folds.{list_any-append}
-use Rattle.cpe_name.specs.Eleven.{Values}
+use Rattle.cpe_rows.specs.cpe_name.Eleven.{Values}
 use Rattle.cpe_rows.specs.Chains.{chain, is_active}
 use Rattle.cpe_rows.specs.FactNames.{fact_names}
 use Rattle.cpe_rows.specs.Reach.{is_reached}
@@ -13,7 +13,7 @@ use Rattle.cpe_rows.specs.declared.entry.Entry.{Entry}
 use Rattle.cpe_rows.specs.declared.statement.Mode.{Mode}
 use Rattle.cpe_rows.specs.declared.statement.Mode.TheVariants.{Plain, Follow}
 use Rattle.cpe_rows.specs.declared.statement.Statement.{Statement}
-use Rattle.cpe_name.specs.Equal.{same_name}
+use Rattle.cpe_rows.specs.cpe_name.Equal.{same_name}
 use Rattle.fact_laws.specs.Shown.{different}
 use Rattle.fact_laws.specs.Asked.{asked, entry_names, facts_in, leads, names_kept, references_in, references_of, same_mode, there}
 

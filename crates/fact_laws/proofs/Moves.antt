@@ -6,7 +6,7 @@ use Rattle.std.proofs.lemmas.List.Sums.{sum_by-cons, sum_by-append}
 use Rattle.std.proofs.lemmas.List.Folds.{list_any-append}
 use Rattle.std.proofs.lemmas.List.{map-append}
 use Rattle.std.proofs.lemmas.Option.{none-some, same_Some}
-use Rattle.cpe_name.specs.Eleven.{Values}
+use Rattle.cpe_rows.specs.cpe_name.Eleven.{Values}
 use Rattle.cpe_rows.specs.Names.{is_same}
 use Rattle.cpe_rows.specs.Rows.{Rows, has_id, is_named}
 use Rattle.cpe_rows.specs.After.{after, changed, deprecated, without_first}
@@ -25,7 +25,7 @@ use Rattle.cpe_rows.proofs.NameTests.{same_is}
 use Rattle.cpe_rows.proofs.Unrefused.{unrefused}
 use Rattle.cpe_rows.specs.Touching.{deprecation_changed}
 use Rattle.cpe_rows.proofs.DeprecationChanges.{leaves, same_ends_after}
-use Rattle.product_orders.specs.Elements.{SameElements}
+use Rattle.name_index.specs.product_orders.Elements.{SameElements}
 use Rattle.fact_laws.specs.Asked.{leads, fresh_facts, facts_in, asked, there, entry_names, names_kept}
 use Rattle.fact_laws.proofs.Counted.{facts_with}
 use Rattle.fact_laws.proofs.Names.{first_out, found_if_any, last_first, first_goes, goes_elsewhere, more_in_first, more_in_rest, sum_flat, turned}

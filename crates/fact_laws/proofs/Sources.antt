@@ -4,16 +4,16 @@ use Rattle.std.specs.Prelude.{filter, replicate}
 use Rattle.std.specs.List.{sum_by, list_any, flat_map}
 use Rattle.std.proofs.lemmas.Bool.{and_parts, not-true, cases_Bool, both_ways, or_cases, or_left, or_right}
 use Rattle.std.proofs.lemmas.List.Sums.{sum_by-cons}
-use Rattle.cpe_name.specs.Eleven.{Values}
-use Rattle.product_orders.specs.Elements.{SameElements}
-use Rattle.product_orders.proofs.Sums.{one_at_most, sum_agree, sum_both, sum_none}
+use Rattle.cpe_rows.specs.cpe_name.Eleven.{Values}
+use Rattle.name_index.specs.product_orders.Elements.{SameElements}
+use Rattle.name_index.proofs.product_orders.Sums.{one_at_most, sum_agree, sum_both, sum_none}
 use Rattle.cpe_rows.specs.Chains.{chain, ends, is_active, leads_to}
 use Rattle.cpe_rows.specs.Lawful.{are_different}
 use Rattle.cpe_rows.specs.Names.{is_same}
 use Rattle.cpe_rows.specs.Rows.{is_named}
 use Rattle.cpe_rows.specs.declared.entry.Entry.{Entry}
 use Rattle.cpe_rows.proofs.NameTests.{same_is, not_same}
-use Rattle.cpe_name.specs.Equal.{same_name, same_name-Decides}
+use Rattle.cpe_rows.specs.cpe_name.Equal.{same_name, same_name-Decides}
 use Rattle.fact_laws.specs.Shown.{one_if_some, times_named}
 use Rattle.fact_laws.proofs.Different.{none_named, one_some}
 use Rattle.fact_laws.proofs.Shown.{named_first}

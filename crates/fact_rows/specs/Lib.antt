@@ -3,3 +3,4 @@ pub mod Facts
 pub mod Truths
 pub mod Tickets
 pub mod Calls
+pub use Rattle.ticket_list.specs as ticket_list

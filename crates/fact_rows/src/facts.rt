@@ -15,8 +15,7 @@ use crate::rows::{
     add_row, add_user, ends_of, has, remove_row, remove_user, reserve_row, reserve_user, set_ends,
     truth_of, users_of,
 };
-use cpe_rows::{Mode, Truth};
-use cpe_values::Memory;
+use cpe_rows::{Memory, Mode, Truth};
 use level_board::LevelBoard;
 use name_index::NameId;
 use std::alloc::Global;

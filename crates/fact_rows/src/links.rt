@@ -9,7 +9,7 @@ ghost use Rattle.fact_rows.specs.Calls.{LinkAdded};
 ghost use Rattle.fact_rows.specs.Rows.{one_if};
 
 use crate::ends::has_end;
-use cpe_values::Memory;
+use cpe_rows::Memory;
 use name_index::NameId;
 use std::alloc::Global;
 use std::collections::HashMap;

@@ -10,8 +10,7 @@ ghost use Rattle.fact_rows.specs.Truths.{truth_at};
 
 use crate::links::{link, unlink};
 use crate::row::FactRow;
-use cpe_rows::{Mode, Truth};
-use cpe_values::Memory;
+use cpe_rows::{Memory, Mode, Truth};
 use level_board::LevelBoard;
 use name_index::NameId;
 use std::alloc::Global;

@@ -4,11 +4,11 @@ use Rattle.std.specs.Prelude.{is_some}
 use Rattle.std.specs.Option.{option_map}
 use Rattle.std.specs.List.{AllByRecursion}
 use Rattle.std.proofs.lemmas.Bool.{both_ways, cases_eq, ne_eqb, or_left, true≢false}
-use Rattle.cpe_name.specs.Eleven.{Values}
+use Rattle.cpe_rows.specs.cpe_name.Eleven.{Values}
 use Rattle.name_index.specs.declared.table.NameId.{NameId}
 use Rattle.name_index.specs.Index.{name_id}
 use Rattle.name_index.specs.Table.{AreNames, Names, kept_at}
-use Rattle.level_board.specs.Board.{AreAnswers, Board}
+use Rattle.kept_facts.specs.level_board.Board.{AreAnswers, Board}
 use Rattle.cpe_rows.specs.Rows.{Rows}
 use Rattle.cpe_rows.specs.Verdict.{fact_truth}
 use Rattle.cpe_rows.specs.declared.statement.Mode.TheVariants.{Follow}

@@ -2,10 +2,10 @@
 use Rattle.std.proofs.Common.{Option, ◌∷◌, ◌≡◌, ℕ, ◌≤◌, Bool, true, false, not, List, [], refl, sym, ap, subst, ◌∙◌}
 use Rattle.std.specs.List.{AllByRecursion, list_any}
 use Rattle.std.proofs.lemmas.Bool.{true≢false}
-use Rattle.cpe_name.specs.Eleven.{Values}
+use Rattle.cpe_rows.specs.cpe_name.Eleven.{Values}
 use Rattle.name_index.specs.declared.table.NameId.{NameId}
 use Rattle.name_index.specs.Table.{AreNames, Names, kept_at}
-use Rattle.level_board.specs.Board.{AreAnswers, Board, FitsBoard, is_marked, KeepsLevels, probe_times}
+use Rattle.kept_facts.specs.level_board.Board.{AreAnswers, Board, FitsBoard, is_marked, KeepsLevels, probe_times}
 use Rattle.cpe_rows.specs.Chains.{ends, leads_to}
 use Rattle.cpe_rows.specs.Rows.{Rows}
 use Rattle.cpe_rows.specs.Verdict.{fact_truth}

@@ -5,7 +5,7 @@ use Rattle.std.specs.List.{AllByRecursion}
 use Rattle.std.proofs.lemmas.Bool.{both_ways, cases_eq, or_cases, true≢false}
 use Rattle.std.proofs.lemmas.Option.{same_Some, none-some}
 use Rattle.fact_laws.proofs.Shown.{other_number}
-use Rattle.cpe_name.specs.Eleven.{Values}
+use Rattle.cpe_rows.specs.cpe_name.Eleven.{Values}
 use Rattle.cpe_rows.specs.After.{without_first}
 use Rattle.cpe_rows.specs.Rows.{has_id}
 use Rattle.cpe_rows.specs.declared.statement.Mode.{Mode}
@@ -14,7 +14,7 @@ use Rattle.fact_laws.specs.Asked.{refers_to}
 use Rattle.fact_rows.specs.Facts.{AreLinked, ends_or_none, Fact, fact_at, facts_of, FactTable, OthersStay, truth_or_unknown, users_of, users_or_none}
 use Rattle.fact_rows.specs.Calls.{UsersTo}
 use Rattle.fact_rows.specs.Tickets.{without}
-use Rattle.ticket_list.specs.Rising.{IsRising}
+use Rattle.fact_rows.specs.ticket_list.Rising.{IsRising}
 use Rattle.facts.specs.Calls.{FactsRemoved, UsersRemoved}
 use Rattle.facts.specs.Users.{AreTickets, ticket_of, users_in}
 

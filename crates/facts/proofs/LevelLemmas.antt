@@ -1,15 +1,15 @@
 -- Levels give facts the truths that the rows give them.
 use Rattle.std.proofs.Common.{◌≡◌, ℕ, ◌≤◌, List, [], ◌∷◌, refl, sym, ap, ◌∙◌}
 use Rattle.std.specs.List.{AllByRecursion, list_any}
-use Rattle.cpe_name.specs.Eleven.{Values}
-use Rattle.cpe_relation.specs.Maybe.{maybe}
-use Rattle.cpe_relation.specs.NameRelation.{covers}
+use Rattle.cpe_rows.specs.cpe_name.Eleven.{Values}
+use Rattle.cpe_rows.specs.cpe_relation.Maybe.{maybe}
+use Rattle.cpe_rows.specs.cpe_relation.NameRelation.{covers}
 use Rattle.name_index.specs.declared.table.NameId.{NameId}
 use Rattle.name_index.specs.Table.{Names, kept_at}
-use Rattle.level_board.specs.Rows.{level_now}
-use Rattle.level_board.specs.Board.{AreAnswers, Board, FitsBoard, level_at, level_in, probe_times, target_times}
-use Rattle.level_board.specs.declared.level.Level.{Level}
-use Rattle.level_board.specs.declared.level.Level.TheVariants.{Covered, Maybe, Free}
+use Rattle.kept_facts.specs.level_board.Rows.{level_now}
+use Rattle.kept_facts.specs.level_board.Board.{AreAnswers, Board, FitsBoard, level_at, level_in, probe_times, target_times}
+use Rattle.kept_facts.specs.level_board.declared.level.Level.{Level}
+use Rattle.kept_facts.specs.level_board.declared.level.Level.TheVariants.{Covered, Maybe, Free}
 use Rattle.cpe_rows.specs.Rows.{Rows}
 use Rattle.cpe_rows.specs.Truth.{or_of}
 use Rattle.cpe_rows.specs.Verdict.{fact_truth, truth}

@@ -11,3 +11,4 @@ pub mod LeadLemmas
 pub mod LeadMove
 pub mod RoomLemmas
 pub mod PartLemmas
+pub use Rattle.fact_laws.proofs as fact_laws

@@ -5,12 +5,12 @@ use Rattle.std.specs.List.{AllByRecursion, list_any}
 use Rattle.std.proofs.lemmas.Bool.{false_from_ne_true, or_cases, or_left, or_right, true≢false}
 use Rattle.name_index.specs.declared.table.NameId.{NameId}
 use Rattle.name_index.specs.Table.{AreNames, Names, kept_at}
-use Rattle.level_board.specs.Board.{AreAnswers, AreMarks, Board, FitsBoard, is_marked, KeepsLevels, probe_times}
+use Rattle.kept_facts.specs.level_board.Board.{AreAnswers, AreMarks, Board, FitsBoard, is_marked, KeepsLevels, probe_times}
 use Rattle.cpe_rows.specs.Rows.{no_rows, Rows}
 use Rattle.cpe_rows.specs.Verdict.{fact_truth}
 use Rattle.cpe_rows.specs.declared.statement.Mode.{Mode}
 use Rattle.cpe_rows.specs.declared.statement.Mode.TheVariants.{Plain, Follow}
-use Rattle.product_orders.specs.declared.products.Side.TheVariants as side
+use Rattle.name_index.specs.product_orders.declared.products.Side.TheVariants as side
 use Rattle.fact_laws.specs.Shown.{name_at}
 use Rattle.fact_laws.specs.Asked.{asked, is_referred}
 use Rattle.kept_facts.specs.Kept.{AreSound, Boards, looks_by, ShowsRows}

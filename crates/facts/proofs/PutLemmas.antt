@@ -3,12 +3,12 @@ use Rattle.std.proofs.Common.{◌≡◌, ℕ, ◌+◌, ◌<◌, ◌≤◌, Bool,
 use Rattle.std.specs.List.{AllByRecursion, list_any, flat_map, sum_by}
 use Rattle.std.proofs.lemmas.Bool.{both_ways, cases_Bool, true≢false}
 use Rattle.std.proofs.lemmas.List.{append-nil}
-use Rattle.cpe_name.specs.Eleven.{Values}
-use Rattle.product_orders.specs.Elements.{SameElements}
-use Rattle.product_orders.specs.declared.products.Side.TheVariants as side
+use Rattle.cpe_rows.specs.cpe_name.Eleven.{Values}
+use Rattle.name_index.specs.product_orders.Elements.{SameElements}
+use Rattle.name_index.specs.product_orders.declared.products.Side.TheVariants as side
 use Rattle.name_index.specs.declared.table.NameId.{NameId}
 use Rattle.name_index.specs.Table.{AreNames, IsLive, Names, kept_at}
-use Rattle.level_board.specs.Board.{AreAnswers, AreMarks, Board, FitsBoard, is_marked, KeepsLevels}
+use Rattle.kept_facts.specs.level_board.Board.{AreAnswers, AreMarks, Board, FitsBoard, is_marked, KeepsLevels}
 use Rattle.cpe_rows.specs.After.{after}
 use Rattle.cpe_rows.specs.FactNames.{fact_names}
 use Rattle.cpe_rows.specs.Names.{is_same}
@@ -28,7 +28,7 @@ use Rattle.kept_facts.specs.Kept.{AreLive, board_of, looks_by, ShowsRows}
 use Rattle.fact_rows.specs.Facts.{differs, Fact, fact_at, FactTable, has_end, leads_by, leads_of, truth_of, truth_or_unknown, users_of, users_or_none}
 use Rattle.fact_rows.specs.Calls.{Refreshed}
 use Rattle.fact_rows.specs.Tickets.{ends_with, is_empty, with_last}
-use Rattle.ticket_list.specs.Rising.{IsRising}
+use Rattle.fact_rows.specs.ticket_list.Rising.{IsRising}
 use Rattle.facts.specs.Facts.{AreChanges, FactsBut, FactsNow, HasFacts, is_touched, is_used, LeadsTo, table_of}
 use Rattle.facts.specs.Calls.{UsersAdded}
 use Rattle.facts.specs.Users.{AreBelow, AreTickets, users_in}

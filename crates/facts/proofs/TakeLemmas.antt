@@ -4,7 +4,7 @@ use Rattle.std.specs.Prelude.{is_some, find}
 use Rattle.std.proofs.lemmas.Bool.{true≢false}
 use Rattle.name_index.specs.declared.table.NameId.{NameId}
 use Rattle.name_index.specs.Table.{AreNames, IsLive, Names, kept_at}
-use Rattle.level_board.specs.Board.{AreAnswers, AreMarks, Board, FitsBoard, KeepsLevels}
+use Rattle.kept_facts.specs.level_board.Board.{AreAnswers, AreMarks, Board, FitsBoard, KeepsLevels}
 use Rattle.cpe_rows.specs.After.{after}
 use Rattle.cpe_rows.specs.FactNames.{fact_names}
 use Rattle.cpe_rows.specs.Rows.{has_id, Rows}
@@ -22,8 +22,8 @@ use Rattle.facts.specs.Calls.{FactsRemoved, UsersRemoved}
 use Rattle.facts.specs.Users.{AreTickets, ticket_of, users_in}
 use Rattle.facts.proofs.LessLemmas.{users_above, users_less, users_without}
 use Rattle.fact_laws.specs.Asked.{refers_to}
-use Rattle.cpe_name.specs.Eleven.{Values}
-use Rattle.ticket_list.specs.Rising.{IsRising}
+use Rattle.cpe_rows.specs.cpe_name.Eleven.{Values}
+use Rattle.fact_rows.specs.ticket_list.Rising.{IsRising}
 use Rattle.facts.proofs.MoveLemmas.{linked_still, moved, no_used}
 use Rattle.facts.proofs.PutLemmas.{none_touched, refers_here, refers_not}
 

@@ -4,7 +4,7 @@ use Rattle.std.specs.Prelude.{is_some}
 use Rattle.std.proofs.lemmas.Bool.{or_cases, true≢false}
 use Rattle.std.proofs.Math.Bool.{or-false}
 use Rattle.name_index.specs.declared.table.NameId.{NameId}
-use Rattle.level_board.specs.Board.{Board}
+use Rattle.kept_facts.specs.level_board.Board.{Board}
 use Rattle.cpe_rows.specs.declared.statement.Mode.{Mode}
 use Rattle.cpe_rows.specs.declared.statement.Mode.TheVariants.{Plain, Follow}
 use Rattle.fact_rows.specs.Calls.{Refreshed, SameFacts}

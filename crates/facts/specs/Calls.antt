@@ -3,8 +3,8 @@ use Rattle.std.specs.Prelude.{◌≡◌, ℕ, ◌≤◌, ◌&&◌, ◌||◌, ◌
 use Rattle.std.specs.List.{flat_map, list_any}
 use Rattle.name_index.specs.declared.table.NameId.{NameId}
 use Rattle.name_index.specs.Table.{Names, IsLive}
-use Rattle.product_orders.specs.Elements.{SameElements}
-use Rattle.cpe_steps.specs.Within.{StepsWithin}
+use Rattle.name_index.specs.product_orders.Elements.{SameElements}
+use Rattle.name_index.specs.cpe_steps.Within.{StepsWithin}
 use Rattle.cpe_rows.specs.After.{after}
 use Rattle.cpe_rows.specs.FactNames.{fact_names}
 use Rattle.cpe_rows.specs.Lawful.{IsLawful}
@@ -15,7 +15,7 @@ use Rattle.cpe_rows.specs.declared.statement.Mode.{Mode}
 use Rattle.cpe_rows.specs.declared.statement.Mode.TheVariants.{Follow}
 use Rattle.cpe_rows.specs.declared.statement.Statement.{Statement}
 use Rattle.fact_laws.specs.Shown.{name_at, names_at, times_in}
-use Rattle.level_board.specs.Board.{probe_times}
+use Rattle.kept_facts.specs.level_board.Board.{probe_times}
 use Rattle.fact_laws.specs.Asked.{fresh_facts, leads}
 use Rattle.kept_facts.specs.Kept.{AreLive, board_of}
 use Rattle.fact_rows.specs.Facts.{AreLinked, ends_of, fact_at, facts_of, FactTable, has_end, has_room, is_fact, leads_of, truth_of, users_of}

@@ -1,11 +1,11 @@
 -- What a change of a deprecation changes of the facts.
 use Rattle.std.specs.Prelude.{◌≡◌, ◌≤◌, ℕ, List, length, Some, true}
 use Rattle.std.specs.List.{AllByRecursion}
-use Rattle.cpe_name.specs.Eleven.{Values}
-use Rattle.product_orders.specs.Elements.{SameElements}
+use Rattle.cpe_rows.specs.cpe_name.Eleven.{Values}
+use Rattle.name_index.specs.product_orders.Elements.{SameElements}
 use Rattle.name_index.specs.declared.table.NameId.{NameId}
 use Rattle.name_index.specs.Table.{Names, kept_at}
-use Rattle.cpe_steps.specs.Within.{StepsWithin}
+use Rattle.name_index.specs.cpe_steps.Within.{StepsWithin}
 use Rattle.cpe_rows.specs.After.{after}
 use Rattle.cpe_rows.specs.Chains.{leads_to}
 use Rattle.cpe_rows.specs.Lawful.{IsLawful}

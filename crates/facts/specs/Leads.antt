@@ -2,7 +2,7 @@
 use Rattle.std.specs.Prelude.{◌≡◌, ◌||◌, ℕ, Bool, true, false, nat_eq, List}
 use Rattle.std.specs.List.{AllByRecursion, list_any}
 use Rattle.name_index.specs.Table.{Names, IsLive, kept_at}
-use Rattle.level_board.specs.Board.{Board, FitsBoard}
+use Rattle.kept_facts.specs.level_board.Board.{Board, FitsBoard}
 use Rattle.cpe_rows.specs.Rows.{Rows}
 use Rattle.cpe_rows.specs.Verdict.{fact_truth}
 use Rattle.cpe_rows.specs.declared.entry.Entry.{Entry}

@@ -2,8 +2,8 @@
 -- each different name on the other side whose product meets its own.
 use Rattle.std.specs.Prelude.{ℕ, ◌+◌, ◌∷◌, []}
 use Rattle.std.specs.List.{flat_map}
-use Rattle.cpe_name.specs.Eleven.{Values}
-use Rattle.product_orders.specs.declared.products.Side.TheVariants as side
+use Rattle.cpe_rows.specs.cpe_name.Eleven.{Values}
+use Rattle.name_index.specs.product_orders.declared.products.Side.TheVariants as side
 use Rattle.cpe_rows.specs.Chains.{ends}
 use Rattle.cpe_rows.specs.Rows.{Rows}
 use Rattle.cpe_rows.specs.declared.statement.Mode.TheVariants.{Plain, Follow}

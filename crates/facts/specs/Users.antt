@@ -1,11 +1,11 @@
 -- The users of a fact: the tickets of the statements that refer to its name.
 use Rattle.std.specs.List.{AllByRecursion}
 use Rattle.std.specs.Prelude.{◌≡◌, ◌<◌, ℕ, cond, length, List, [], ◌∷◌, Option, Some, None}
-use Rattle.cpe_name.specs.Eleven.{Values}
+use Rattle.cpe_rows.specs.cpe_name.Eleven.{Values}
 use Rattle.cpe_rows.specs.Rows.{has_id}
 use Rattle.cpe_rows.specs.declared.statement.Mode.{Mode}
 use Rattle.cpe_rows.specs.declared.statement.Statement.{Statement}
-use Rattle.ticket_list.specs.Rising.{IsRising}
+use Rattle.fact_rows.specs.ticket_list.Rising.{IsRising}
 use Rattle.fact_laws.specs.Asked.{refers_to}
 
 -- the tickets of those statements of a mode that refer to a name

@@ -5,7 +5,7 @@ ghost use Rattle.cpe_rows.specs.Prelude.{fact_truth, Rows, Values};
 ghost use Rattle.cpe_rows.specs.declared.statement.Mode.{Mode};
 ghost use Rattle.name_index.specs.declared.table.NameId.{NameId};
 ghost use Rattle.name_index.specs.Table.{Names};
-ghost use Rattle.level_board.specs.Board.{AreAnswers, Board, FitsBoard, probe_times};
+ghost use Rattle.kept_facts.specs.level_board.Board.{AreAnswers, Board, FitsBoard, probe_times};
 ghost use Rattle.fact_laws.specs.Shown.{names_at};
 ghost use Rattle.fact_laws.specs.Asked.{leads};
 ghost use Rattle.kept_facts.specs.Kept.{ShowsRows};

@@ -3,13 +3,13 @@ ghost use Rattle.std.specs.Prelude.{◌≡◌, ◌∷◌, [], ℕ, Bool, List};
 ghost use Rattle.cpe_rows.specs.Prelude.{fact_truth, Rows};
 ghost use Rattle.cpe_rows.specs.declared.statement.Mode.TheVariants.{Follow};
 ghost use Rattle.name_index.specs.Table.{AreNames, kept_at, Names};
-ghost use Rattle.level_board.specs.Board.{AreAnswers};
+ghost use Rattle.kept_facts.specs.level_board.Board.{AreAnswers};
 ghost use Rattle.facts.specs.declared.lead.Led.{Led};
 ghost use Rattle.facts.specs.Leads.{AreLedBut, ChangesTo, SameUsers};
 
 use cpe_rows::Mode;
 use fact_rows::FactRows;
-use level_board::LevelBoard;
+use kept_facts::LevelBoard;
 use name_index::NameId;
 use std::slice::from_ref;
 

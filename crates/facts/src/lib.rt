@@ -15,4 +15,5 @@ mod room;
 mod users;
 
 pub use facts::Facts;
+pub use kept_facts::Met;
 pub use lead::Led;

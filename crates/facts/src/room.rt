@@ -7,8 +7,7 @@ ghost use Rattle.facts.specs.Room.{EndsLinked, RoomForUsers, RoomOnBoards, Unuse
 
 use crate::facts::Facts;
 use crate::users::{remove_facts, reserve_users};
-use cpe_rows::Mode;
-use cpe_values::Memory;
+use cpe_rows::{Memory, Mode};
 use kept_facts::Wanted;
 use name_index::{NameId, NameTable};
 use std::alloc::Global;

@@ -1,16 +1,15 @@
 // A statement begins to use facts, or ends it.
 ghost use Rattle.std.specs.Prelude.{◌≡◌, ◌||◌, ℕ, [], false, true};
-ghost use Rattle.ticket_list.specs.Rising.{IsRising};
+ghost use Rattle.fact_rows.specs.ticket_list.Rising.{IsRising};
 ghost use Rattle.fact_rows.specs.Facts.{FactTable, has_end, has_room, is_fact, users_of};
 ghost use Rattle.fact_rows.specs.Calls.{Refreshed};
 ghost use Rattle.fact_rows.specs.Tickets.{ends_with};
 ghost use Rattle.facts.specs.Calls.{FactsRemoved, UsersAdded, UsersRemoved};
 ghost use Rattle.facts.specs.Room.{UsersReserved};
 
-use cpe_rows::Mode;
-use cpe_values::Memory;
+use cpe_rows::{Memory, Mode};
 use fact_rows::FactRows;
-use level_board::LevelBoard;
+use kept_facts::LevelBoard;
 use name_index::NameId;
 
 // Adds a ticket to these facts, each of which has room for it.

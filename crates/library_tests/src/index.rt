@@ -6,9 +6,8 @@ ghost use Rattle.name_index.specs.Index.{Fits};
 ghost use Rattle.library_tests.specs.Tried.{plain};
 
 use cpe_name::{Wfn, read_wfn};
-use cpe_steps::Steps;
-use cpe_values::Memory;
-use name_index::{NameId, NameIndex, NameTable};
+use cpe_rows::Memory;
+use name_index::{NameId, NameIndex, NameTable, Steps};
 use std::alloc::Global;
 use std::sync::ledger::Ledger;
 

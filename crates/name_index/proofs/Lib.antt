@@ -9,3 +9,4 @@ pub mod NearSums
 pub mod Covered
 pub mod Fitting
 pub mod WantedLemmas
+pub use Rattle.product_orders.proofs as product_orders

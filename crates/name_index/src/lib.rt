@@ -18,6 +18,9 @@ mod near;
 mod table;
 mod wanted;
 
+pub use cpe_name::{Attribute, Wfn};
+pub use cpe_steps::Steps;
+pub use cpe_values::Memory;
 pub use index::NameIndex;
 pub use near::Near;
 pub use product_orders::Side;

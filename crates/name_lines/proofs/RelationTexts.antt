@@ -3,9 +3,9 @@ use Rattle.std.proofs.Common.{◌≡◌, ℕ, List, [], ◌∷◌, ◌++◌, tak
 use Rattle.std.specs.List.{flat_map}
 use Rattle.std.specs.Prelude.{codes}
 use Rattle.std.proofs.lemmas.Grind.{flat_map-append}
-use Rattle.cpe_name.specs.Eleven.{Values}
-use Rattle.cpe_name.specs.declared.attribute.Attribute.{Attribute}
-use Rattle.cpe_name.specs.Names.{attributes, value_of}
+use Rattle.cpe_fs.specs.cpe_name.Eleven.{Values}
+use Rattle.cpe_fs.specs.cpe_name.declared.attribute.Attribute.{Attribute}
+use Rattle.cpe_fs.specs.cpe_name.Names.{attributes, value_of}
 use Rattle.cpe_relation.specs.declared.relation.Relation.{Relation}
 use Rattle.cpe_relation.specs.declared.relation.Relation.TheVariants.{Equal}
 use Rattle.cpe_relation.specs.Table.{relation}

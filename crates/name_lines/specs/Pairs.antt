@@ -5,7 +5,7 @@ use Rattle.std.specs.List.{flat_map}
 use Rattle.std.specs.Fmt.{decimal}
 use Rattle.cpe_io.specs.Halves.{halves}
 use Rattle.cpe_session.specs.Session.{Session, printed, stateless}
-use Rattle.cpe_name.specs.Eleven.{Values}
+use Rattle.cpe_fs.specs.cpe_name.Eleven.{Values}
 use Rattle.cpe_uri.specs.EitherBinding.{read_any}
 use Rattle.cpe_relation.specs.declared.relation.Relation.{Relation}
 use Rattle.cpe_relation.specs.declared.relation.Relation.TheVariants.{Disjoint, Equal, Subset, Superset, Undefined}

@@ -2,13 +2,13 @@
 ghost use Rattle.std.specs.Prelude.{◌≡◌, ◌≤◌, ◌+◌, ◌*◌, ◌∷◌, ◌++◌, Ok, IfOk, OnOk, codes, drop, length, take, true, flat_map};
 ghost use Rattle.cpe_io.specs.Halves.{halves};
 ghost use Rattle.cpe_session.specs.Pages.{Puts};
-ghost use Rattle.cpe_name.specs.Prelude.{attributes, name_lent};
+ghost use Rattle.cpe_fs.specs.cpe_name.Prelude.{attributes, name_lent};
 ghost use Rattle.cpe_uri.specs.EitherBinding.{IsUriOrFs, read_any};
 ghost use Rattle.cpe_relation.specs.NameRelation.{relation_of};
 ghost use Rattle.name_lines.specs.Pairs.{relation_text, relation_line, to_target, from_source, compared, pair_reason_text};
 
+use cpe_fs::{ATTRIBUTES, Attribute, NameRef, Wfn};
 use cpe_io::cut_in_halves;
-use cpe_name::{ATTRIBUTES, Attribute, NameRef, Wfn};
 use cpe_relation::{Relation, Relations, compare_lent};
 use cpe_room::{put, put_byte};
 use cpe_session::{Fill, Page, Reason, Stateless};

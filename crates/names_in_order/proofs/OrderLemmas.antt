@@ -7,9 +7,9 @@ use Rattle.std.proofs.lemmas.Option.{none-some, same_Some, slice_get_within, sli
 use Rattle.std.proofs.lemmas.List.{length-map, get_or-map}
 use Rattle.std.proofs.lemmas.List.Sums.{sum_by-cons, position_or_len_is}
 use Rattle.std.proofs.lemmas.Map.Keys.{IsDistinct-from_apart, apart_from_distinct}
-use Rattle.cpe_name.specs.Eleven.{Values}
-use Rattle.cpe_name.specs.Equal.{same_name, same_name-Decides}
-use Rattle.product_orders.specs.Elements.{SameElements}
+use Rattle.name_index.specs.cpe_name.Eleven.{Values}
+use Rattle.name_index.specs.cpe_name.Equal.{same_name, same_name-Decides}
+use Rattle.name_index.specs.product_orders.Elements.{SameElements}
 use Rattle.name_index.specs.declared.table.NameId.{NameId}
 use Rattle.name_index.specs.Table.{Names, Kept, kept_or, find_kept, kept_at, IsLive, HasName, AreNames}
 use Rattle.name_index.specs.Index.{ids, name_id, times_held}

@@ -5,8 +5,8 @@ use Rattle.std.specs.List.{list_any}
 use Rattle.std.proofs.lemmas.Bool.{both_ways, false_from_ne_true, or_left, or_right}
 use Rattle.std.proofs.lemmas.List.Folds.{list_any-append}
 use Rattle.std.proofs.lemmas.Option.{none-some, same_Some}
-use Rattle.cpe_name.specs.Eleven.{Values}
-use Rattle.cpe_name.specs.Equal.{same_name}
+use Rattle.name_index.specs.cpe_name.Eleven.{Values}
+use Rattle.name_index.specs.cpe_name.Equal.{same_name}
 use Rattle.name_index.specs.declared.table.NameId.{NameId}
 use Rattle.name_index.specs.Index.{name_id}
 use Rattle.name_index.specs.Table.{Names, Kept, kept, kept_or, find_kept, kept_at, HasName, Holding, Holds, Releases, released}

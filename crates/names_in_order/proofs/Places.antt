@@ -7,15 +7,15 @@ use Rattle.std.proofs.lemmas.Bool.{both_ways, false_from_ne_true, false≢true}
 use Rattle.std.proofs.lemmas.List.Sums.{sum_by-cons, sum_by-le-sum_by, position_or_len_is}
 use Rattle.std.proofs.lemmas.List.Sorted.{IsPermutation-refl}
 use Rattle.std.proofs.lemmas.Map.Keys.{apart_from_distinct}
-use Rattle.cpe_name.specs.Eleven.{Values}
-use Rattle.cpe_name.specs.Equal.{same_name, same_name-Decides}
-use Rattle.cpe_name.specs.Names.{any_values}
+use Rattle.name_index.specs.cpe_name.Eleven.{Values}
+use Rattle.name_index.specs.cpe_name.Equal.{same_name, same_name-Decides}
+use Rattle.name_index.specs.cpe_name.Names.{any_values}
 use Rattle.cpe_relation.specs.NameRelation.{covers}
 use Rattle.cpe_relation.specs.Near.{near}
 use Rattle.cpe_relation.proofs.NearLaws.{above_near}
-use Rattle.product_orders.specs.Elements.{SameElements}
-use Rattle.product_orders.specs.Near.{covers_product}
-use Rattle.product_orders.proofs.Sums.{if_passes, sum_filter}
+use Rattle.name_index.specs.product_orders.Elements.{SameElements}
+use Rattle.name_index.specs.product_orders.Near.{covers_product}
+use Rattle.name_index.proofs.product_orders.Sums.{if_passes, sum_filter}
 use Rattle.name_index.specs.declared.table.NameId.{NameId}
 use Rattle.name_index.specs.Table.{Names, kept_at}
 use Rattle.name_index.specs.Index.{ids, name_id, is_product_covered, is_covered}

@@ -1,8 +1,8 @@
 -- The names of the numbers that an index holds, and where they stand in a list.
 use Rattle.std.specs.Prelude.{ℕ, List, [], map, position}
 use Rattle.std.specs.List.{cons_option}
-use Rattle.cpe_name.specs.Eleven.{Values}
-use Rattle.cpe_name.specs.Equal.{same_name}
+use Rattle.name_index.specs.cpe_name.Eleven.{Values}
+use Rattle.name_index.specs.cpe_name.Equal.{same_name}
 use Rattle.name_index.specs.declared.table.NameId.{NameId}
 use Rattle.name_index.specs.Table.{Names, kept_at}
 

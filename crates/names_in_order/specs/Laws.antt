@@ -1,6 +1,6 @@
 -- Laws of numbers in an order and the table of their names.
 use Rattle.std.specs.Prelude.{◌≡◌, ◌∷◌, ◌++◌, [], ℕ, List}
-use Rattle.cpe_name.specs.Eleven.{Values}
+use Rattle.name_index.specs.cpe_name.Eleven.{Values}
 use Rattle.name_index.specs.declared.table.NameId.{NameId}
 use Rattle.name_index.specs.Table.{AreNames, Names, kept_at, Holds, Releases}
 use Rattle.names_in_order.specs.InOrder.{AreInOrder, IsSafe, KeepsAll, names_numbered}

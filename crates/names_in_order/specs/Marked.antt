@@ -1,7 +1,7 @@
 -- Numbers by place, and a mark in the place of each that has gone.
 use Rattle.std.specs.Prelude.{◌≡◌, ◌≤◌, ◌<◌, ◌+◌, ◌^◌, ◌++◌, ◌∷◌, [], ℕ, Bool, true, false, nat_lt, cond, if◌then◌else◌, filter, length, take, drop, get_or, List, Option, Some, None, slice_get}
 use Rattle.std.specs.List.{cons_option, filter_map, list_any}
-use Rattle.product_orders.specs.Elements.{SameElements}
+use Rattle.name_index.specs.product_orders.Elements.{SameElements}
 use Rattle.name_index.specs.declared.table.NameId.{NameId}
 use Rattle.names_in_order.specs.InOrder.{same_id}
 

@@ -1,7 +1,7 @@
 -- A table of names that one list of names has for itself.
 use Rattle.std.specs.Prelude.{◌≡◌, ◌≢◌, ℕ, List, Some, false, true}
 use Rattle.std.specs.List.{list_any}
-use Rattle.cpe_name.specs.Equal.{same_name}
+use Rattle.name_index.specs.cpe_name.Equal.{same_name}
 use Rattle.name_index.specs.declared.table.NameId.{NameId}
 use Rattle.name_index.specs.Index.{name_id}
 use Rattle.name_index.specs.Table.{Names, Kept, IsLive, find_kept, kept_at}

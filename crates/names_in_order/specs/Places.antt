@@ -1,11 +1,11 @@
 -- Where names stand in a list, how many of them are near a name, and how many a search for it looks at.
 use Rattle.std.specs.Prelude.{ℕ, List, [], ◌∷◌, length, get_or, filter, count_by, slice_get}
 use Rattle.std.specs.List.{cons_option, range_with_len}
-use Rattle.cpe_name.specs.Eleven.{Values}
-use Rattle.cpe_name.specs.Names.{any_values}
+use Rattle.name_index.specs.cpe_name.Eleven.{Values}
+use Rattle.name_index.specs.cpe_name.Names.{any_values}
 use Rattle.cpe_relation.specs.NameRelation.{covers}
 use Rattle.cpe_relation.specs.Near.{near}
-use Rattle.product_orders.specs.Near.{covers_product}
+use Rattle.name_index.specs.product_orders.Near.{covers_product}
 
 -- the name at a place from 0
 abbrev pub name_at : List Values → ℕ → Values

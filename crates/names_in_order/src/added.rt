@@ -5,8 +5,7 @@ ghost use Rattle.name_index.specs.Prelude.{IsLive, kept_at, same_name};
 ghost use Rattle.name_index.specs.declared.table.NameId.{NameId};
 ghost use Rattle.names_in_order.specs.InOrder.{AreInOrder, names_numbered};
 
-use cpe_values::Memory;
-use name_index::{NameId, NameIndex, NameTable};
+use name_index::{Memory, NameId, NameIndex, NameTable};
 
 /// Different numbers in an order, after which one more may be put.
 pub trait PushNumber {

@@ -8,10 +8,7 @@ ghost use Rattle.names_in_order.specs.Places.{looked_count, near_count};
 
 use crate::added::add_number;
 use crate::marked::MarkedNumbers;
-use cpe_name::Wfn;
-use cpe_steps::Steps;
-use cpe_values::Memory;
-use name_index::{NameId, NameIndex, NameTable};
+use name_index::{Memory, NameId, NameIndex, NameTable, Steps, Wfn};
 use std::alloc::Global;
 use std::marker::Model;
 use std::sync::ledger::Ledger;

@@ -8,11 +8,8 @@ ghost use Rattle.names_in_order.specs.Places.{looked_count, near_count, places_c
 
 use crate::added::add_number;
 use crate::numbers::NumbersInOrder;
-use cpe_name::{Attribute, Wfn};
 use cpe_relation::{covers_in_order, deciding_order};
-use cpe_steps::Steps;
-use cpe_values::Memory;
-use name_index::{NameId, NameIndex, NameTable};
+use name_index::{Attribute, Memory, NameId, NameIndex, NameTable, Steps, Wfn};
 use std::alloc::Global;
 use std::marker::Model;
 use std::sync::ledger::Ledger;
@@ -44,7 +41,7 @@ pub struct NamesInOrder<'t> {
 
 impl<'t> Model for NamesInOrder<'t> {
     ghost use Rattle.std.specs.Prelude.{List};
-    ghost use Rattle.cpe_name.specs.Eleven.{Values};
+    ghost use Rattle.name_index.specs.cpe_name.Eleven.{Values};
     ghost use Rattle.names_in_order.specs.InOrder.{AreInOrder, names_numbered};
 
     ghost Value = { List Values };

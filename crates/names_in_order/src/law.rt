@@ -2,7 +2,7 @@
 ghost use Rattle.std.specs.Prelude.{◌≡◌, ◌≢◌, ℕ, List, Some, slice_get, true};
 ghost use Rattle.std.specs.List.{IsDistinct, list_any};
 ghost use Rattle.name_index.specs.declared.table.NameId.{NameId};
-ghost use Rattle.cpe_name.specs.Equal.{same_name};
+ghost use Rattle.name_index.specs.cpe_name.Equal.{same_name};
 ghost use Rattle.name_index.specs.Table.{AreNames, Names, kept_at};
 ghost use Rattle.names_in_order.specs.InOrder.{AreLive, names_numbered, same_id};
 ghost use Rattle.names_in_order.specs.Laws.{OrdersStay};

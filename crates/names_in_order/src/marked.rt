@@ -5,8 +5,7 @@ ghost use Rattle.names_in_order.specs.InOrder.{same_id};
 ghost use Rattle.names_in_order.specs.Marked.{AreClosing, AreMarked, HavePlaces, IsFirstPlace, PutsInOrder, closing_numbers, earlier as earlier_of, found_place, is_slot_of, numbers_in, places_of, standing_at, without_first};
 
 use crate::added::PushNumber;
-use cpe_values::Memory;
-use name_index::NameId;
+use name_index::{Memory, NameId};
 use std::alloc::Global;
 use std::marker::Model;
 

@@ -4,8 +4,7 @@ ghost use Rattle.std.specs.List.{IsDistinct};
 ghost use Rattle.names_in_order.specs.InOrder.{same_id, place_found, ArePlaced};
 
 use crate::added::PushNumber;
-use cpe_values::Memory;
-use name_index::NameId;
+use name_index::{Memory, NameId};
 use std::alloc::Global;
 use std::marker::Model;
 

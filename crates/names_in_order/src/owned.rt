@@ -7,9 +7,7 @@ ghost use Rattle.names_in_order.specs.Owned.{AreOwn, IsNew};
 
 use crate::changing::ChangingNames;
 use crate::growing::GrowingNames;
-use cpe_name::Wfn;
-use cpe_values::Memory;
-use name_index::{NameId, NameTable};
+use name_index::{Memory, NameId, NameTable, Wfn};
 
 /// Names in an order, by their numbers in a table, after which one more may be put.
 pub trait PushHeld {

@@ -8,10 +8,10 @@ use Rattle.std.proofs.lemmas.Option.{same_Some, none-some}
 use Rattle.std.proofs.lemmas.List.{get_or_past}
 use Rattle.std.proofs.lemmas.List.Sums.{sum_by-cons, sum_by-append}
 use Rattle.std.proofs.lemmas.List.Sorted.{sum_by-IsPermutation}
-use Rattle.cpe_values.specs.declared.value.Value.{Value}
-use Rattle.cpe_values.specs.Equal.{same_value-Decides}
-use Rattle.cpe_values.specs.Lower.{lower_value}
-use Rattle.cpe_values.specs.Same.{same_value}
+use Rattle.cpe_relation.specs.cpe_values.declared.value.Value.{Value}
+use Rattle.cpe_relation.specs.cpe_values.Equal.{same_value-Decides}
+use Rattle.cpe_relation.specs.cpe_values.Lower.{lower_value}
+use Rattle.cpe_relation.specs.cpe_values.Same.{same_value}
 use Rattle.number_blocks.specs.Blocks.{IsTaken}
 use Rattle.product_orders.specs.declared.keys.End.{End}
 use Rattle.product_orders.specs.declared.keys.End.TheVariants as end

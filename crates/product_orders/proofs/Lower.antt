@@ -7,13 +7,13 @@ use Rattle.std.specs.Char.{to_ascii_lowercase}
 use Rattle.std.proofs.lemmas.List.{take_all}
 use Rattle.std.proofs.lemmas.Bool.{leb-true, le-leb, false_from_ne_true, both_ways}
 use lib.Pointwise.{pointwise}
-use Rattle.cpe_values.specs.declared.value.Edge.{Edge}
-use Rattle.cpe_values.specs.declared.value.Edge.TheVariants as edge
-use Rattle.cpe_values.specs.Same.{same_edge, same_value}
-use Rattle.cpe_values.specs.declared.value.Value.{Value}
-use Rattle.cpe_values.specs.declared.value.Value.TheVariants as value
-use Rattle.cpe_values.specs.Parts.{Parts, is_nothing, has_special}
-use Rattle.cpe_values.specs.Lower.{lower_value}
+use Rattle.cpe_relation.specs.cpe_values.declared.value.Edge.{Edge}
+use Rattle.cpe_relation.specs.cpe_values.declared.value.Edge.TheVariants as edge
+use Rattle.cpe_relation.specs.cpe_values.Same.{same_edge, same_value}
+use Rattle.cpe_relation.specs.cpe_values.declared.value.Value.{Value}
+use Rattle.cpe_relation.specs.cpe_values.declared.value.Value.TheVariants as value
+use Rattle.cpe_relation.specs.cpe_values.Parts.{Parts, is_nothing, has_special}
+use Rattle.cpe_relation.specs.cpe_values.Lower.{lower_value}
 use Rattle.cpe_relation.specs.Matching.{lower}
 use Rattle.cpe_relation.specs.MatchTests.{begins_with, same_lower}
 use Rattle.cpe_relation.specs.Near.{near, near_plain}

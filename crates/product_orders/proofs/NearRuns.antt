@@ -8,10 +8,10 @@ use Rattle.std.proofs.lemmas.List.Sums.{sum_by-append}
 use Rattle.std.proofs.lemmas.Slice.Eq.{starts_is, ends_is}
 use Rattle.std.proofs.lemmas.Bool.{cases_Bool, ltb-true, lt-ltb, and_parts, and_from, false_from_ne_true, both_ways}
 use lib.Pointwise.{pointwise}
-use Rattle.cpe_values.specs.declared.value.Value.{Value}
-use Rattle.cpe_values.specs.declared.value.Value.TheVariants as value
-use Rattle.cpe_values.specs.Parts.{Parts, is_nothing}
-use Rattle.cpe_values.specs.Lower.{lower_value}
+use Rattle.cpe_relation.specs.cpe_values.declared.value.Value.{Value}
+use Rattle.cpe_relation.specs.cpe_values.declared.value.Value.TheVariants as value
+use Rattle.cpe_relation.specs.cpe_values.Parts.{Parts, is_nothing}
+use Rattle.cpe_relation.specs.cpe_values.Lower.{lower_value}
 use Rattle.cpe_relation.specs.Near.{near, near_plain}
 use Rattle.product_orders.specs.declared.keys.End.TheVariants as end
 use Rattle.product_orders.specs.declared.keys.Shape.{Shape}

@@ -6,10 +6,10 @@ use Rattle.std.proofs.lemmas.Bool.{cases_eq, cases_lt, both_ways, or_cases, fals
 use Rattle.std.proofs.lemmas.Option.{slice_get_past, slice_get_within, slice_get-get_or, same_Some}
 use Rattle.std.proofs.lemmas.List.{get_or-set_same, get_or-set_other, get_or_append_left, get_or_push, length_push, length-map, length-take-le}
 use Rattle.std.proofs.lemmas.List.Quantifiers.{position-Some}
-use Rattle.cpe_values.specs.declared.value.Value.{Value}
-use Rattle.cpe_values.specs.declared.value.Value.TheVariants as value
-use Rattle.cpe_values.specs.Same.{same_value}
-use Rattle.cpe_values.specs.Equal.{same_value-Decides}
+use Rattle.cpe_relation.specs.cpe_values.declared.value.Value.{Value}
+use Rattle.cpe_relation.specs.cpe_values.declared.value.Value.TheVariants as value
+use Rattle.cpe_relation.specs.cpe_values.Same.{same_value}
+use Rattle.cpe_relation.specs.cpe_values.Equal.{same_value-Decides}
 use Rattle.product_orders.specs.Listed.{product_at, Adds, Removes}
 use Rattle.product_orders.specs.Placed.{number_at, by_number, Undoes, ArePlaced, Grows, freed_numbers, freed_places}
 use Rattle.product_orders.proofs.Live.{none_past, known}

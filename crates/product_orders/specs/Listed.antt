@@ -1,8 +1,8 @@
 -- Products by number: a number has one product at most.
 use Rattle.std.specs.Prelude.{◌≡◌, ◌≢◌, ℕ, List, Option, Some, None, is_some, length}
 use Rattle.std.specs.List.{slice_index_or, filter, range_with_len}
-use Rattle.cpe_values.specs.declared.value.Value.{Value}
-use Rattle.cpe_values.specs.declared.value.Value.TheVariants as value
+use Rattle.cpe_relation.specs.cpe_values.declared.value.Value.{Value}
+use Rattle.cpe_relation.specs.cpe_values.declared.value.Value.TheVariants as value
 
 abbrev pub Product : Type 0
 Product = Value

@@ -1,8 +1,8 @@
 -- How products lie in their lists: different ones by place, and for each number its place.
 use Rattle.std.specs.Prelude.{◌≡◌, ℕ, ◌<◌, ◌≤◌, List, [], ◌∷◌, ◌++◌, map, get_or, set, length}
 use Rattle.std.specs.List.{IsDistinct, slice_get}
-use Rattle.cpe_values.specs.declared.value.Value.{Value}
-use Rattle.cpe_values.specs.Same.{same_value}
+use Rattle.cpe_relation.specs.cpe_values.declared.value.Value.{Value}
+use Rattle.cpe_relation.specs.cpe_values.Same.{same_value}
 use Rattle.product_orders.specs.Listed.{Listed}
 
 abbrev pub number_at : List ℕ → ℕ → ℕ

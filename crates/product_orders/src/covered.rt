@@ -5,8 +5,7 @@ ghost use Rattle.product_orders.specs.Listed.{value_at};
 ghost use Rattle.product_orders.specs.Near.{covers_product};
 
 use crate::products::Products;
-use cpe_relation::{Relation, compare_values};
-use cpe_values::Value;
+use cpe_relation::{Relation, Value, compare_values};
 
 fn is_above(relation: Relation) -> bool
     ensures { result ≡ is_above relation }

@@ -2,11 +2,11 @@
 ghost use Rattle.std.specs.Prelude.{◌≡◌, ◌∷◌, reverse};
 ghost use Rattle.std.specs.Ordering.{nat_cmp};
 ghost use Rattle.std.specs.Cmp.Lexicographic.{slice_cmp};
-ghost use Rattle.cpe_values.specs.declared.value.Value.TheVariants.{Text};
-ghost use Rattle.cpe_values.specs.Parts.{is_nothing};
+ghost use Rattle.cpe_relation.specs.cpe_values.declared.value.Value.TheVariants.{Text};
+ghost use Rattle.cpe_relation.specs.cpe_values.Parts.{is_nothing};
 ghost use Rattle.product_orders.specs.Keys.{shape_by, shape_of, rank, body_of, turned, text_order, touches, has_by};
 
-use cpe_values::{Edge, Pattern, Value};
+use cpe_relation::{Edge, Pattern, Value};
 use std::cmp::Ordering;
 
 /// From which end bodies are compared.

@@ -2,14 +2,14 @@
 ghost use Rattle.std.specs.Prelude.{◌≡◌, ℕ, ◌<◌, ◌≤◌, false, [], ◌∷◌, ◌++◌, length, get_or, Some, None, IsNone, IsSome, IfSome, IfOk, OnOk, OnErr, option_copied};
 ghost use Rattle.std.specs.Prelude.{vec_len, vec_capacity};
 ghost use Rattle.std.specs.List.{IsDistinct, swap_remove, filter};
-ghost use Rattle.cpe_values.specs.declared.value.Value.{Value};
-ghost use Rattle.cpe_values.specs.declared.value.Value.TheVariants as value;
-ghost use Rattle.cpe_values.specs.Same.{same_value};
+ghost use Rattle.cpe_relation.specs.cpe_values.declared.value.Value.{Value};
+ghost use Rattle.cpe_relation.specs.cpe_values.declared.value.Value.TheVariants as value;
+ghost use Rattle.cpe_relation.specs.cpe_values.Same.{same_value};
 ghost use Rattle.product_orders.specs.Elements.{SameElements};
 ghost use Rattle.product_orders.specs.Listed.{product_at, value_at, live, Adds, Removes};
 ghost use Rattle.product_orders.specs.Placed.{number_at, Grows, freed_numbers, freed_places};
 
-use cpe_values::{Memory, Value};
+use cpe_relation::{Memory, Value};
 use indexmap::IndexSet;
 use std::alloc::Global;
 use std::marker::Model;

@@ -1,13 +1,13 @@
 // Products by number.
 ghost use Rattle.std.specs.Prelude.{◌≡◌, ◌≤◌, ℕ, [], length, Some, IsNone, IsSome, IfSome, IfOk, OnErr};
-ghost use Rattle.cpe_values.specs.declared.value.Value.{Value};
-ghost use Rattle.cpe_values.specs.Lower.{lower_value};
+ghost use Rattle.cpe_relation.specs.cpe_values.declared.value.Value.{Value};
+ghost use Rattle.cpe_relation.specs.cpe_values.Lower.{lower_value};
 ghost use Rattle.product_orders.specs.Listed.{product_at, value_at, Adds, Removes};
 
 use crate::keys::End;
 use crate::numbered::Numbered;
 use crate::order::{put_number, take_number};
-use cpe_values::{Memory, Value};
+use cpe_relation::{Memory, Value};
 use number_blocks::Blocks;
 use std::alloc::Global;
 use std::marker::Model;

@@ -2,9 +2,9 @@
 ghost use Rattle.std.specs.Bool.{OnTrue, OnFalse};
 ghost use Rattle.std.specs.Prelude.{◌≡◌, ◌≤◌, ◌<◌, ◌+◌, ◌-◌, ℕ, true, false, drop, List, ◌++◌, [], length, filter};
 ghost use Rattle.std.specs.Iterator.{YieldsFirst, item_count};
-ghost use Rattle.cpe_values.specs.Lower.{lower_value};
+ghost use Rattle.cpe_relation.specs.cpe_values.Lower.{lower_value};
 ghost use Rattle.cpe_relation.specs.Near.{near};
-ghost use Rattle.cpe_values.specs.declared.value.Value.TheVariants.{Text};
+ghost use Rattle.cpe_relation.specs.cpe_values.declared.value.Value.TheVariants.{Text};
 ghost use Rattle.product_orders.specs.declared.keys.End.TheVariants as end;
 ghost use Rattle.product_orders.specs.declared.keys.Shape.TheVariants as shapes;
 ghost use Rattle.product_orders.specs.Elements.{SameElements};
@@ -17,7 +17,7 @@ use crate::keys::{End, Shape, text_shape};
 use crate::numbered::Numbered;
 use crate::order::{Run, in_run};
 use crate::products::{Products, Side};
-use cpe_values::{Pattern, Value};
+use cpe_relation::{Pattern, Value};
 use number_blocks::{Blocks, Piece};
 use std::marker::Model;
 

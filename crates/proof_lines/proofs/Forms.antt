@@ -4,7 +4,7 @@ use Rattle.std.proofs.lemmas.Bool.{and_from}
 use Rattle.std.proofs.lemmas.Bool.Decides.{nat_tests}
 use Rattle.json.specs.Json as json
 use Rattle.serde_json.specs.Read.{max_depth}
-use Rattle.cpe_name.specs.Eleven.{Values}
+use Rattle.cpe_rows.specs.cpe_name.Eleven.{Values}
 use Rattle.cpe_rows.specs.Shape.{largest}
 use Rattle.cpe_rows.specs.declared.truth.Truth.{Truth}
 use Rattle.written_records.specs.Written.{items_by, name_json}

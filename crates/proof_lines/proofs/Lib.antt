@@ -8,3 +8,4 @@ pub mod WhysRead
 pub mod ProofsRead
 pub mod NoRecords
 pub mod GoodForms
+pub use Rattle.written_records.proofs as written_records

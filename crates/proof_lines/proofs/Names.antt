@@ -4,7 +4,7 @@ use Rattle.std.proofs.lemmas.List.Elements.{All-nil, All-cons, All-head, All-tai
 use Rattle.std.specs.List.{flat_map, All}
 use Rattle.std.specs.Option.{option_map_or}
 use Rattle.std.specs.Prelude.{unwrap_or}
-use Rattle.cpe_name.specs.Eleven.{Values}
+use Rattle.cpe_rows.specs.cpe_name.Eleven.{Values}
 use Rattle.cpe_rows.specs.declared.truth.Truth.{Truth}
 use Rattle.checked_certificates.specs.declared.proof.Why.{Why, Logic, Pair, Plain}
 use Rattle.checked_certificates.specs.declared.proof.Why.TheOpen.{Why-F}

@@ -6,9 +6,9 @@ use Rattle.std.proofs.lemmas.Bool.{and_parts}
 use Rattle.std.proofs.lemmas.List.Elements.{All-head, All-tail}
 use Rattle.serde_json.specs.Data.{Data, array}
 use Rattle.serde_json.specs.Find.{get, as_array}
-use Rattle.cpe_name.specs.Eleven.{Values}
-use Rattle.cpe_name.specs.Names.{IsName}
-use Rattle.cpe_fs.specs.Grammar.{fs_text}
+use Rattle.cpe_rows.specs.cpe_name.Eleven.{Values}
+use Rattle.cpe_rows.specs.cpe_name.Names.{IsName}
+use Rattle.cpe_rows.specs.cpe_fs.Grammar.{fs_text}
 use Rattle.cpe_uri.specs.EitherBinding.{UriOrFs, read_any}
 use Rattle.cpe_rows.specs.Names.{is_lower}
 use Rattle.cpe_rows.proofs.NameTests.{is_lower_is}

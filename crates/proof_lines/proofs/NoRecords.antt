@@ -10,8 +10,8 @@ use Rattle.cpe_members.specs.Formats.{format_at}
 use Rattle.cpe_members.specs.Line.{value_of}
 use Rattle.cpe_members.specs.declared.member.Member.TheVariants as member
 use Rattle.cpe_members.specs.declared.member.RecordFault.TheVariants as fault
-use Rattle.cpe_records.specs.Reading.{record_by, json_of, record_of}
-use Rattle.cpe_records.specs.RecordKinds.{record_kind_of}
+use Rattle.written_records.specs.cpe_records.Reading.{record_by, json_of, record_of}
+use Rattle.written_records.specs.cpe_records.RecordKinds.{record_kind_of}
 use Rattle.proof_lines.specs.Reading.{proof_in, proof_by, proof_of}
 
 -- a line without the word `proof` at `do` would be none of a certificate

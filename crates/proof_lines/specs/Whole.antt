@@ -1,8 +1,8 @@
 -- Certificates that have a form as a line.
 use Rattle.std.specs.Prelude.{◌&&◌, ◌++◌, List, [], ◌∷◌, Bool, true, false, nat_le, unwrap_or, All}
 use Rattle.std.specs.List.{list_all, flat_map}
-use Rattle.cpe_name.specs.Eleven.{Values}
-use Rattle.cpe_name.specs.Names.{IsName}
+use Rattle.cpe_rows.specs.cpe_name.Eleven.{Values}
+use Rattle.cpe_rows.specs.cpe_name.Names.{IsName}
 use Rattle.cpe_rows.specs.Names.{is_lower}
 use Rattle.cpe_rows.specs.Valid.{is_id}
 use Rattle.cpe_rows.specs.declared.limits.TheConstants.{MOST_LEVELS}

@@ -4,7 +4,7 @@ use Rattle.json.specs.Token.{Token}
 use Rattle.json.specs.Json.{Json, null, string, array, object, Members, no_members, member}
 use Rattle.json.specs.Tree.{json_tokens}
 use Rattle.json.specs.Print.{print}
-use Rattle.cpe_name.specs.Eleven.{Values}
+use Rattle.cpe_rows.specs.cpe_name.Eleven.{Values}
 use Rattle.cpe_rows.specs.declared.truth.Truth.{Truth}
 use Rattle.cpe_members.specs.Words.{truth_word}
 use Rattle.written_records.specs.Written.{items_by, name_json}

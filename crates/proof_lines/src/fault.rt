@@ -2,7 +2,7 @@
 ghost use Rattle.std.specs.Prelude.{◌≡◌};
 ghost use Rattle.proof_lines.specs.declared.fault.ProofFault.TheVariants as fault;
 
-use cpe_values::Memory;
+use cpe_rows::Memory;
 
 /// Why a line that speaks of a certificate is not of its form: the first cause.
 #[derive(Clone, Copy, Debug, PartialEq, Eq)]

@@ -1,10 +1,10 @@
 // What certificates have by the types of their parts. These functions do nothing: their clauses are facts of every certificate.
 ghost use Rattle.std.specs.Prelude.{All};
-ghost use Rattle.cpe_name.specs.Names.{IsName};
+ghost use Rattle.cpe_rows.specs.cpe_name.Names.{IsName};
 ghost use Rattle.proof_lines.specs.Whole.{HasNames};
 
 use checked_certificates::Why;
-use cpe_name::Wfn;
+use cpe_rows::Wfn;
 
 fn are_names(names: &[Wfn])
     ensures { All IsName names.now }

@@ -2,7 +2,7 @@
 ghost use Rattle.std.specs.Prelude.{◌≡◌, true, Ok, Err, Some, None, List, ℕ, IsUtf8};
 ghost use Rattle.cpe_members.specs.declared.member.Member.TheVariants as member;
 ghost use Rattle.cpe_members.specs.declared.member.RecordFault.TheVariants as record_fault;
-ghost use Rattle.cpe_records.specs.Reading.{record_of};
+ghost use Rattle.written_records.specs.cpe_records.Reading.{record_of};
 ghost use Rattle.cpe_rows.specs.Prelude.{IsLawful, Rows};
 ghost use Rattle.cpe_rows.specs.Reach.{Among};
 ghost use Rattle.cpe_rows.specs.declared.statement.Statement.{Statement};

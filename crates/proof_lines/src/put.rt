@@ -5,9 +5,7 @@ ghost use Rattle.proof_lines.specs.Written.{truth_end, pair_json, plain_json, wh
 
 use checked_certificates::{Proof, Why};
 use cpe_members::truth_word;
-use cpe_name::Wfn;
-use cpe_rows::Truth;
-use cpe_values::Memory;
+use cpe_rows::{Memory, Truth, Wfn};
 use json::{Token, Writer};
 use std::alloc::Global;
 use written_records::{put, put_names};

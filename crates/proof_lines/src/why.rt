@@ -10,8 +10,7 @@ ghost use Rattle.proof_lines.specs.Reading.{truth_at, named, name_in, items_at, 
 use crate::ProofFault;
 use checked_certificates::Why;
 use cpe_members::{array_in, lowered, text_in, truth_of, unbound};
-use cpe_name::Wfn;
-use cpe_rows::{List, MOST_LEVELS, Truth};
+use cpe_rows::{List, MOST_LEVELS, Truth, Wfn};
 use cpe_uri::UriFault;
 use serde_json::Value;
 use std::alloc::Global;

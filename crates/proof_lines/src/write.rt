@@ -8,7 +8,7 @@ use crate::formed::formed;
 use crate::law::written_is_read;
 use crate::put::put_proof;
 use checked_certificates::Proof;
-use cpe_values::Memory;
+use cpe_rows::Memory;
 use json::Writer;
 use std::alloc::Global;
 

@@ -1,7 +1,7 @@
 -- The certificates of all statements, a row for each.
 use Rattle.std.proofs.Common.{ℕ, List, [], ◌++◌, length, slice_get, Option, subst}
 use Rattle.std.specs.Option.{option_map_or}
-use Rattle.cpe_io.specs.Writes.{AppendsPrefix}
+use Rattle.cpe_session.specs.cpe_io.Writes.{AppendsPrefix}
 use Rattle.cpe_session.specs.Pages.{Pours}
 use Rattle.cpe_session.specs.Table.{rows_text}
 use Rattle.cpe_rows.specs.Rows.{Rows}

@@ -9,7 +9,7 @@ use Rattle.cpe_rows.specs.declared.fault.EditFault.{EditFault}
 use Rattle.cpe_records.specs.Reading.{record_of}
 use Rattle.cpe_records.specs.declared.read.Record.{Record}
 use Rattle.cpe_records.specs.declared.read.Record.TheVariants.{Edit, Query}
-use Rattle.cpe_members.specs.declared.member.RecordFault.{RecordFault}
+use Rattle.cpe_records.specs.cpe_members.declared.member.RecordFault.{RecordFault}
 use Rattle.record_lines.specs.declared.records.RecordCommand.{RecordCommand}
 use Rattle.record_lines.specs.declared.records.RecordCommand.TheVariants.{Resolve, Evaluate, Watch, Explain, Check, Save}
 use Rattle.cpe_records.specs.Edited.{stepped, edited, line_edited}

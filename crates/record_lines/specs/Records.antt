@@ -13,9 +13,9 @@ use Rattle.cpe_rows.specs.declared.fault.EditFault.{EditFault}
 use Rattle.cpe_records.specs.Reading.{record_of}
 use Rattle.cpe_records.specs.declared.read.Record.{Record}
 use Rattle.cpe_records.specs.declared.read.Record.TheVariants.{Edit, Query}
-use Rattle.cpe_members.specs.declared.member.RecordFault.{RecordFault}
+use Rattle.cpe_records.specs.cpe_members.declared.member.RecordFault.{RecordFault}
 use Rattle.cpe_drill.specs.Looks.{record_looks}
-use Rattle.cpe_snapshot.specs.States.{snapshot}
+use Rattle.cpe_records.specs.cpe_snapshot.States.{snapshot}
 use Rattle.cpe_replies.specs.Replies.{reply_text, verdict_table, changes_text}
 use Rattle.cpe_replies.specs.Reasons.{record_fault_text, edit_fault_text, proof_fault_text}
 use Rattle.cpe_replies.specs.Proofs.{certificate_lines, checked_line}

@@ -2,17 +2,16 @@
 ghost use Rattle.std.specs.Prelude.{◌≡◌, ◌++◌, true, IfOk, OnErr, OnOk, option_map, flat_map};
 ghost use Rattle.cpe_session.specs.Prelude.{IsBeforeOrAfter, IsSaid, StepsWithin};
 ghost use Rattle.cpe_rows.specs.Prelude.{is_valid_edit, step};
-ghost use Rattle.cpe_engine.specs.Looks.{edit_looks};
+ghost use Rattle.engine_snapshot.specs.cpe_engine.Looks.{edit_looks};
 ghost use Rattle.cpe_replies.specs.Replies.{change_line, changed_id, dropped_id, statement_id};
 ghost use Rattle.cpe_replies.specs.Reasons.{reason_text};
 ghost use Rattle.record_lines.specs.Records.{by_step, edit_text};
 
 use crate::records::RecordCommand;
-use cpe_engine::Engine;
 use cpe_replies::{RecordReason, push_change};
 use cpe_rows::{Changed, Edit, EditFault, Text};
-use cpe_session::Page;
-use cpe_steps::Steps;
+use cpe_session::{Page, Steps};
+use engine_snapshot::Engine;
 use std::alloc::{AllocError, Global};
 use std::sync::ledger::Ledger;
 

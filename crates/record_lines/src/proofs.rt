@@ -7,12 +7,11 @@ ghost use Rattle.cpe_replies.specs.Proofs.{certificate_line, certificate_lines, 
 ghost use Rattle.record_lines.specs.Checking.{checked};
 
 use checked_certificates::{Checked, PlainRows, Proof, check_proof};
-use cpe_engine::Engine;
 use cpe_explain::explain;
-use cpe_io::{Sink, SinkFault};
 use cpe_replies::{RecordReason, push_checked, push_proof};
-use cpe_session::{Page, Table, pour_table};
-use cpe_values::Memory;
+use cpe_rows::Memory;
+use cpe_session::{Page, Sink, SinkFault, Table, pour_table};
+use engine_snapshot::Engine;
 use std::alloc::{AllocError, Global};
 
 // A certificate for each statement.

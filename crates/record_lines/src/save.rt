@@ -1,12 +1,10 @@
 // The snapshot of the rows.
 ghost use Rattle.std.specs.Prelude.{◌++◌, OnOk};
 ghost use Rattle.cpe_session.specs.Prelude.{AppendsPrefix, HasSinkCause, Pours};
-ghost use Rattle.cpe_snapshot.specs.States.{snapshot};
+ghost use Rattle.cpe_records.specs.cpe_snapshot.States.{snapshot};
 
-use cpe_engine::Engine;
-use cpe_io::{Sink, SinkFault};
-use cpe_session::{Page, pour_text};
-use engine_snapshot::write_snapshot;
+use cpe_session::{Page, Sink, SinkFault, pour_text};
+use engine_snapshot::{Engine, write_snapshot};
 use std::alloc::Global;
 
 /// Gives what is gathered, and then the snapshot of the rows, to the sink.

@@ -4,10 +4,9 @@ ghost use Rattle.std.specs.Option.{option_map_or};
 ghost use Rattle.cpe_session.specs.Prelude.{AppendsPrefix, HasSinkCause, Pours};
 ghost use Rattle.cpe_replies.specs.Replies.{statement_line, verdict_table};
 
-use cpe_engine::Engine;
-use cpe_io::{Sink, SinkFault};
 use cpe_replies::push_verdict;
-use cpe_session::{Page, Table, pour_table};
+use cpe_session::{Page, Sink, SinkFault, Table, pour_table};
+use engine_snapshot::Engine;
 use std::alloc::{AllocError, Global};
 
 // A row for each statement.

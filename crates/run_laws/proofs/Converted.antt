@@ -7,17 +7,17 @@ use Rattle.std.proofs.lemmas.Str.{IsUtf8-from_ascii, IsUtf8-from_is_utf8}
 use Rattle.json.specs.Json as json
 use Rattle.json.proofs.Printed.Utf8.{IsUtf8-are_ascii}
 use Rattle.cpe_records.specs.JsonTexts.{WritesTexts, ItemsWriteTexts, MembersWriteTexts, PrintsAreTexts}
-use Rattle.cpe_io.specs.Lines.{lines}
-use Rattle.cpe_values.specs.declared.value.Value.{Value}
-use Rattle.cpe_values.specs.Values.{IsValue}
-use Rattle.cpe_name.specs.declared.attribute.Attribute.{Attribute}
-use Rattle.cpe_name.specs.declared.attribute.Attribute.TheVariants.{Part, Vendor, Product, Version, Update, Edition, Language, SwEdition, TargetSw, TargetHw, Other}
-use Rattle.cpe_name.specs.Eleven.{Values}
-use Rattle.cpe_name.specs.Names.{value_of, IsName}
-use Rattle.cpe_name.specs.Text.{attribute_name}
-use Rattle.cpe_name.proofs.WholeTexts.{good_value}
-use Rattle.cpe_fs.specs.Grammar.{component}
-use Rattle.cpe_uri.specs.Canon.{is_any}
+use Rattle.cpe_command.specs.cpe_io.Lines.{lines}
+use Rattle.cpe_rows.specs.cpe_values.declared.value.Value.{Value}
+use Rattle.cpe_rows.specs.cpe_values.Values.{IsValue}
+use Rattle.cpe_rows.specs.cpe_name.declared.attribute.Attribute.{Attribute}
+use Rattle.cpe_rows.specs.cpe_name.declared.attribute.Attribute.TheVariants.{Part, Vendor, Product, Version, Update, Edition, Language, SwEdition, TargetSw, TargetHw, Other}
+use Rattle.cpe_rows.specs.cpe_name.Eleven.{Values}
+use Rattle.cpe_rows.specs.cpe_name.Names.{value_of, IsName}
+use Rattle.cpe_rows.specs.cpe_name.Text.{attribute_name}
+use Rattle.cpe_rows.proofs.cpe_name.WholeTexts.{good_value}
+use Rattle.cpe_rows.specs.cpe_fs.Grammar.{component}
+use Rattle.proof_lines.specs.cpe_uri.Canon.{is_any}
 use Rattle.cpe_rows.specs.Date.{is_date}
 use Rattle.cpe_rows.specs.FactNames.{fact_names, fact_names_step}
 use Rattle.cpe_rows.specs.Formed.{IsDated}
@@ -44,7 +44,7 @@ use Rattle.cpe_rows.specs.declared.test.Test.TheOpen.{Test-F}
 use Rattle.cpe_rows.specs.declared.test.Test.TheViews.{roll-Test}
 use Rattle.cpe_rows.specs.declared.test.Test.TheFolds.{fold-roll-Test, ind-Test, map-Test}
 use Rattle.cpe_rows.proofs.TestNames.{names-logic}
-use Rattle.cpe_members.specs.Words.{kind_word, note_kind_word, mode_word, operator_word}
+use Rattle.cpe_records.specs.cpe_members.Words.{kind_word, note_kind_word, mode_word, operator_word}
 use Rattle.cpe_records.specs.Edited.{line_edited}
 use Rattle.cpe_records.specs.Read.{IsRead, IsReadEdit, IsReadQuery}
 use Rattle.cpe_records.specs.Reading.{record_of}
@@ -57,13 +57,13 @@ use Rattle.cpe_records.specs.declared.record_kind.RecordKind.TheVariants as reco
 use Rattle.cpe_records.proofs.RecordReads.{line_read}
 use Rattle.cpe_records.proofs.TestReads.{keys-logic}
 use Rattle.cpe_snapshot.specs.States.{IsString, IsTextKey, keys_of, keys_step}
-use Rattle.written_records.specs.NameObject.{sorted_attributes, with_value, with_values, name_object}
-use Rattle.written_records.specs.Written.{items_by, note_json, provenance_json}
-use Rattle.written_records.specs.WrittenRecord.{key_json, items_of, test_json, version, about_json, about_id_json, change_json, edit_json, query_json, record_json, record_text}
-use Rattle.written_records.proofs.Printed.{IsAscii-component, IsAscii-date}
-use Rattle.written_records.proofs.TestForms.{json-logic, json-fact, json-check}
-use Rattle.cpe_session.specs.Folding.{folded}
-use Rattle.cpe_session.specs.Task.{Transcript, speech, spoken}
+use Rattle.proof_lines.specs.written_records.NameObject.{sorted_attributes, with_value, with_values, name_object}
+use Rattle.proof_lines.specs.written_records.Written.{items_by, note_json, provenance_json}
+use Rattle.proof_lines.specs.written_records.WrittenRecord.{key_json, items_of, test_json, version, about_json, about_id_json, change_json, edit_json, query_json, record_json, record_text}
+use Rattle.proof_lines.proofs.written_records.Printed.{IsAscii-component, IsAscii-date}
+use Rattle.proof_lines.proofs.written_records.TestForms.{json-logic, json-fact, json-check}
+use Rattle.cpe_command.specs.cpe_session.Folding.{folded}
+use Rattle.cpe_command.specs.cpe_session.Task.{Transcript, speech, spoken}
 use Rattle.cpe_convert.specs.Convert.{convert_session}
 use Rattle.cpe_convert.specs.Growing.{IsGrown, IsWhole}
 use Rattle.run_laws.specs.Theorems.{rows_of, Writes, ConvertedIsSame}

@@ -8,10 +8,10 @@ use Rattle.std.proofs.lemmas.List.{drop_at}
 use Rattle.std.proofs.lemmas.Slice.Eq.{bytes_eq-Decides}
 use Rattle.cpe_rows.proofs.KeyTests.{other_bytes}
 use Rattle.cpe_rows.proofs.Lists.{not_element}
-use Rattle.cpe_io.specs.Lines.{lines}
-use Rattle.cpe_session.specs.Session.{Stage, start, stage_after, after_next, line_says, next_writes, out_from, state_after, writes}
-use Rattle.cpe_session.specs.Task.{Transcript}
-use Rattle.cpe_session.proofs.SessionLemmas.{out_from-append}
+use Rattle.cpe_command.specs.cpe_io.Lines.{lines}
+use Rattle.cpe_command.specs.cpe_session.Session.{Stage, start, stage_after, after_next, line_says, next_writes, out_from, state_after, writes}
+use Rattle.cpe_command.specs.cpe_session.Task.{Transcript}
+use Rattle.cpe_command.proofs.cpe_session.SessionLemmas.{out_from-append}
 use Rattle.cpe_rows.specs.Rows.{Rows, no_rows, has_id}
 use Rattle.cpe_rows.specs.Reach.{Among}
 use Rattle.cpe_rows.specs.Lawful.{IsLawful, are_different}
@@ -33,10 +33,10 @@ use Rattle.proof_lines.specs.Written.{proof_text}
 use Rattle.proof_lines.specs.declared.fault.ProofFault.{ProofFault}
 use Rattle.proof_lines.proofs.GoodForms.{good_has_names}
 use Rattle.cpe_records.specs.Reading.{record_of}
-use Rattle.cpe_replies.specs.Proofs.{certificate_lines, checked_line, checked_word}
-use Rattle.record_lines.specs.Checking.{checked}
-use Rattle.record_lines.specs.Records.{by_proof, by_record, record_session}
-use Rattle.record_lines.specs.declared.records.RecordCommand.TheVariants.{Check, Explain}
+use Rattle.cpe_convert.specs.cpe_replies.Proofs.{certificate_lines, checked_line, checked_word}
+use Rattle.cpe_command.specs.record_lines.Checking.{checked}
+use Rattle.cpe_command.specs.record_lines.Records.{by_proof, by_record, record_session}
+use Rattle.cpe_command.specs.record_lines.declared.records.RecordCommand.TheVariants.{Check, Explain}
 use Rattle.cpe_snapshot.specs.States.{IsTextStatement}
 use Rattle.run_laws.specs.Theorems.{rows_of, AreKept, Writes, certificates, LinesAreCheckedInTurn, EndsWithCertificates, EndsWithHolds, ExplainedIsChecked, HasVerdict, HeldIsVerdict}
 use Rattle.run_laws.proofs.Folded.{rows_kept}

@@ -9,13 +9,13 @@ use Rattle.cpe_rows.specs.declared.fault.EditFault.{EditFault}
 use Rattle.cpe_rows.proofs.Accepted.{at_start}
 use Rattle.cpe_rows.proofs.KeptLawful.{stays_lawful}
 use Rattle.cpe_rows.proofs.Unrefused.{unrefused}
-use Rattle.cpe_members.specs.declared.member.RecordFault.{RecordFault}
+use Rattle.cpe_records.specs.cpe_members.declared.member.RecordFault.{RecordFault}
 use Rattle.cpe_records.specs.Edited.{stepped, edited, line_edited}
 use Rattle.cpe_records.specs.Reading.{record_of}
 use Rattle.cpe_records.specs.declared.read.Record.{Record}
 use Rattle.cpe_records.specs.declared.read.Record.TheVariants.{Edit as AnEdit, Query as AQuery}
 use Rattle.cpe_records.proofs.ValidRecords.{read_valid}
-use Rattle.cpe_session.specs.Folding.{folded}
+use Rattle.cpe_command.specs.cpe_session.Folding.{folded}
 use Rattle.cpe_snapshot.specs.States.{AreTexts}
 use Rattle.run_laws.specs.Theorems.{AreKept}
 use Rattle.cpe_records.specs.Read.{IsRead}

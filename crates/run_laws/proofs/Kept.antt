@@ -1,7 +1,7 @@
 -- The rows that an edit leaves have texts that are UTF-8, where those of the rows and of the edit are.
 use Rattle.std.proofs.Common.{ℕ, List, [], ◌∷◌, ◌++◌, Bool, true, false, cond, Option, Some, None}
 use Rattle.std.specs.List.{AllByRecursion}
-use Rattle.cpe_name.specs.Eleven.{Values}
+use Rattle.cpe_rows.specs.cpe_name.Eleven.{Values}
 use Rattle.cpe_rows.specs.Rows.{Rows, no_rows, is_named, has_id, has_key}
 use Rattle.cpe_rows.specs.After.{after, changed, deprecated, without_first, with_check}
 use Rattle.cpe_rows.specs.declared.edit.Edit.{Edit}

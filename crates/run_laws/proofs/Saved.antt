@@ -1,10 +1,10 @@
 -- What `save` writes is the snapshot of the rows, so `load` reads those rows.
 use Rattle.std.proofs.Common.{◌≡◌, ℕ, ◌+◌, List, [], ◌∷◌, ◌++◌, true, Option, Some, None, codes, inl, inr, refl, sym, ap, ◌∙◌, subst}
 use Rattle.std.specs.Prelude.{Result, Ok, Err}
-use Rattle.cpe_io.specs.Lines.{lines}
-use Rattle.cpe_session.specs.Session.{Stage, writes, start, stage_after, after_next, next_writes, out_from}
-use Rattle.cpe_session.specs.Task.{Transcript}
-use Rattle.cpe_session.proofs.SessionLemmas.{state-folded}
+use Rattle.cpe_command.specs.cpe_io.Lines.{lines}
+use Rattle.cpe_command.specs.cpe_session.Session.{Stage, writes, start, stage_after, after_next, next_writes, out_from}
+use Rattle.cpe_command.specs.cpe_session.Task.{Transcript}
+use Rattle.cpe_command.proofs.cpe_session.SessionLemmas.{state-folded}
 use Rattle.cpe_rows.specs.Rows.{Rows, no_rows}
 use Rattle.cpe_rows.specs.Step.{step}
 use Rattle.cpe_rows.specs.declared.fault.EditFault.{EditFault}
@@ -12,13 +12,13 @@ use Rattle.cpe_records.specs.Edited.{line_edited}
 use Rattle.cpe_records.specs.Reading.{record_of}
 use Rattle.cpe_records.specs.declared.read.Record.{Record}
 use Rattle.cpe_records.specs.declared.read.Record.TheVariants.{Edit, Query}
-use Rattle.cpe_members.specs.declared.member.RecordFault.{RecordFault}
+use Rattle.cpe_records.specs.cpe_members.declared.member.RecordFault.{RecordFault}
 use Rattle.cpe_snapshot.specs.States.{Snap, snapshot, StatesAreClear, StatesHaveSnapshots}
-use Rattle.cpe_replies.specs.Replies.{verdict_table}
-use Rattle.record_lines.specs.Records.{by_step, by_record, record_session}
-use Rattle.record_lines.specs.declared.records.RecordCommand.{RecordCommand}
-use Rattle.record_lines.specs.declared.records.RecordCommand.TheVariants.{Save, Evaluate}
-use Rattle.record_lines.proofs.Edits.{edits-lines}
+use Rattle.cpe_convert.specs.cpe_replies.Replies.{verdict_table}
+use Rattle.cpe_command.specs.record_lines.Records.{by_step, by_record, record_session}
+use Rattle.cpe_command.specs.record_lines.declared.records.RecordCommand.{RecordCommand}
+use Rattle.cpe_command.specs.record_lines.declared.records.RecordCommand.TheVariants.{Save, Evaluate}
+use Rattle.cpe_command.proofs.record_lines.Edits.{edits-lines}
 use Rattle.cpe_command.specs.Loading.{IsNoSnapshot, load_says, state_told}
 use Rattle.run_laws.specs.Theorems.{rows_of, SavedIsLoaded, Writes}
 use Rattle.run_laws.proofs.Folded.{rows_kept}

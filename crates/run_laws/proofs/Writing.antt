@@ -6,13 +6,13 @@ use Rattle.std.proofs.lemmas.List.Elements.{All-head, All-tail}
 use Rattle.std.proofs.lemmas.Str.{IsUtf8-from_ascii, IsUtf8-from_is_utf8}
 use Rattle.json.proofs.Printed.Utf8.{IsUtf8-are_ascii}
 use Rattle.cpe_records.specs.JsonTexts.{WritesTexts, ItemsWriteTexts, MembersWriteTexts, PrintsAreTexts}
-use Rattle.cpe_name.specs.Eleven.{Values}
-use Rattle.cpe_name.specs.Names.{IsName}
-use Rattle.cpe_members.specs.Words.{truth_word}
+use Rattle.cpe_rows.specs.cpe_name.Eleven.{Values}
+use Rattle.cpe_rows.specs.cpe_name.Names.{IsName}
+use Rattle.cpe_records.specs.cpe_members.Words.{truth_word}
 use Rattle.cpe_rows.specs.declared.truth.Truth.{Truth}
 use Rattle.cpe_rows.specs.declared.truth.Truth.TheVariants.{True, False, Error, Unknown}
-use Rattle.written_records.specs.Written.{items_by, name_json}
-use Rattle.written_records.proofs.Printed.{IsAscii-fs_text}
+use Rattle.proof_lines.specs.written_records.Written.{items_by, name_json}
+use Rattle.proof_lines.proofs.written_records.Printed.{IsAscii-fs_text}
 use Rattle.checked_certificates.specs.declared.proof.Proof.{Proof}
 use Rattle.checked_certificates.specs.declared.proof.Why.{Why, roll-Why}
 use Rattle.checked_certificates.specs.declared.proof.Why.TheOpen.{Why-F}

@@ -3,10 +3,10 @@
 use Rattle.std.specs.Prelude.{◌≡◌, ℕ, List, [], ◌∷◌, ◌++◌, map, codes, find, Some, Ok}
 use Rattle.std.specs.declared.option.Option.{Option}
 use Rattle.std.specs.List.{AllByRecursion, flat_map}
-use Rattle.cpe_io.specs.Lines.{lines}
-use Rattle.cpe_session.specs.Session.{start, stage_after, out_from, next_writes}
-use Rattle.cpe_session.specs.Folding.{folded}
-use Rattle.cpe_session.specs.Task.{Transcript, Says}
+use Rattle.cpe_command.specs.cpe_io.Lines.{lines}
+use Rattle.cpe_command.specs.cpe_session.Session.{start, stage_after, out_from, next_writes}
+use Rattle.cpe_command.specs.cpe_session.Folding.{folded}
+use Rattle.cpe_command.specs.cpe_session.Task.{Transcript, Says}
 use Rattle.cpe_rows.specs.Rows.{Rows, no_rows, has_id}
 use Rattle.cpe_rows.specs.Lawful.{IsLawful}
 use Rattle.cpe_rows.specs.Verdict.{verdict}
@@ -20,10 +20,10 @@ use Rattle.checked_certificates.specs.declared.proof.Proof.{Proof}
 use Rattle.cpe_explain.specs.Choices.{certificate}
 use Rattle.proof_lines.specs.Reading.{proof_of}
 use Rattle.proof_lines.specs.Written.{proof_text}
-use Rattle.cpe_replies.specs.Proofs.{certificate_lines, checked_line}
-use Rattle.cpe_replies.specs.Replies.{verdict_table}
-use Rattle.record_lines.specs.Records.{record_session}
-use Rattle.record_lines.specs.declared.records.RecordCommand.TheVariants.{Check}
+use Rattle.cpe_convert.specs.cpe_replies.Proofs.{certificate_lines, checked_line}
+use Rattle.cpe_convert.specs.cpe_replies.Replies.{verdict_table}
+use Rattle.cpe_command.specs.record_lines.Records.{record_session}
+use Rattle.cpe_command.specs.record_lines.declared.records.RecordCommand.TheVariants.{Check}
 use Rattle.cpe_convert.specs.Growing.{IsGrown}
 use Rattle.cpe_command.specs.Loading.{state_told}
 use Rattle.cpe_command.specs.Meaning.{meaning}

@@ -16,9 +16,9 @@ use Rattle.statement_rows.specs.ByResult.{asks_one, at_result, each_result, trut
 use Rattle.statement_rows.specs.Readings.{FactTruths, check_keys, is_asked, truths_of}
 use Rattle.statement_rows.specs.Rows.{asks, each_verdict, judge_row, ticket_of, tickets, verdict_after, verdict_now}
 use Rattle.statement_rows.specs.Tickets.{among}
-use Rattle.ticket_list.specs.Rising.{IsRisingBy}
+use Rattle.cpe_inventory.specs.ticket_list.Rising.{IsRisingBy}
 use Rattle.cpe_inventory.specs.Kept.{kept_truth}
-use Rattle.ticket_list.proofs.RisingLemmas.{all_passing}
+use Rattle.cpe_inventory.proofs.ticket_list.RisingLemmas.{all_passing}
 use Rattle.statement_rows.proofs.RowLemmas.{lower_differs, higher_differs}
 use Rattle.statement_rows.proofs.VerdictLemmas.{reading_agree}
 

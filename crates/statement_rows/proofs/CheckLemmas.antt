@@ -10,7 +10,7 @@ use Rattle.cpe_rows.specs.declared.truth.Truth.{Truth}
 use Rattle.cpe_rows.specs.declared.truth.Truth.TheVariants.{Unknown}
 use Rattle.cpe_rows.specs.declared.test.CheckKey.{CheckKey}
 use Rattle.cpe_inventory.specs.Kept.{kept_truth}
-use Rattle.ticket_list.specs.Rising.{IsRisingBy}
+use Rattle.cpe_inventory.specs.ticket_list.Rising.{IsRisingBy}
 use Rattle.statement_rows.specs.declared.row.Cause.TheVariants.{Check}
 use Rattle.statement_rows.specs.declared.row.Row.{Row}
 use Rattle.statement_rows.specs.Invariant.{IsAlone}

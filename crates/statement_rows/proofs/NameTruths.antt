@@ -3,7 +3,7 @@ use Rattle.std.proofs.Common.{◌≡◌, List, [], ◌∷◌, ◌++◌, map, ref
 use Rattle.std.specs.List.{flat_map}
 use Rattle.std.proofs.lemmas.List.{append-nil, append_assoc, map-append}
 use Rattle.std.proofs.lemmas.List.Folds.{flat_map-map}
-use Rattle.cpe_name.specs.Eleven.{Values}
+use Rattle.cpe_rows.specs.cpe_name.Eleven.{Values}
 use Rattle.cpe_rows.specs.Evaluation.{joined, negated, test_truth, test_truth_step}
 use Rattle.cpe_rows.specs.FactNames.{fact_names, fact_names_step}
 use Rattle.cpe_rows.specs.declared.truth.Truth.{Truth}

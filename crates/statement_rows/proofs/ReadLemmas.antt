@@ -4,8 +4,8 @@ use Rattle.std.specs.Prelude.{slice_get, Some, None}
 use Rattle.std.specs.Option.{option_map}
 use Rattle.std.specs.List.{AllByRecursion, filter}
 use Rattle.statement_rows.specs.declared.row.Row.{Row}
-use Rattle.ticket_list.specs.Rising.{IsRisingBy}
-use Rattle.ticket_list.proofs.RisingLemmas.{all_passing}
+use Rattle.cpe_inventory.specs.ticket_list.Rising.{IsRisingBy}
+use Rattle.cpe_inventory.proofs.ticket_list.RisingLemmas.{all_passing}
 use Rattle.statement_rows.specs.Rows.{place_in, ticket_of, tickets}
 use Rattle.statement_rows.specs.State.{places}
 use Rattle.statement_rows.specs.Tickets.{first_place}

@@ -6,7 +6,7 @@ use Rattle.std.specs.Map.{lookup}
 use Rattle.std.specs.Str.{bytes_eq}
 use Rattle.cpe_rows.specs.declared.test.CheckKey.{CheckKey}
 use Rattle.cpe_inventory.specs.Results.{one_or_none}
-use Rattle.ticket_list.specs.Rising.{IsRisingBy}
+use Rattle.cpe_inventory.specs.ticket_list.Rising.{IsRisingBy}
 use Rattle.std.proofs.lemmas.List.{length-map}
 use Rattle.statement_rows.specs.declared.row.Row.{Row}
 use Rattle.statement_rows.specs.Askers.{askers_at}

@@ -2,7 +2,7 @@
 use Rattle.std.specs.Bool.{Decides}
 use Rattle.std.proofs.Common.{rules, ◌≡◌, ℕ, zero, suc, ◌+◌, ◌<◌, ◌≤◌, ◌||◌, Bool, true, false, not, cond, List, [], ◌∷◌, ◌++◌, length, map, take, get_or, refl, sym, ap, subst, ◌∙◌, arith}
 use Rattle.std.specs.Prelude.{find, nat_eq, nat_lt, slice_get, Option, Some, None}
-use Rattle.ticket_list.specs.TicketList.{has_ticket, with_change}
+use Rattle.cpe_inventory.specs.ticket_list.TicketList.{has_ticket, with_change}
 use Rattle.std.specs.Option.{option_map}
 use Rattle.std.specs.List.{AllByRecursion, filter}
 use Rattle.std.proofs.lemmas.Bool.Decides.{nat_tests}
@@ -13,8 +13,8 @@ use Rattle.cpe_rows.specs.declared.truth.Truth.{Truth}
 use Rattle.statement_rows.specs.declared.row.Row.{Row}
 use Rattle.statement_rows.specs.Rows.{after_move, at_place, at_rows, at_ticket, forget_change, is_changed, place_in, ticket_of, tickets}
 use Rattle.statement_rows.specs.Tickets.{among, without}
-use Rattle.ticket_list.specs.Rising.{IsRisingBy, put_in}
-use Rattle.ticket_list.proofs.RisingLemmas.{all_passing}
+use Rattle.cpe_inventory.specs.ticket_list.Rising.{IsRisingBy, put_in}
+use Rattle.cpe_inventory.proofs.ticket_list.RisingLemmas.{all_passing}
 use Rattle.statement_rows.proofs.TicketLemmas.{without_none}
 use Rattle.statement_rows.proofs.ListLemmas.{nat_decides, nat_same}
 

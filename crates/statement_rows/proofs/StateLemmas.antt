@@ -29,8 +29,8 @@ use Rattle.cpe_rows.specs.declared.statement.Statement.{Statement}
 use Rattle.cpe_rows.specs.declared.test.CheckKey.{CheckKey}
 use Rattle.cpe_inventory.specs.Results.{one_or_none}
 use Rattle.name_index.specs.declared.table.NameId.{NameId}
-use Rattle.ticket_list.specs.Rising.{IsRisingBy}
-use Rattle.ticket_list.proofs.RisingLemmas.{rising_last, rising_passing}
+use Rattle.cpe_inventory.specs.ticket_list.Rising.{IsRisingBy}
+use Rattle.cpe_inventory.proofs.ticket_list.RisingLemmas.{rising_last, rising_passing}
 use Rattle.statement_rows.specs.declared.row.Cause.{Cause}
 use Rattle.statement_rows.specs.declared.row.Cause.TheVariants.{Fact}
 use Rattle.statement_rows.specs.declared.row.Row.{Row}

@@ -1,6 +1,6 @@
 -- A list without the element at a place.
 use Rattle.std.proofs.Common.{◌≡◌, ℕ, zero, suc, ◌+◌, ◌<◌, ◌≤◌, ◌||◌, Bool, true, false, not, cond, List, [], ◌∷◌, ◌++◌, length, map, take, drop, refl, sym, ap, subst, ◌∙◌, arith}
-use Rattle.ticket_list.specs.TicketList.{has_ticket, without_ticket}
+use Rattle.cpe_inventory.specs.ticket_list.TicketList.{has_ticket, without_ticket}
 use Rattle.std.specs.Prelude.{find, nat_eq, slice_get, Option, Some, None}
 use Rattle.std.specs.List.{AllByRecursion, filter, list_any}
 use Rattle.std.specs.Option.{option_map}
@@ -8,8 +8,8 @@ use Rattle.cpe_rows.specs.After.{without_first}
 use Rattle.statement_rows.specs.declared.row.Row.{Row}
 use Rattle.statement_rows.specs.Rows.{ticket_of}
 use Rattle.statement_rows.specs.Tickets.{first_place, without, without_if}
-use Rattle.ticket_list.specs.Rising.{IsRisingBy}
-use Rattle.ticket_list.proofs.RisingLemmas.{all_passing}
+use Rattle.cpe_inventory.specs.ticket_list.Rising.{IsRisingBy}
+use Rattle.cpe_inventory.proofs.ticket_list.RisingLemmas.{all_passing}
 use Rattle.statement_rows.proofs.ListLemmas.{nat_same}
 use Rattle.statement_rows.proofs.RowLemmas.{all_at, higher_differs, lower_differs, no_element, without_lowest}
 

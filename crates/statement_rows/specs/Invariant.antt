@@ -8,7 +8,7 @@ use Rattle.cpe_rows.specs.declared.test.CheckKey.{CheckKey}
 use Rattle.cpe_rows.specs.declared.truth.Truth.{Truth}
 use Rattle.cpe_inventory.specs.Kept.{IsCounted}
 use Rattle.cpe_inventory.specs.Results.{one_or_none}
-use Rattle.ticket_list.specs.Rising.{IsRisingBy}
+use Rattle.cpe_inventory.specs.ticket_list.Rising.{IsRisingBy}
 use Rattle.statement_rows.specs.declared.row.NumberedStatement.{NumberedStatement}
 use Rattle.statement_rows.specs.declared.row.Row.{Row}
 use Rattle.statement_rows.specs.Askers.{askers_at}

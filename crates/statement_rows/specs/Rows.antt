@@ -8,8 +8,8 @@ use Rattle.cpe_rows.specs.declared.test.CheckKey.{CheckKey}
 use Rattle.cpe_rows.specs.declared.truth.Truth.{Truth}
 use Rattle.cpe_inventory.specs.Kept.{kept_truth}
 use Rattle.name_index.specs.declared.table.NameId.{NameId}
-use Rattle.ticket_list.specs.Rising.{put_in}
-use Rattle.ticket_list.specs.TicketList.{has_ticket}
+use Rattle.cpe_inventory.specs.ticket_list.Rising.{put_in}
+use Rattle.cpe_inventory.specs.ticket_list.TicketList.{has_ticket}
 use Rattle.statement_rows.specs.declared.by_result.ByResult.{ByResult}
 use Rattle.statement_rows.specs.declared.row.Cause.{Cause}
 use Rattle.statement_rows.specs.declared.row.Cause.TheVariants.{Check, Fact}

@@ -6,11 +6,10 @@ ghost use Rattle.cpe_rows.specs.declared.test.CheckKey.{CheckKey};
 ghost use Rattle.statement_rows.specs.Askers.{AreAsked, HasPlace, IsAsked, askers_at, list_at, may_enter, trim_list, trim_list_if};
 ghost use Rattle.statement_rows.specs.Readings.{check_keys, is_asked};
 ghost use Rattle.statement_rows.specs.Tickets.{is_empty, with_last, with_last_if, without, without_if};
-ghost use Rattle.ticket_list.specs.Rising.{IsRising};
+ghost use Rattle.cpe_inventory.specs.ticket_list.Rising.{IsRising};
 
 use crate::tickets::{add_last, remove_ticket};
-use cpe_rows::{CheckKey, Test};
-use cpe_values::Memory;
+use cpe_rows::{CheckKey, Memory, Test};
 use std::alloc::Global;
 use std::collections::HashMap;
 

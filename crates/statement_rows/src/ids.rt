@@ -6,13 +6,13 @@ ghost use Rattle.std.specs.Str.{bytes_eq};
 ghost use Rattle.cpe_inventory.specs.Results.{one_or_none};
 ghost use Rattle.statement_rows.specs.Rows.{has_row_id, ticket_of, tickets};
 ghost use Rattle.statement_rows.specs.Tickets.{first_place};
-ghost use Rattle.ticket_list.specs.Rising.{IsRisingBy};
+ghost use Rattle.cpe_inventory.specs.ticket_list.Rising.{IsRisingBy};
 
 use crate::row::Row;
 use crate::rows::place_of;
+use cpe_inventory::TicketList;
 use cpe_rows::Text;
 use std::collections::HashMap;
-use ticket_list::TicketList;
 
 // The place of the row of an id, from 0.
 pub(crate) fn place_by_id(

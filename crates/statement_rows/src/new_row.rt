@@ -12,13 +12,11 @@ use crate::ready_statement::ReadyStatement;
 use crate::row::{NumberedStatement, Row};
 use crate::rows::{by_result_of, verdict_of};
 use crate::truths::FactTruth;
-use cpe_inventory::Checks;
-use cpe_rows::{CheckKey, Statement, Text};
-use cpe_values::Memory;
+use cpe_inventory::{Checks, TicketList};
+use cpe_rows::{CheckKey, Memory, Statement, Text};
 use name_index::NameId;
 use std::alloc::Global;
 use std::collections::HashMap;
-use ticket_list::TicketList;
 
 // A statement, with a copy of the numbers of its fact references.
 //

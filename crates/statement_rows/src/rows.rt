@@ -1,7 +1,7 @@
 // The rows of statements, and which of them are changed.
 ghost use Rattle.std.specs.Prelude.{◌≡◌, ◌≤◌, ◌<◌, ◌+◌, ◌++◌, [], cond, map, Bool, drop, false, not, length, slice_get, take, vec_capacity, option_map};
 ghost use Rattle.cpe_rows.specs.Truth.{same_truth};
-ghost use Rattle.ticket_list.specs.Rising.{IsRising, IsRisingBy};
+ghost use Rattle.cpe_inventory.specs.ticket_list.Rising.{IsRising, IsRisingBy};
 ghost use Rattle.statement_rows.specs.declared.row.Cause.TheVariants.{Check};
 ghost use Rattle.statement_rows.specs.Invariant.{IsNoted};
 ghost use Rattle.statement_rows.specs.Rows.{after_move, at_rows, at_ticket, by_result_after, each_verdict, forget_change, is_changed, judge_row, place_in, ticket_of, tickets, verdict_after, verdict_by};
@@ -11,9 +11,8 @@ use crate::by_result::{ByResult, test_truths};
 use crate::row::{Cause, KnownVerdict, NumberedStatement, Refresh, Row};
 use crate::tickets::{add_ticket, remove_ticket};
 use crate::truths::{FactTruth, test_truth};
-use cpe_inventory::Checks;
+use cpe_inventory::{Checks, TicketList};
 use cpe_rows::Truth;
-use ticket_list::TicketList;
 
 // The place of the row of a ticket, from 0. There is none exactly if no row has the ticket.
 pub(crate) fn place_of(rows: &TicketList<Row>, ticket: u64) -> Option<usize>

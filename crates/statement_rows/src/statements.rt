@@ -1,7 +1,7 @@
 // The rows of statements, and their public calls.
 ghost use Rattle.std.specs.Prelude.{◌≡◌, ◌++◌, ◌∷◌, ◌+◌, ◌<◌, List, ℕ, [], drop, false, find, length, map, nat_lt, position, take, Some, OnOk, OnErr, option_copied, option_map, slice_get};
 ghost use Rattle.std.specs.List.{AllByRecursion, list_any};
-ghost use Rattle.ticket_list.specs.Rising.{IsRisingBy};
+ghost use Rattle.cpe_inventory.specs.ticket_list.Rising.{IsRisingBy};
 ghost use Rattle.cpe_rows.specs.Prelude.{has_id, has_key, most, number_of_facts, with_check, without_first};
 ghost use Rattle.cpe_rows.specs.declared.fault.Which.TheVariants as which;
 ghost use Rattle.cpe_rows.specs.declared.statement.Statement.{Statement};
@@ -19,14 +19,12 @@ use crate::ready_statement::ReadyStatement;
 use crate::row::{Cause, Row};
 use crate::rows::{forget_changes, refresh_rows, remove_changed, take_row};
 use crate::truths::FactTruth;
-use cpe_inventory::Checks;
-use cpe_rows::{CheckKey, Mode, Statement, Text, Truth};
-use cpe_values::Memory;
+use cpe_inventory::{Checks, TicketList};
+use cpe_rows::{CheckKey, Memory, Mode, Statement, Text, Truth};
 use name_index::NameId;
 use std::alloc::Global;
 use std::collections::HashMap;
 use std::marker::Model;
-use ticket_list::TicketList;
 
 /// Statements with tickets and verdicts, and the results of checks. See the crate's page.
 #[derive(Drop)]

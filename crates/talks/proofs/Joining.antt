@@ -1,7 +1,7 @@
 -- The answers to lines, one after the other.
 use Rattle.std.proofs.Common.{◌≡◌, ℕ, List, [], ◌∷◌, ◌++◌, Option, refl, sym, ap, ◌∙◌, subst, map, append_assoc}
-use Rattle.cpe_io.specs.Lines.{line_of, lines}
-use Rattle.cpe_io.proofs.LineLemmas.{pieces-cut}
+use Rattle.cpe_session.specs.cpe_io.Lines.{line_of, lines}
+use Rattle.cpe_session.proofs.cpe_io.LineLemmas.{pieces-cut}
 use Rattle.cpe_session.specs.Task.{Task, Transcript, Says}
 use Rattle.talks.specs.Joined.{AreLines, IsAnswered, answers, bytes_of}
 use Rattle.talks.specs.Talks.{behind}

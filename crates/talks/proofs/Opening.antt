@@ -2,7 +2,7 @@
 use Rattle.std.proofs.Common.{◌≡◌, ℕ, Bool, true, false, List, [], Option, Some, None, refl, sym, ap, ◌∙◌}
 use Rattle.std.specs.Prelude.{if◌then◌else◌, is_some}
 use Rattle.std.proofs.lemmas.Bool.{true≢false}
-use Rattle.cpe_io.specs.Lines.{lines}
+use Rattle.cpe_session.specs.cpe_io.Lines.{lines}
 use Rattle.cpe_session.specs.Session.{Session}
 use Rattle.cpe_session.specs.Task.{Says, speech, spoken}
 use Rattle.cpe_session.specs.Pages.{stage_of}
@@ -11,14 +11,14 @@ use Rattle.cpe_command.specs.declared.command.Command.{Command}
 use Rattle.cpe_command.specs.declared.command.Command.TheVariants as command
 use Rattle.cpe_command.specs.Command.{with_count}
 use Rattle.cpe_command.specs.Meaning.{meaning_of}
-use Rattle.name_lines.specs.Names.{name_session}
-use Rattle.name_lines.specs.Pairs.{pair_session}
+use Rattle.cpe_command.specs.name_lines.Names.{name_session}
+use Rattle.cpe_command.specs.name_lines.Pairs.{pair_session}
 use Rattle.cpe_command.specs.Records.{record_session}
-use Rattle.cpe_convert.specs.Convert.{convert_session}
-use Rattle.cpe_ranges.specs.Records.{advice_session}
-use Rattle.cpe_cover.specs.Lines.{cover_session}
+use Rattle.cpe_command.specs.cpe_convert.Convert.{convert_session}
+use Rattle.cpe_command.specs.cpe_ranges.Records.{advice_session}
+use Rattle.cpe_command.specs.cpe_cover.Lines.{cover_session}
 use Rattle.cpe_rows.specs.Rows.{no_rows}
-use Rattle.cpe_ranges.specs.Rows.{no_rows as no_advice}
+use Rattle.cpe_command.specs.cpe_ranges.Rows.{no_rows as no_advice}
 use Rattle.talks.specs.declared.speaking.Speaking.{Speaking}
 use Rattle.talks.specs.declared.speaking.Speaking.TheVariants as speaking
 use Rattle.talks.specs.Beginning.{answers_lines, begins}

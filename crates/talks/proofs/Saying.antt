@@ -1,6 +1,6 @@
 -- A text that fits was given, or its length was told: memory did not run out.
 use Rattle.std.proofs.Common.{◌≡◌, ℕ, List, [], ◌∷◌, Option}
-use Rattle.cpe_io.specs.Lines.{line_of}
+use Rattle.cpe_session.specs.cpe_io.Lines.{line_of}
 use Rattle.cpe_session.specs.Statuses.{number_of}
 use Rattle.cpe_session.specs.declared.status.Status.{Status}
 use Rattle.talks.specs.declared.told.Told.{Told}

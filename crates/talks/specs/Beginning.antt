@@ -1,10 +1,10 @@
 -- How a session begins.
 use Rattle.std.specs.Prelude.{◌≡◌, ℕ, Bool, true, false, List, [], ◌∷◌, Some, None}
 use Rattle.std.specs.declared.option.Option.{Option}
-use Rattle.cpe_io.specs.Lines.{lines}
+use Rattle.cpe_session.specs.cpe_io.Lines.{lines}
 use Rattle.cpe_session.specs.Task.{Task, Fixed, Lines, Whole, Says}
 use Rattle.cpe_rows.specs.Rows.{no_rows}
-use Rattle.cpe_ranges.specs.Rows.{no_rows as no_advice}
+use Rattle.cpe_command.specs.cpe_ranges.Rows.{no_rows as no_advice}
 use Rattle.cpe_command.specs.declared.command.Command.{Command}
 use Rattle.cpe_command.specs.declared.command.Command.TheVariants as command
 use Rattle.cpe_command.specs.Meaning.{meaning}

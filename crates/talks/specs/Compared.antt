@@ -1,9 +1,9 @@
 -- The relations that were found of two texts.
 use Rattle.std.specs.Prelude.{◌≡◌, ℕ, Ok, Err}
 use Rattle.std.specs.declared.result.Result.{Result}
-use Rattle.cpe_name.specs.Eleven.{Values}
-use Rattle.cpe_name.specs.declared.attribute.Attribute.{Attribute}
-use Rattle.cpe_name.specs.Names.{value_of}
+use Rattle.cpe_rows.specs.cpe_name.Eleven.{Values}
+use Rattle.cpe_rows.specs.cpe_name.declared.attribute.Attribute.{Attribute}
+use Rattle.cpe_rows.specs.cpe_name.Names.{value_of}
 use Rattle.cpe_relation.specs.Table.{relation}
 use Rattle.cpe_relation.specs.NameRelation.{name_relation, relation_of}
 use Rattle.talks.specs.declared.told.Told.{Told}

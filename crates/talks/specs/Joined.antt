@@ -2,7 +2,7 @@
 use Rattle.std.specs.Prelude.{◌≡◌, ℕ, false, List, [], ◌∷◌, ◌++◌}
 use Rattle.std.specs.declared.option.Option.{Option}
 use Rattle.std.specs.List.{flat_map}
-use Rattle.cpe_io.specs.Lines.{has_newline, line_of}
+use Rattle.cpe_session.specs.cpe_io.Lines.{has_newline, line_of}
 use Rattle.cpe_session.specs.Task.{Transcript}
 use Rattle.talks.specs.Talks.{behind}
 

@@ -8,3 +8,4 @@ pub mod Beginning
 pub mod Holding
 pub mod Keeping
 pub mod Joined
+pub use Rattle.cpe_uri.specs as cpe_uri

@@ -1,7 +1,7 @@
 -- What the calls of a session do.
 use Rattle.std.specs.Prelude.{◌≡◌, ℕ, true, false, List, [], ◌∷◌}
 use Rattle.std.specs.declared.option.Option.{Option}
-use Rattle.cpe_io.specs.Lines.{has_newline, line_of}
+use Rattle.cpe_session.specs.cpe_io.Lines.{has_newline, line_of}
 use Rattle.cpe_session.specs.Statuses.{number_of}
 use Rattle.cpe_session.specs.declared.status.Status.{Status}
 use Rattle.talks.specs.declared.told.Told.{Told}

@@ -6,11 +6,11 @@ use Rattle.cpe_session.specs.Statuses.{status_of}
 use Rattle.cpe_session.specs.Task.{Transcript}
 use Rattle.cpe_session.specs.Pages.{stage_of}
 use Rattle.cpe_session.specs.declared.progress.Progress.{Progress}
-use Rattle.cpe_convert.specs.Convert.{convert_session}
-use Rattle.cpe_ranges.specs.Records.{advice_session}
-use Rattle.cpe_cover.specs.Lines.{cover_session}
-use Rattle.name_lines.specs.Names.{name_session}
-use Rattle.name_lines.specs.Pairs.{pair_session}
+use Rattle.cpe_command.specs.cpe_convert.Convert.{convert_session}
+use Rattle.cpe_command.specs.cpe_ranges.Records.{advice_session}
+use Rattle.cpe_command.specs.cpe_cover.Lines.{cover_session}
+use Rattle.cpe_command.specs.name_lines.Names.{name_session}
+use Rattle.cpe_command.specs.name_lines.Pairs.{pair_session}
 use Rattle.cpe_command.specs.Records.{record_session}
 use Rattle.talks.specs.declared.speaking.Speaking.{Speaking}
 use Rattle.talks.specs.declared.speaking.Speaking.TheVariants.{Name, Compare, Records, Convert, Advise, Cover}

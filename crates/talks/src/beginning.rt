@@ -6,10 +6,7 @@ ghost use Rattle.talks.specs.Beginning.{answers_lines, begins, Opens, words_of};
 
 use crate::speaking::Speaking;
 use crate::talk::{Phase, Talk};
-use cpe_command::{Command, NameCommand, read_word};
-use cpe_cover::Names;
-use cpe_engine::Engine;
-use cpe_ranges::Advisories;
+use cpe_command::{Advisories, Command, Engine, NameCommand, Names, read_word};
 use cpe_session::Progress;
 use std::alloc::Global;
 

@@ -1,6 +1,6 @@
 // What the calls of a session come to together.
 ghost use Rattle.std.specs.Prelude.{◌≡◌, [], ℕ, List, Option};
-ghost use Rattle.cpe_io.specs.Lines.{lines};
+ghost use Rattle.cpe_session.specs.cpe_io.Lines.{lines};
 ghost use Rattle.cpe_session.specs.Task.{Says, Transcript};
 ghost use Rattle.cpe_command.specs.Meaning.{meaning};
 ghost use Rattle.talks.specs.Joined.{AreLines, IsAnswered, answers, bytes_of};

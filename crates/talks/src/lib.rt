@@ -23,6 +23,7 @@ mod talk;
 mod told;
 
 pub use beginning::begin;
+pub use cpe_session::Steps;
 pub use forms::{Form, give, give_form};
 pub use kept::{KeptTalk, keep_begun, let_go};
 pub use pairs::{RelationNumbers, relate, tell_covers};

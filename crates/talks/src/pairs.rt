@@ -1,14 +1,14 @@
 // How two names relate.
 ghost use Rattle.std.specs.Prelude.{◌≡◌, IfOk, Ok};
-ghost use Rattle.cpe_name.specs.Prelude.{name_lent, Values};
+ghost use Rattle.cpe_rows.specs.cpe_name.Prelude.{name_lent, Values};
 ghost use Rattle.cpe_relation.specs.NameRelation.{covers, is_above};
 ghost use Rattle.cpe_uri.specs.EitherBinding.{IsUriOrFs, read_any};
 ghost use Rattle.talks.specs.Compared.{AreRelations, IsCompared};
 ghost use Rattle.talks.specs.Pairs.{Covers, IsRelated, numbered, rank};
 
 use crate::told::Told;
-use cpe_name::{NameRef, Wfn};
 use cpe_relation::{Relation, Relations, compare_lent};
+use cpe_rows::{NameRef, Wfn};
 use cpe_uri::{UriFault, lend_any, unbind_any};
 use std::alloc::{AllocError, Global};
 

@@ -1,15 +1,12 @@
 // Who speaks in a session, and what its lines have left.
 ghost use Rattle.std.specs.Prelude.{◌≡◌, ◌∷◌, [], ℕ, List, IfOk, OnOk, Option};
-ghost use Rattle.cpe_io.specs.Lines.{line_of};
+ghost use Rattle.cpe_session.specs.cpe_io.Lines.{line_of};
 ghost use Rattle.talks.specs.Talks.{behind, goes_on};
 
-use cpe_cover::{Cover, Names};
-use cpe_ranges::{Advise, Advisories};
-use cpe_command::{Compare, NameCommand, RecordCommand};
-use cpe_convert::Convert;
-use cpe_engine::Engine;
-use cpe_session::{Each, Progress, Status, answer_given, end_given};
-use cpe_steps::Steps;
+use cpe_command::{
+    Advise, Advisories, Compare, Convert, Cover, Engine, NameCommand, Names, RecordCommand,
+};
+use cpe_session::{Each, Progress, Status, Steps, answer_given, end_given};
 use std::alloc::{AllocError, Global};
 use std::sync::ledger::Ledger;
 

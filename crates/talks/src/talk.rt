@@ -1,14 +1,13 @@
 // A session that C holds.
 ghost use Rattle.std.specs.Prelude.{◌≡◌, true, false};
-ghost use Rattle.cpe_io.specs.Lines.{has_newline};
+ghost use Rattle.cpe_session.specs.cpe_io.Lines.{has_newline};
 ghost use Rattle.talks.specs.Told.{Fits};
 ghost use Rattle.talks.specs.Talk.{Ends, Says};
 
 use crate::forms::give;
 use crate::speaking::{Speaking, fall_silent, speak};
 use crate::told::Told;
-use cpe_session::Progress;
-use cpe_steps::Steps;
+use cpe_session::{Progress, Steps};
 use memchr::memchr;
 use std::alloc::Global;
 use std::sync::ledger::Ledger;

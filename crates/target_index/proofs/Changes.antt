@@ -9,8 +9,8 @@ use Rattle.std.proofs.lemmas.List.Quantifiers.{position-Some}
 use Rattle.std.proofs.lemmas.List.Sums.{sum_by-cons, sum_by-append, sum_by-swap_remove}
 use Rattle.std.proofs.lemmas.List.Elements.{recursion_from_All, All-contains}
 use Rattle.std.proofs.lemmas.Iterator.Adapters.{position_from-zero}
-use Rattle.product_orders.specs.Elements.{SameElements}
-use Rattle.product_orders.proofs.Sums.{one_at_most}
+use Rattle.name_index.specs.product_orders.Elements.{SameElements}
+use Rattle.name_index.proofs.product_orders.Sums.{one_at_most}
 use Rattle.name_index.specs.Table.{Names, Kept, find_kept, kept_at, kept_or, IsLive}
 use Rattle.name_index.specs.Index.{Fits, times_held}
 use Rattle.name_index.proofs.Postings.{sum_map}

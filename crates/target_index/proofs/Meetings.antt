@@ -6,21 +6,21 @@ use Rattle.std.proofs.lemmas.Bool.{and_parts, or_left, or_right, false≢true}
 use Rattle.std.proofs.lemmas.List.{append-nil, map-append}
 use Rattle.std.proofs.lemmas.List.Sums.{sum_by-cons, sum_by-append}
 use Rattle.std.proofs.lemmas.List.Elements.{filter-append}
-use Rattle.cpe_values.specs.declared.value.Value.{Value}
-use Rattle.cpe_values.specs.Lower.{has_specials}
-use Rattle.cpe_name.specs.Eleven.{Values}
-use Rattle.cpe_name.specs.Names.{value_of}
-use Rattle.cpe_name.specs.Wildcards.{name_has_specials}
-use Rattle.cpe_name.specs.declared.attribute.Attribute.{Attribute}
-use Rattle.cpe_name.specs.declared.attribute.Attribute.TheVariants.{Vendor, Product, Version, Update, Edition, Language, SwEdition, TargetSw, TargetHw, Other}
+use Rattle.name_index.specs.cpe_values.declared.value.Value.{Value}
+use Rattle.name_index.specs.cpe_values.Lower.{has_specials}
+use Rattle.name_index.specs.cpe_name.Eleven.{Values}
+use Rattle.name_index.specs.cpe_name.Names.{value_of}
+use Rattle.name_index.specs.cpe_name.Wildcards.{name_has_specials}
+use Rattle.name_index.specs.cpe_name.declared.attribute.Attribute.{Attribute}
+use Rattle.name_index.specs.cpe_name.declared.attribute.Attribute.TheVariants.{Vendor, Product, Version, Update, Edition, Language, SwEdition, TargetSw, TargetHw, Other}
 use Rattle.cpe_relation.specs.declared.relation.Relation.{Relation}
 use Rattle.cpe_relation.specs.declared.relation.Relation.TheVariants.{Disjoint, Equal, Subset, Superset, Undefined}
 use Rattle.cpe_relation.specs.Table.{relation}
 use Rattle.cpe_relation.specs.NameRelation.{covers, is_above, relations}
 use Rattle.cpe_relation.specs.Maybe.{is_undefined, may_be_above, maybe}
-use Rattle.product_orders.specs.Elements.{SameElements}
-use Rattle.product_orders.specs.Near.{covers_product}
-use Rattle.product_orders.proofs.Sums.{if_passes, sum_filter}
+use Rattle.name_index.specs.product_orders.Elements.{SameElements}
+use Rattle.name_index.specs.product_orders.Near.{covers_product}
+use Rattle.name_index.proofs.product_orders.Sums.{if_passes, sum_filter}
 use Rattle.name_index.specs.declared.table.NameId.{NameId}
 use Rattle.name_index.specs.Table.{Names}
 use Rattle.name_index.specs.Index.{ids, name_id, is_covered}

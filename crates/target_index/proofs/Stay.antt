@@ -6,9 +6,9 @@ use Rattle.std.proofs.lemmas.Bool.{cases_eq}
 use Rattle.std.proofs.lemmas.Option.{none-some, same_Some}
 use Rattle.std.proofs.lemmas.List.Sums.{sum_by-cons, sum_by-append}
 use Rattle.std.proofs.lemmas.List.Elements.{recursion_from_All, All-from_recursion}
-use Rattle.cpe_values.specs.Lower.{has_specials}
-use Rattle.cpe_name.specs.Eleven.{Values}
-use Rattle.cpe_name.specs.Wildcards.{name_has_specials}
+use Rattle.name_index.specs.cpe_values.Lower.{has_specials}
+use Rattle.name_index.specs.cpe_name.Eleven.{Values}
+use Rattle.name_index.specs.cpe_name.Wildcards.{name_has_specials}
 use Rattle.name_index.specs.Table.{Names, Kept, kept, kept_or, find_kept, kept_at, Holding, Holds, Releases, released}
 use Rattle.name_index.specs.Index.{times_held}
 use Rattle.target_index.specs.Targets.{Targets, FitsTargets, StaysAt, held}

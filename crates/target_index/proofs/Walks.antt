@@ -5,16 +5,16 @@ use Rattle.std.specs.List.{sum_by, filter}
 use Rattle.std.proofs.lemmas.Bool.{or_left, or_right, false≢true, ltb-false}
 use Rattle.std.proofs.lemmas.List.{map-append, length-map}
 use Rattle.std.proofs.lemmas.List.Sums.{sum_by-cons, sum_by-append, sum_by-le-sum_by, count_by-le-length}
-use Rattle.cpe_values.specs.declared.value.Value.{Value}
-use Rattle.cpe_values.specs.Lower.{has_specials}
-use Rattle.cpe_name.specs.Eleven.{Values}
-use Rattle.cpe_name.specs.Wildcards.{name_has_specials}
+use Rattle.name_index.specs.cpe_values.declared.value.Value.{Value}
+use Rattle.name_index.specs.cpe_values.Lower.{has_specials}
+use Rattle.name_index.specs.cpe_name.Eleven.{Values}
+use Rattle.name_index.specs.cpe_name.Wildcards.{name_has_specials}
 use Rattle.cpe_relation.specs.NameRelation.{covers}
 use Rattle.cpe_relation.specs.Near.{near}
 use Rattle.cpe_relation.specs.Maybe.{maybe}
-use Rattle.product_orders.specs.declared.products.Side.TheVariants as side
-use Rattle.product_orders.specs.Elements.{SameElements}
-use Rattle.product_orders.proofs.Sums.{if_passes, sum_filter}
+use Rattle.name_index.specs.product_orders.declared.products.Side.TheVariants as side
+use Rattle.name_index.specs.product_orders.Elements.{SameElements}
+use Rattle.name_index.proofs.product_orders.Sums.{if_passes, sum_filter}
 use Rattle.name_index.specs.declared.table.NameId.{NameId}
 use Rattle.name_index.specs.Table.{Names, kept_at}
 use Rattle.name_index.specs.Index.{ids, name_id, is_near}

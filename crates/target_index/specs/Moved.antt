@@ -1,6 +1,6 @@
 -- What a number that comes or goes makes of the targets, and what may be asked of them before.
 use Rattle.std.specs.Prelude.{◌≡◌, ◌∷◌, ℕ, ◌+◌, ◌<◌, ◌≤◌, length}
-use Rattle.product_orders.specs.Elements.{SameElements}
+use Rattle.name_index.specs.product_orders.Elements.{SameElements}
 use Rattle.name_index.specs.Table.{Names, IsLive, kept_at}
 use Rattle.name_index.specs.Index.{times_held}
 use Rattle.target_index.specs.Targets.{FitsTargets, Targets, held}

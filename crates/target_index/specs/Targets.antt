@@ -1,9 +1,9 @@
 -- Targets by number as contracts see them. A target whose name has a special is known in part: it is open.
 use Rattle.std.specs.Prelude.{◌≡◌, ℕ, ◌≤◌, Bool, not, List, [], ◌++◌, Some, count_by}
-use Rattle.cpe_values.specs.declared.value.Value.{Value}
-use Rattle.cpe_values.specs.Lower.{has_specials}
-use Rattle.cpe_name.specs.Eleven.{Values}
-use Rattle.cpe_name.specs.Wildcards.{name_has_specials}
+use Rattle.name_index.specs.cpe_values.declared.value.Value.{Value}
+use Rattle.name_index.specs.cpe_values.Lower.{has_specials}
+use Rattle.name_index.specs.cpe_name.Eleven.{Values}
+use Rattle.name_index.specs.cpe_name.Wildcards.{name_has_specials}
 use Rattle.cpe_relation.specs.NameRelation.{covers}
 use Rattle.cpe_relation.specs.Maybe.{maybe, meets}
 use Rattle.name_index.specs.declared.table.NameId.{NameId}

@@ -1,16 +1,14 @@
 // How many targets a name covers, and how many it may cover.
 ghost use Rattle.std.specs.Prelude.{◌≡◌, ℕ, ◌+◌, ◌<◌, ◌≤◌, ◌&&◌, cond, length, count_by, nat_lt};
 ghost use Rattle.name_index.specs.Prelude.{covers, IsLower, kept_at, maybe};
-ghost use Rattle.product_orders.specs.declared.products.Side.TheVariants as side;
+ghost use Rattle.name_index.specs.product_orders.declared.products.Side.TheVariants as side;
 ghost use Rattle.name_index.specs.Index.{ids, Fits, is_near};
 ghost use Rattle.target_index.specs.Targets.{is_loose, covered_count, maybe_count};
 ghost use Rattle.target_index.specs.Parts.{pairs_of};
 
 use crate::parts::Loose;
-use cpe_name::Wfn;
 use cpe_relation::{covers, maybe};
-use cpe_steps::Steps;
-use name_index::{NameId, NameIndex, NameTable, Side};
+use name_index::{NameId, NameIndex, NameTable, Side, Steps, Wfn};
 use std::sync::ledger::Ledger;
 
 /// How many targets a name covers, and how many it may cover.

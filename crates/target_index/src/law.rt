@@ -1,6 +1,6 @@
 // Laws of targets and the table of their names. The function does nothing: its clauses are the laws.
 ghost use Rattle.std.specs.Prelude.{◌≡◌, ◌≤◌, ℕ, None};
-ghost use Rattle.cpe_name.specs.Eleven.{Values};
+ghost use Rattle.name_index.specs.cpe_name.Eleven.{Values};
 ghost use Rattle.name_index.specs.Table.{Names, find_kept, Holds, Releases};
 ghost use Rattle.name_index.specs.Index.{times_held};
 ghost use Rattle.target_index.specs.Targets.{Targets, FitsTargets, StaysAt, held};

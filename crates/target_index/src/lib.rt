@@ -20,12 +20,9 @@ mod meeting;
 mod parts;
 
 pub use counting::{Counts, is_covering, may_cover};
-use cpe_name::Wfn;
-use cpe_steps::Steps;
-use cpe_values::Memory;
 pub use meeting::Met;
 use meeting::meet;
-use name_index::{NameId, NameTable};
+use name_index::{Memory, NameId, NameTable, Steps, Wfn};
 use parts::Parts;
 pub use parts::at_least;
 use std::alloc::Global;

@@ -1,18 +1,15 @@
 // The targets that a name covers, and those that it may cover.
 ghost use Rattle.std.specs.Prelude.{◌≡◌, ℕ, ◌+◌, ◌++◌, ◌∷◌, [], IfOk, OnOk, cond, count_by, filter, length};
 ghost use Rattle.name_index.specs.Prelude.{covers, IsLive, IsLower, IsOrder, maybe, SameElements, StepsWithin};
-ghost use Rattle.product_orders.specs.declared.products.Side.TheVariants as side;
+ghost use Rattle.name_index.specs.product_orders.declared.products.Side.TheVariants as side;
 ghost use Rattle.name_index.specs.Index.{Fits, ids, is_covered, is_near};
 ghost use Rattle.target_index.specs.Targets.{FitsTargets, held, is_loose, is_maybe, is_met};
 ghost use Rattle.target_index.specs.Parts.{ArePartsOf, pairs_of, targets_of};
 
 use crate::counting::may_cover;
 use crate::parts::{Loose, Parts};
-use cpe_name::{Attribute, Wfn};
 use cpe_relation::{covers_in_order, deciding_order};
-use cpe_steps::Steps;
-use cpe_values::Memory;
-use name_index::{NameId, NameIndex, NameTable};
+use name_index::{Attribute, Memory, NameId, NameIndex, NameTable, Steps, Wfn};
 use std::alloc::Global;
 use std::sync::ledger::Ledger;
 

@@ -7,10 +7,7 @@ ghost use Rattle.target_index.specs.Targets.{AreNone, FitsTargets, SameTargets, 
 ghost use Rattle.target_index.specs.Parts.{ArePartsOf, pair_of, pairs_of, targets_of};
 
 use crate::counting::{Counts, count_loose, count_plain, one_more};
-use cpe_name::{Attribute, Wfn};
-use cpe_steps::Steps;
-use cpe_values::Memory;
-use name_index::{NameId, NameIndex, NameTable};
+use name_index::{Attribute, Memory, NameId, NameIndex, NameTable, Steps, Wfn};
 use std::alloc::Global;
 use std::sync::ledger::Ledger;
 

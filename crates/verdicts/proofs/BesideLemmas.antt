@@ -11,14 +11,14 @@ use Rattle.name_index.specs.Table.{Names}
 use Rattle.cpe_rows.specs.declared.entry.Entry.{Entry}
 use Rattle.cpe_rows.specs.declared.statement.Mode.{Mode}
 use Rattle.cpe_rows.specs.declared.statement.Mode.TheVariants.{Plain, Follow}
-use Rattle.fact_laws.specs.Shown.{one_if_some, times_in}
-use Rattle.fact_rows.specs.Facts.{ends_or_none, Fact, fact_at, FactTable, has_end, is_fact, leads_by, has_room, leads_of, new_fact, OthersStay, users_of}
-use Rattle.fact_rows.specs.Calls.{SameFacts}
-use Rattle.fact_rows.specs.Tickets.{is_empty}
+use Rattle.facts.specs.fact_laws.Shown.{one_if_some, times_in}
+use Rattle.facts.specs.fact_rows.Facts.{ends_or_none, Fact, fact_at, FactTable, has_end, is_fact, leads_by, has_room, leads_of, new_fact, OthersStay, users_of}
+use Rattle.facts.specs.fact_rows.Calls.{SameFacts}
+use Rattle.facts.specs.fact_rows.Tickets.{is_empty}
 use Rattle.facts.specs.Facts.{AreUsedBut, FactsNow, is_used, LeadsTo, table_of}
 use Rattle.facts.specs.Room.{KeepsFacts, OnlyMode, RoomForUsers}
 use Rattle.facts.proofs.UserLemmas.{used_fact}
-use Rattle.fact_laws.specs.Asked.{same_mode}
+use Rattle.facts.specs.fact_laws.Asked.{same_mode}
 use Rattle.verdicts.specs.Addition.{AreAdded, AreReady, FreshBeside, HasAskedRoom}
 use Rattle.verdicts.proofs.LastLemmas.{bit, ends_counted}
 

@@ -1,19 +1,19 @@
 -- Verdicts after an entry was added, and verdicts of rows that are entries alone.
 use Rattle.std.proofs.Common.{◌≡◌, ℕ, true, not, List, [], ◌∷◌, length, refl, sym, ap, ◌∙◌}
 use Rattle.std.proofs.lemmas.Bool.{true≢false}
-use Rattle.cpe_name.specs.Eleven.{Values}
+use Rattle.cpe_rows.specs.cpe_name.Eleven.{Values}
 use Rattle.name_index.specs.Table.{Names, kept_at}
-use Rattle.level_board.specs.Board.{Board}
+use Rattle.facts.specs.level_board.Board.{Board}
 use Rattle.cpe_rows.specs.Chains.{ends}
 use Rattle.cpe_rows.specs.Rows.{Rows}
 use Rattle.cpe_rows.specs.Verdict.{fact_truth}
 use Rattle.cpe_rows.specs.declared.entry.Entry.{Entry}
 use Rattle.cpe_rows.specs.declared.statement.Mode.{Mode}
 use Rattle.cpe_rows.specs.declared.statement.Mode.TheVariants.{Plain, Follow}
-use Rattle.fact_laws.specs.Asked.{leads}
+use Rattle.facts.specs.fact_laws.Asked.{leads}
 use Rattle.kept_facts.specs.Kept.{ShowRows, ShowsRows}
-use Rattle.fact_rows.specs.Facts.{FactTable}
-use Rattle.fact_rows.specs.Tickets.{is_empty}
+use Rattle.facts.specs.fact_rows.Facts.{FactTable}
+use Rattle.facts.specs.fact_rows.Tickets.{is_empty}
 use Rattle.facts.specs.Facts.{FactsOf, is_used}
 use Rattle.facts.specs.Users.{users_in}
 use Rattle.facts.proofs.UserLemmas.{used_fact}

@@ -7,10 +7,10 @@ use Rattle.name_index.specs.declared.table.NameId.{NameId}
 use Rattle.name_index.specs.Table.{Names}
 use Rattle.cpe_rows.specs.declared.entry.Entry.{Entry}
 use Rattle.cpe_rows.specs.declared.statement.Mode.{Mode}
-use Rattle.fact_laws.specs.Asked.{leads}
-use Rattle.fact_laws.specs.Shown.{names_at, times_in}
+use Rattle.facts.specs.fact_laws.Asked.{leads}
+use Rattle.facts.specs.fact_laws.Shown.{names_at, times_in}
 use Rattle.kept_facts.specs.Kept.{AreLive}
-use Rattle.fact_rows.specs.Facts.{Fact, fact_at, FactTable, has_end, is_fact, leads_of}
+use Rattle.facts.specs.fact_rows.Facts.{Fact, fact_at, FactTable, has_end, is_fact, leads_of}
 use Rattle.facts.specs.Facts.{is_used, LeadsTo}
 use Rattle.verdicts.specs.Addition.{AreFresh}
 use Rattle.verdicts.proofs.LastLemmas.{all_ends, filtered_ends, leads_named, one_at_most, same_ends}

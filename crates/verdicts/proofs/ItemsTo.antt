@@ -7,11 +7,11 @@ use Rattle.std.proofs.lemmas.Bool.{and_parts, not-true, or_cases, or_left, or_ri
 use Rattle.std.proofs.lemmas.List.Folds.{list_any-append}
 use Rattle.std.proofs.lemmas.List.Sums.{sum_by-cons}
 use Rattle.std.specs.Cmp.Derive.{both_true}
-use Rattle.product_orders.specs.Elements.{SameElements}
-use Rattle.product_orders.proofs.Sums.{filter_same}
+use Rattle.name_index.specs.product_orders.Elements.{SameElements}
+use Rattle.name_index.proofs.product_orders.Sums.{filter_same}
 use Rattle.name_index.proofs.Postings.{sum_map}
-use Rattle.cpe_name.specs.Eleven.{Values}
-use Rattle.cpe_name.specs.Equal.{same_name}
+use Rattle.cpe_rows.specs.cpe_name.Eleven.{Values}
+use Rattle.cpe_rows.specs.cpe_name.Equal.{same_name}
 use Rattle.cpe_rows.specs.Chains.{chain, ends, is_active, leads_to}
 use Rattle.cpe_rows.specs.Lawful.{are_different, IsLawful}
 use Rattle.cpe_rows.specs.Names.{is_same}
@@ -23,16 +23,16 @@ use Rattle.cpe_rows.proofs.NameTests.{same_is}
 use Rattle.name_index.specs.Index.{ids, name_id, times_held}
 use Rattle.name_index.specs.Table.{AreNames, find_kept, Kept, Names, kept_at}
 use Rattle.name_index.specs.declared.table.NameId.{NameId}
-use Rattle.product_orders.specs.declared.products.Side.TheVariants as side
-use Rattle.target_index.specs.Targets.{is_met}
-use Rattle.cpe_values.specs.declared.value.Value.{Value}
-use Rattle.fact_laws.specs.Shown.{different, meets_on, names_at, names_in, near_names, one_if_some, Shows, times_named}
-use Rattle.fact_laws.proofs.Different.{counts_same, held_different, near_different, one_once, one_some}
-use Rattle.fact_laws.proofs.Sources.{apart_once}
-use Rattle.level_board.specs.Board.{Board, IsOn, target_ids, target_times}
-use Rattle.fact_laws.specs.Asked.{entry_names, leads, source_names, there}
-use Rattle.fact_laws.proofs.Counted.{same_test}
-use Rattle.fact_laws.proofs.Facts.{any_same}
+use Rattle.name_index.specs.product_orders.declared.products.Side.TheVariants as side
+use Rattle.facts.specs.target_index.Targets.{is_met}
+use Rattle.cpe_rows.specs.cpe_values.declared.value.Value.{Value}
+use Rattle.facts.specs.fact_laws.Shown.{different, meets_on, names_at, names_in, near_names, one_if_some, Shows, times_named}
+use Rattle.facts.proofs.fact_laws.Different.{counts_same, held_different, near_different, one_once, one_some}
+use Rattle.facts.proofs.fact_laws.Sources.{apart_once}
+use Rattle.facts.specs.level_board.Board.{Board, IsOn, target_ids, target_times}
+use Rattle.facts.specs.fact_laws.Asked.{entry_names, leads, source_names, there}
+use Rattle.facts.proofs.fact_laws.Counted.{same_test}
+use Rattle.facts.proofs.fact_laws.Facts.{any_same}
 use Rattle.cpe_registry.specs.Registered.{items_leading, PutsItemsInOrder, Registered}
 use Rattle.kept_facts.specs.Kept.{AreLive, board_of, Boards}
 use Rattle.verdicts.specs.Items.{AreItemsTo, ArePassing, items_at}

@@ -12,7 +12,7 @@ use Rattle.cpe_rows.specs.declared.statement.Mode.TheVariants.{Plain, Follow}
 use Rattle.cpe_rows.specs.declared.test.CheckKey.{CheckKey}
 use Rattle.cpe_rows.specs.declared.truth.Truth.{Truth}
 use Rattle.kept_facts.specs.Kept.{AreSound}
-use Rattle.fact_rows.specs.Facts.{differs, FactTable, is_fact, truth_of}
+use Rattle.facts.specs.fact_rows.Facts.{differs, FactTable, is_fact, truth_of}
 use Rattle.facts.specs.Facts.{AreChanges, AreUsed, FactsNow, HasFacts, is_used, table_of}
 use Rattle.facts.specs.Room.{KeepsFacts}
 use Rattle.facts.proofs.ChangeLemmas.{differs_is}

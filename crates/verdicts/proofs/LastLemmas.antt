@@ -4,8 +4,8 @@ use Rattle.std.specs.Prelude.{filter}
 use Rattle.std.specs.List.{AllByRecursion, flat_map, list_any, sum_by}
 use Rattle.std.proofs.lemmas.Bool.{or_left, or_right, true≢false}
 use Rattle.std.proofs.lemmas.List.{map-append}
-use Rattle.cpe_name.specs.Eleven.{Values}
-use Rattle.cpe_name.specs.Equal.{same_name, same_name-Decides}
+use Rattle.cpe_rows.specs.cpe_name.Eleven.{Values}
+use Rattle.cpe_rows.specs.cpe_name.Equal.{same_name, same_name-Decides}
 use Rattle.kept_facts.specs.Prelude.{SameElements}
 use Rattle.name_index.specs.declared.table.NameId.{NameId}
 use Rattle.name_index.specs.Table.{AreNames, Names}
@@ -14,14 +14,14 @@ use Rattle.cpe_rows.specs.declared.entry.Entry.{Entry}
 use Rattle.cpe_rows.specs.declared.statement.Mode.{Mode}
 use Rattle.cpe_rows.specs.declared.statement.Mode.TheVariants.{Plain, Follow}
 use Rattle.cpe_rows.specs.declared.statement.Statement.{Statement}
-use Rattle.fact_laws.specs.Asked.{facts_of, fresh_facts, is_referred, leads, refers_to, same_mode}
-use Rattle.fact_laws.specs.Shown.{different, name_at, names_at, one_if_some, times_in}
-use Rattle.fact_laws.proofs.Different.{once_different, one_some}
-use Rattle.fact_laws.proofs.Names.{sum_flat}
-use Rattle.fact_laws.proofs.Shown.{number_first}
+use Rattle.facts.specs.fact_laws.Asked.{facts_of, fresh_facts, is_referred, leads, refers_to, same_mode}
+use Rattle.facts.specs.fact_laws.Shown.{different, name_at, names_at, one_if_some, times_in}
+use Rattle.facts.proofs.fact_laws.Different.{once_different, one_some}
+use Rattle.facts.proofs.fact_laws.Names.{sum_flat}
+use Rattle.facts.proofs.fact_laws.Shown.{number_first}
 use Rattle.kept_facts.specs.Kept.{AreLive}
-use Rattle.fact_rows.specs.Facts.{FactTable, has_end, leads_of}
-use Rattle.fact_rows.specs.Tickets.{is_empty}
+use Rattle.facts.specs.fact_rows.Facts.{FactTable, has_end, leads_of}
+use Rattle.facts.specs.fact_rows.Tickets.{is_empty}
 use Rattle.facts.specs.Facts.{LeadsTo}
 use Rattle.facts.specs.Users.{users_in}
 use Rattle.verdicts.proofs.NumberLemmas.{live_filtered}

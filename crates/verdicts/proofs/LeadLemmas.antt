@@ -2,8 +2,8 @@
 use Rattle.std.proofs.Common.{◌≡◌, ◌≤◌, ℕ, true, not, List, [], filter, length, map, Option, Some, Result, refl, sym, ap, subst, ◌∙◌}
 use Rattle.std.specs.Prelude.{is_some}
 use Rattle.std.specs.List.{AllByRecursion, flat_map, list_any, sum_by}
-use Rattle.cpe_name.specs.Eleven.{Values}
-use Rattle.product_orders.specs.Elements.{SameElements}
+use Rattle.cpe_rows.specs.cpe_name.Eleven.{Values}
+use Rattle.name_index.specs.product_orders.Elements.{SameElements}
 use Rattle.name_index.specs.declared.table.NameId.{NameId}
 use Rattle.name_index.specs.Table.{AreNames, Names, kept_at}
 use Rattle.cpe_rows.specs.Chains.{ends, leads_to}
@@ -15,13 +15,13 @@ use Rattle.cpe_rows.specs.declared.statement.Mode.{Mode}
 use Rattle.cpe_rows.specs.declared.statement.Mode.TheVariants.{Plain, Follow}
 use Rattle.cpe_dictionary.specs.Plans.{ends_by}
 use Rattle.cpe_dictionary.specs.declared.plans.Plan.{Plan}
-use Rattle.fact_laws.specs.Shown.{names_at, times_named}
-use Rattle.fact_laws.specs.Asked.{facts_in, source_names}
-use Rattle.fact_laws.proofs.Counted.{counted_once}
-use Rattle.fact_laws.proofs.Sources.{apart_once}
+use Rattle.facts.specs.fact_laws.Shown.{names_at, times_named}
+use Rattle.facts.specs.fact_laws.Asked.{facts_in, source_names}
+use Rattle.facts.proofs.fact_laws.Counted.{counted_once}
+use Rattle.facts.proofs.fact_laws.Sources.{apart_once}
 use Rattle.kept_facts.specs.Kept.{AreLive, AreSound}
-use Rattle.fact_rows.specs.Facts.{Fact, fact_at, FactTable, is_fact, truth_of, truth_or_unknown, users_or_none}
-use Rattle.fact_rows.specs.Tickets.{is_empty}
+use Rattle.facts.specs.fact_rows.Facts.{Fact, fact_at, FactTable, is_fact, truth_of, truth_or_unknown, users_or_none}
+use Rattle.facts.specs.fact_rows.Tickets.{is_empty}
 use Rattle.facts.specs.Facts.{AreUsed, FactsNow, HasFacts, is_used, table_of}
 use Rattle.facts.specs.LeadCalls.{HasRoomForEnds}
 use Rattle.facts.specs.Leads.{IsLed}

@@ -4,10 +4,10 @@ use Rattle.std.specs.Prelude.{nat_eq}
 use Rattle.std.specs.List.{AllByRecursion, flat_map, list_any, sum_by}
 use Rattle.std.proofs.lemmas.Bool.{both_ways, cases_Bool, ne_eqb, or_left, or_right}
 use Rattle.std.proofs.lemmas.List.{map-append}
-use Rattle.cpe_name.specs.Eleven.{Values}
-use Rattle.cpe_name.specs.Equal.{same_name}
-use Rattle.product_orders.specs.Elements.{SameElements}
-use Rattle.product_orders.proofs.Sums.{if_passes, sum_filter}
+use Rattle.cpe_rows.specs.cpe_name.Eleven.{Values}
+use Rattle.cpe_rows.specs.cpe_name.Equal.{same_name}
+use Rattle.name_index.specs.product_orders.Elements.{SameElements}
+use Rattle.name_index.proofs.product_orders.Sums.{if_passes, sum_filter}
 use Rattle.name_index.specs.declared.table.NameId.{NameId}
 use Rattle.name_index.specs.Table.{AreNames, IsLive, Names, kept_at}
 use Rattle.cpe_rows.specs.Chains.{ends, leads_to}
@@ -21,15 +21,15 @@ use Rattle.cpe_rows.specs.declared.statement.Statement.{Statement}
 use Rattle.cpe_rows.proofs.Added.{no_chain}
 use Rattle.cpe_dictionary.specs.Plans.{ends_by}
 use Rattle.cpe_dictionary.specs.declared.plans.Plan.{Plan}
-use Rattle.fact_laws.specs.Shown.{name_at, names_at, one_if_some, times_in, times_named}
-use Rattle.fact_laws.proofs.Shown.{live_is, number_first, same_names, times_agree}
-use Rattle.fact_laws.specs.Asked.{facts_in, is_referred, refers_to, source_names}
-use Rattle.fact_laws.proofs.Counted.{counted, first_removed, some_stands}
-use Rattle.fact_laws.proofs.Names.{sum_flat}
-use Rattle.fact_laws.proofs.Sources.{led_by_those_there}
+use Rattle.facts.specs.fact_laws.Shown.{name_at, names_at, one_if_some, times_in, times_named}
+use Rattle.facts.proofs.fact_laws.Shown.{live_is, number_first, same_names, times_agree}
+use Rattle.facts.specs.fact_laws.Asked.{facts_in, is_referred, refers_to, source_names}
+use Rattle.facts.proofs.fact_laws.Counted.{counted, first_removed, some_stands}
+use Rattle.facts.proofs.fact_laws.Names.{sum_flat}
+use Rattle.facts.proofs.fact_laws.Sources.{led_by_those_there}
 use Rattle.kept_facts.specs.Kept.{AreLive}
-use Rattle.fact_rows.specs.Facts.{ends_of, Fact, fact_at, FactTable, users_or_none}
-use Rattle.fact_rows.specs.Tickets.{is_empty}
+use Rattle.facts.specs.fact_rows.Facts.{ends_of, Fact, fact_at, FactTable, users_or_none}
+use Rattle.facts.specs.fact_rows.Tickets.{is_empty}
 use Rattle.facts.specs.Facts.{FactsNow, HasFacts, is_used}
 use Rattle.facts.specs.Leads.{is_led, IsLed}
 use Rattle.facts.specs.Users.{users_in}

@@ -8,8 +8,8 @@ use Rattle.std.proofs.lemmas.Option.{none-some, same_Some}
 use Rattle.kept_facts.specs.Prelude.{SameElements}
 use Rattle.name_index.specs.declared.table.NameId.{NameId}
 use Rattle.name_index.specs.Table.{AreNames, IsLive, kept_at, Names}
-use Rattle.level_board.specs.Board.{probe_times}
-use Rattle.ticket_list.specs.Rising.{IsRising}
+use Rattle.facts.specs.level_board.Board.{probe_times}
+use Rattle.facts.specs.ticket_list.Rising.{IsRising}
 use Rattle.cpe_rows.specs.After.{after, without_first}
 use Rattle.cpe_rows.specs.Rows.{has_id, Rows}
 use Rattle.cpe_rows.specs.declared.edit.Edit.TheVariants as edit
@@ -17,14 +17,14 @@ use Rattle.cpe_rows.specs.declared.statement.Mode.{Mode}
 use Rattle.cpe_rows.specs.declared.statement.Statement.{Statement}
 use Rattle.cpe_rows.specs.declared.test.CheckKey.{CheckKey}
 use Rattle.cpe_rows.specs.declared.truth.Truth.{Truth}
-use Rattle.fact_laws.specs.Asked.{asked, fresh_facts, is_referred, leads}
-use Rattle.fact_laws.specs.Shown.{names_at, times_in}
-use Rattle.fact_laws.proofs.Names.{found_if_any}
-use Rattle.fact_laws.proofs.Shown.{other_number, shows_order, shows_part}
+use Rattle.facts.specs.fact_laws.Asked.{asked, fresh_facts, is_referred, leads}
+use Rattle.facts.specs.fact_laws.Shown.{names_at, times_in}
+use Rattle.facts.proofs.fact_laws.Names.{found_if_any}
+use Rattle.facts.proofs.fact_laws.Shown.{other_number, shows_order, shows_part}
 use Rattle.kept_facts.specs.Kept.{AreLive, AreSound, board_of}
 use Rattle.kept_facts.proofs.Boards.{statement_less}
-use Rattle.fact_rows.specs.Facts.{has_end, is_fact, leads_of, truth_of, users_of}
-use Rattle.fact_rows.specs.Tickets.{is_empty, without}
+use Rattle.facts.specs.fact_rows.Facts.{has_end, is_fact, leads_of, truth_of, users_of}
+use Rattle.facts.specs.fact_rows.Tickets.{is_empty, without}
 use Rattle.facts.specs.Calls.{IsOldStatement, MayRemoveStatement}
 use Rattle.facts.specs.Facts.{AreUsed, FactsNow, FactsOf, HasFacts, is_used, LeadsTo, table_of}
 use Rattle.facts.specs.Users.{AreTickets, ticket_of}

@@ -9,10 +9,10 @@ use Rattle.cpe_rows.specs.declared.statement.Mode.{Mode}
 use Rattle.cpe_rows.specs.declared.statement.Mode.TheVariants.{Plain, Follow}
 use Rattle.cpe_rows.specs.declared.test.CheckKey.{CheckKey}
 use Rattle.cpe_rows.specs.declared.truth.Truth.{Truth}
-use Rattle.level_board.specs.Board.{Board}
-use Rattle.fact_rows.specs.Facts.{FactTable}
+use Rattle.facts.specs.level_board.Board.{Board}
+use Rattle.facts.specs.fact_rows.Facts.{FactTable}
 use Rattle.cpe_rows.specs.FactNames.{fact_names}
-use Rattle.fact_laws.specs.Shown.{names_at}
+use Rattle.facts.specs.fact_laws.Shown.{names_at}
 use Rattle.kept_facts.specs.Kept.{AreLive, AreSound}
 use Rattle.facts.specs.Facts.{AreUsed, FactsNow, FactsOf, HasFacts}
 use Rattle.statement_rows.specs.Askers.{AreAsked}

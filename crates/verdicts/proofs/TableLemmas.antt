@@ -6,11 +6,11 @@ use Rattle.std.proofs.lemmas.Bool.{cases_eq, or_cases, or_left, or_right, trueâ‰
 use Rattle.std.proofs.lemmas.List.Folds.{list_any-append}
 use Rattle.std.proofs.lemmas.List.Sums.{sum_by-append}
 use Rattle.std.proofs.lemmas.Option.{none-some}
-use Rattle.cpe_name.specs.Eleven.{Values}
-use Rattle.cpe_name.specs.Equal.{same_name}
+use Rattle.cpe_rows.specs.cpe_name.Eleven.{Values}
+use Rattle.cpe_rows.specs.cpe_name.Equal.{same_name}
 use Rattle.name_index.specs.declared.table.NameId.{NameId}
 use Rattle.name_index.specs.Table.{AreNames, find_kept, Holding, Holds, IsLive, Kept, kept_at, kept_or, Names, Releases}
-use Rattle.level_board.specs.Board.{Board, FitsBoard, probe_times}
+use Rattle.facts.specs.level_board.Board.{Board, FitsBoard, probe_times}
 use Rattle.cpe_rows.specs.FactNames.{fact_names}
 use Rattle.cpe_rows.specs.Names.{is_same}
 use Rattle.cpe_rows.specs.Rows.{Rows}
@@ -18,17 +18,17 @@ use Rattle.cpe_rows.specs.Verdict.{fact_truth}
 use Rattle.cpe_rows.specs.declared.statement.Mode.{Mode}
 use Rattle.cpe_rows.specs.declared.statement.Mode.TheVariants.{Plain, Follow}
 use Rattle.cpe_rows.specs.declared.statement.Statement.{Statement}
-use Rattle.fact_laws.specs.Asked.{entry_names, is_referred, leads, names_kept, refers_to, same_mode}
-use Rattle.fact_laws.specs.Shown.{names_at, times_named}
-use Rattle.fact_laws.proofs.Counted.{same_test}
-use Rattle.fact_laws.proofs.Shown.{live_is, other_names}
-use Rattle.fact_laws.proofs.Different.{some_named}
-use Rattle.fact_laws.proofs.Tables.{keeps, was_live}
+use Rattle.facts.specs.fact_laws.Asked.{entry_names, is_referred, leads, names_kept, refers_to, same_mode}
+use Rattle.facts.specs.fact_laws.Shown.{names_at, times_named}
+use Rattle.facts.proofs.fact_laws.Counted.{same_test}
+use Rattle.facts.proofs.fact_laws.Shown.{live_is, other_names}
+use Rattle.facts.proofs.fact_laws.Different.{some_named}
+use Rattle.facts.proofs.fact_laws.Tables.{keeps, was_live}
 use Rattle.kept_facts.specs.Kept.{AreKnown, AreLive, board_of, FitBoards, ShowRows, ShowsRows}
-use Rattle.fact_rows.specs.Facts.{Fact, fact_at, FactTable, has_end, is_fact, leads_of, users_of, users_or_none}
+use Rattle.facts.specs.fact_rows.Facts.{Fact, fact_at, FactTable, has_end, is_fact, leads_of, users_of, users_or_none}
 use Rattle.facts.specs.Facts.{FactsNow, FactsOf, HasFacts, is_used, LeadsTo, table_of}
 use Rattle.facts.specs.Users.{users_in}
-use Rattle.fact_rows.specs.Tickets.{is_empty}
+use Rattle.facts.specs.fact_rows.Tickets.{is_empty}
 use Rattle.facts.proofs.MoveLemmas.{on}
 use Rattle.facts.proofs.UserLemmas.{used_fact, users_refer}
 use Rattle.statement_rows.specs.State.{StatementRow, statements_of}

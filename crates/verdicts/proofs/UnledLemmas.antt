@@ -4,9 +4,9 @@ use Rattle.std.specs.Prelude.{find, is_none, nat_lt, option_and_then, position, 
 use Rattle.std.specs.List.{AllByRecursion, flat_map, list_any}
 use Rattle.std.proofs.lemmas.Bool.{and_parts, lt-ltb, not-true, or_cases, or_left, or_right, true≢false}
 use Rattle.std.proofs.lemmas.Option.{none-some}
-use Rattle.cpe_name.specs.Eleven.{Values}
+use Rattle.cpe_rows.specs.cpe_name.Eleven.{Values}
 use Rattle.name_index.specs.Table.{IsLive, Names, kept_at}
-use Rattle.level_board.specs.Board.{probe_times, target_times}
+use Rattle.facts.specs.level_board.Board.{probe_times, target_times}
 use Rattle.cpe_rows.specs.Chains.{chain, ends, is_active, leads_to}
 use Rattle.cpe_rows.specs.Lawful.{are_different}
 use Rattle.cpe_rows.specs.Names.{is_same}
@@ -16,10 +16,10 @@ use Rattle.cpe_rows.specs.declared.statement.Mode.TheVariants.{Follow}
 use Rattle.cpe_rows.proofs.Added.{no_chain}
 use Rattle.cpe_rows.proofs.NameTests.{same_is}
 use Rattle.cpe_dictionary.proofs.PlanLemmas.{entry_found}
-use Rattle.fact_laws.specs.Shown.{one_if_some, Shows, times_named}
-use Rattle.fact_laws.proofs.Shown.{live_is, named_both}
-use Rattle.fact_laws.specs.Asked.{asked, entry_names, facts_in, there}
-use Rattle.fact_laws.proofs.Counted.{some_stands}
+use Rattle.facts.specs.fact_laws.Shown.{one_if_some, Shows, times_named}
+use Rattle.facts.proofs.fact_laws.Shown.{live_is, named_both}
+use Rattle.facts.specs.fact_laws.Asked.{asked, entry_names, facts_in, there}
+use Rattle.facts.proofs.fact_laws.Counted.{some_stands}
 use Rattle.kept_facts.specs.Kept.{Boards, ShowsRows}
 use Rattle.verdicts.specs.Leads.{IsUnled}
 

@@ -3,7 +3,7 @@ use Rattle.std.proofs.Common.{◌≡◌, ℕ, Bool, true, false, not, cond, ◌&
 use Rattle.std.specs.List.{AllByRecursion, flat_map, list_any}
 use Rattle.std.proofs.lemmas.Bool.{or_cases, or_left, or_right, true≢false}
 use Rattle.std.proofs.lemmas.List.Folds.{list_any-append}
-use Rattle.cpe_name.specs.Eleven.{Values}
+use Rattle.cpe_rows.specs.cpe_name.Eleven.{Values}
 use Rattle.name_index.specs.declared.table.NameId.{NameId}
 use Rattle.name_index.specs.Table.{IsLive, Names, kept_at}
 use Rattle.cpe_rows.specs.Rows.{Rows}
@@ -12,13 +12,13 @@ use Rattle.cpe_rows.specs.declared.statement.Mode.TheVariants.{Plain, Follow}
 use Rattle.cpe_rows.specs.declared.statement.Statement.{Statement}
 use Rattle.cpe_rows.specs.FactNames.{fact_names}
 use Rattle.cpe_rows.specs.Names.{is_same}
-use Rattle.fact_laws.specs.Asked.{refers_to, same_mode}
-use Rattle.fact_laws.specs.Shown.{names_at}
-use Rattle.fact_laws.proofs.Counted.{same_test}
-use Rattle.fact_laws.proofs.Shown.{same_names}
+use Rattle.facts.specs.fact_laws.Asked.{refers_to, same_mode}
+use Rattle.facts.specs.fact_laws.Shown.{names_at}
+use Rattle.facts.proofs.fact_laws.Counted.{same_test}
+use Rattle.facts.proofs.fact_laws.Shown.{same_names}
 use Rattle.kept_facts.specs.Kept.{AreLive}
-use Rattle.fact_rows.specs.Facts.{has_end, users_of}
-use Rattle.fact_rows.specs.Tickets.{is_empty}
+use Rattle.facts.specs.fact_rows.Facts.{has_end, users_of}
+use Rattle.facts.specs.fact_rows.Tickets.{is_empty}
 use Rattle.facts.specs.Facts.{FactsNow, HasFacts, is_used, table_of}
 use Rattle.facts.specs.Users.{users_in}
 use Rattle.statement_rows.specs.State.{StatementRow, statements_of}

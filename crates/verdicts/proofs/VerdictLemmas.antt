@@ -4,7 +4,7 @@ use Rattle.std.specs.Prelude.{find, slice_get}
 use Rattle.std.specs.List.{AllByRecursion}
 use Rattle.std.specs.Option.{option_map}
 use Rattle.std.proofs.lemmas.Bool.{or_left, or_right}
-use Rattle.cpe_name.specs.Eleven.{Values}
+use Rattle.cpe_rows.specs.cpe_name.Eleven.{Values}
 use Rattle.name_index.specs.declared.table.NameId.{NameId}
 use Rattle.name_index.specs.Table.{Names, kept_at}
 use Rattle.cpe_rows.specs.Evaluation.{test_truth}
@@ -16,9 +16,9 @@ use Rattle.cpe_rows.specs.declared.statement.Mode.TheVariants.{Plain, Follow}
 use Rattle.cpe_rows.specs.declared.statement.Statement.{Statement}
 use Rattle.cpe_rows.specs.declared.test.CheckKey.{CheckKey}
 use Rattle.cpe_rows.specs.declared.truth.Truth.{Truth}
-use Rattle.cpe_inventory.specs.Kept.{kept_truth}
-use Rattle.fact_laws.specs.Shown.{names_at}
-use Rattle.fact_rows.specs.Facts.{has_end, truth_of}
+use Rattle.cpe_registry.specs.cpe_inventory.Kept.{kept_truth}
+use Rattle.facts.specs.fact_laws.Shown.{names_at}
+use Rattle.facts.specs.fact_rows.Facts.{has_end, truth_of}
 use Rattle.facts.specs.Facts.{FactsNow, HasFacts, is_used, table_of}
 use Rattle.statement_rows.specs.Readings.{FactTruths, truths_of}
 use Rattle.statement_rows.specs.Rows.{verdict_by}

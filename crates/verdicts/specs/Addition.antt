@@ -3,7 +3,7 @@ use Rattle.std.specs.Prelude.{◌≡◌, ◌≤◌, ◌∷◌, ◌++◌, [], ℕ
 use Rattle.std.specs.List.{flat_map}
 use Rattle.name_index.specs.declared.table.NameId.{NameId}
 use Rattle.name_index.specs.Table.{Names}
-use Rattle.cpe_steps.specs.Within.{StepsWithin}
+use Rattle.name_index.specs.cpe_steps.Within.{StepsWithin}
 use Rattle.cpe_rows.specs.After.{after}
 use Rattle.cpe_rows.specs.Rows.{Rows}
 use Rattle.cpe_rows.specs.Verdict.{verdict}
@@ -11,10 +11,10 @@ use Rattle.cpe_rows.specs.declared.edit.Edit.TheVariants as edit
 use Rattle.cpe_rows.specs.declared.entry.Entry.{Entry}
 use Rattle.cpe_rows.specs.declared.statement.Mode.{Mode}
 use Rattle.cpe_rows.specs.declared.statement.Statement.{Statement}
-use Rattle.fact_laws.specs.Shown.{one_if_some, times_in}
+use Rattle.facts.specs.fact_laws.Shown.{one_if_some, times_in}
 use Rattle.kept_facts.specs.Kept.{board_of}
 use Rattle.kept_facts.specs.Lists.{IsWide}
-use Rattle.fact_rows.specs.Facts.{FactTable, has_end, has_room, is_fact, leads_of, users_of}
+use Rattle.facts.specs.fact_rows.Facts.{FactTable, has_end, has_room, is_fact, leads_of, users_of}
 use Rattle.facts.specs.Calls.{HasStatementRoom, IsNewStatement}
 use Rattle.facts.specs.Facts.{AreUsedBut, FactsNow, HasFacts, is_used, LeadsTo, table_of}
 use Rattle.facts.specs.Looks.{statement_looks}

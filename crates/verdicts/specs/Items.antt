@@ -1,18 +1,18 @@
 -- Items: room for one, those that a name meets, and those that lead to a name which passes a test.
 use Rattle.std.specs.Prelude.{◌≡◌, ℕ, ◌≤◌, true, Bool, List, filter}
 use Rattle.std.specs.List.{flat_map, list_any}
-use Rattle.cpe_name.specs.Eleven.{Values}
-use Rattle.product_orders.specs.Elements.{SameElements}
+use Rattle.cpe_rows.specs.cpe_name.Eleven.{Values}
+use Rattle.name_index.specs.product_orders.Elements.{SameElements}
 use Rattle.name_index.specs.declared.table.NameId.{NameId}
 use Rattle.name_index.specs.Index.{ids}
 use Rattle.name_index.specs.Table.{Names, kept_at}
-use Rattle.level_board.specs.Board.{Board, target_ids}
+use Rattle.facts.specs.level_board.Board.{Board, target_ids}
 use Rattle.cpe_rows.specs.Names.{is_same}
 use Rattle.cpe_rows.specs.Rows.{Rows}
 use Rattle.cpe_rows.specs.declared.entry.Entry.{Entry}
 use Rattle.cpe_rows.specs.declared.statement.Mode.{Mode}
 use Rattle.cpe_rows.specs.declared.statement.Mode.TheVariants.{Plain, Follow}
-use Rattle.fact_laws.specs.Asked.{leads}
+use Rattle.facts.specs.fact_laws.Asked.{leads}
 use Rattle.cpe_registry.specs.Registered.{items_leading}
 use Rattle.kept_facts.specs.Lists.{IsWide}
 use Rattle.facts.specs.Facts.{FactsNow}

@@ -1,6 +1,6 @@
 -- A planned change of the deprecation of an entry: what leads there, and what the change needs.
 use Rattle.std.specs.Prelude.{◌≡◌, ℕ, List, [], Some, filter, position}
-use Rattle.cpe_name.specs.Eleven.{Values}
+use Rattle.cpe_rows.specs.cpe_name.Eleven.{Values}
 use Rattle.name_index.specs.declared.table.NameId.{NameId}
 use Rattle.name_index.specs.Table.{IsLive, Names, kept_at}
 use Rattle.cpe_rows.specs.Chains.{leads_to}
@@ -10,10 +10,10 @@ use Rattle.cpe_rows.specs.declared.statement.Mode.TheVariants.{Follow}
 use Rattle.cpe_dictionary.specs.Plans.{IsAllowed, ends_by}
 use Rattle.cpe_dictionary.specs.declared.plans.Plan.{Plan}
 use Rattle.cpe_registry.specs.Registered.{name_in, Registered}
-use Rattle.fact_laws.specs.Shown.{names_at}
-use Rattle.fact_laws.specs.Asked.{facts_in}
+use Rattle.facts.specs.fact_laws.Shown.{names_at}
+use Rattle.facts.specs.fact_laws.Asked.{facts_in}
 use Rattle.kept_facts.specs.Kept.{AreLive}
-use Rattle.fact_rows.specs.Facts.{fact_at, facts_of, FactTable, IsUnder, KeepsLinks}
+use Rattle.facts.specs.fact_rows.Facts.{fact_at, facts_of, FactTable, IsUnder, KeepsLinks}
 use Rattle.facts.specs.Facts.{FactsNow}
 use Rattle.facts.specs.LeadCalls.{AreReadyEnds, IsLead}
 use Rattle.facts.specs.Room.{KeepsFacts}

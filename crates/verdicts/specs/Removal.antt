@@ -10,10 +10,10 @@ use Rattle.cpe_rows.specs.Rows.{has_id, Rows}
 use Rattle.cpe_rows.specs.declared.edit.Edit.TheVariants as edit
 use Rattle.cpe_rows.specs.declared.statement.Mode.{Mode}
 use Rattle.cpe_rows.specs.declared.statement.Statement.{Statement}
-use Rattle.fact_laws.specs.Shown.{names_at, times_in}
+use Rattle.facts.specs.fact_laws.Shown.{names_at, times_in}
 use Rattle.kept_facts.specs.Kept.{AreLive}
-use Rattle.fact_rows.specs.Facts.{has_end, leads_of, users_of}
-use Rattle.fact_rows.specs.Tickets.{is_empty, without}
+use Rattle.facts.specs.fact_rows.Facts.{has_end, leads_of, users_of}
+use Rattle.facts.specs.fact_rows.Tickets.{is_empty, without}
 use Rattle.facts.specs.Facts.{FactsNow, table_of}
 use Rattle.statement_rows.specs.State.{is_of, use_of}
 use Rattle.verdicts.specs.Verdicts.{HasVerdicts, known_in, statements_in, VerdictsNow}

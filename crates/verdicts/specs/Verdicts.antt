@@ -10,9 +10,9 @@ use Rattle.cpe_rows.specs.declared.statement.Mode.{Mode}
 use Rattle.cpe_rows.specs.declared.statement.Statement.{Statement}
 use Rattle.cpe_rows.specs.declared.test.CheckKey.{CheckKey}
 use Rattle.cpe_rows.specs.declared.truth.Truth.{Truth}
-use Rattle.fact_laws.specs.Shown.{names_at}
+use Rattle.facts.specs.fact_laws.Shown.{names_at}
 use Rattle.kept_facts.specs.Kept.{AreLive, AreSound}
-use Rattle.fact_rows.specs.Facts.{truth_of, users_of}
+use Rattle.facts.specs.fact_rows.Facts.{truth_of, users_of}
 use Rattle.facts.specs.Facts.{AreUsed, FactsNow, HasFacts, table_of}
 use Rattle.statement_rows.specs.Askers.{AreAsked}
 use Rattle.statement_rows.specs.Readings.{FactTruths}

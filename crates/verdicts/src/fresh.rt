@@ -3,17 +3,16 @@ ghost use Rattle.std.specs.Prelude.{◌≡◌, ◌≤◌, ◌++◌, ◌∷◌, �
 ghost use Rattle.name_index.specs.declared.table.NameId.{NameId};
 ghost use Rattle.name_index.specs.Table.{IsLive, Names};
 ghost use Rattle.cpe_rows.specs.Prelude.{IsLawful, Rows};
-ghost use Rattle.fact_laws.specs.Shown.{times_in};
+ghost use Rattle.facts.specs.fact_laws.Shown.{times_in};
 ghost use Rattle.kept_facts.specs.Kept.{AreLive};
-ghost use Rattle.fact_rows.specs.Facts.{fact_at, has_end, leads_by, OthersStay};
+ghost use Rattle.facts.specs.fact_rows.Facts.{fact_at, has_end, leads_by, OthersStay};
 ghost use Rattle.facts.specs.Facts.{HasFacts, is_used, LeadsTo, table_of};
 ghost use Rattle.facts.specs.Room.{KeepsFacts};
 ghost use Rattle.verdicts.specs.Addition.{AreAdded, AreFresh, AreReady, FreshBeside, HasAskedRoom};
 
 use crate::ends::{MOST_ENDS, leads_of_all};
 use cpe_registry::Registry;
-use cpe_rows::Mode;
-use cpe_values::Memory;
+use cpe_rows::{Memory, Mode};
 use facts::Facts;
 use kept_facts::{Wanted, keep_each_once};
 use name_index::{NameId, NameTable};

@@ -6,9 +6,9 @@ ghost use Rattle.cpe_rows.specs.Prelude.{after, covers, is_same, IsLawful, IsLow
 ghost use Rattle.cpe_rows.specs.declared.edit.Edit.TheVariants as edit;
 ghost use Rattle.cpe_rows.specs.declared.statement.Mode.TheVariants.{Follow};
 ghost use Rattle.cpe_registry.specs.Registered.{items_leading};
-ghost use Rattle.product_orders.specs.declared.products.Side.TheVariants as side;
-ghost use Rattle.level_board.specs.Board.{FitsBoard};
-ghost use Rattle.fact_laws.specs.Shown.{name_at, near_names};
+ghost use Rattle.name_index.specs.product_orders.declared.products.Side.TheVariants as side;
+ghost use Rattle.facts.specs.level_board.Board.{FitsBoard};
+ghost use Rattle.facts.specs.fact_laws.Shown.{name_at, near_names};
 ghost use Rattle.kept_facts.specs.Prelude.{AreLive, board_of, ids, is_met, names_at, target_ids};
 ghost use Rattle.facts.specs.Facts.{LeadsTo};
 ghost use Rattle.facts.specs.Looks.{item_looks};
@@ -18,17 +18,14 @@ ghost use Rattle.verdicts.specs.Verdicts.{HasVerdicts, SameStatements};
 
 use crate::refresh::refresh;
 use crate::verdicts::Verdicts;
-use cpe_name::Wfn;
 use cpe_registry::Registry;
-use cpe_rows::{List, Mode};
-use cpe_steps::Steps;
-use cpe_values::Memory;
+use cpe_rows::{List, Memory, Mode, Wfn};
+use facts::Met;
 use kept_facts::{KeptFacts, Wanted};
-use name_index::{NameId, NameTable};
+use name_index::{NameId, NameTable, Steps};
 use std::alloc::Global;
 use std::marker::Brand;
 use std::sync::ledger::{Blank, Ledger};
-use target_index::Met;
 
 impl Verdicts {
     /// Reserves room for an item with these ends.
@@ -268,11 +265,7 @@ fn items_to(
 }
 
 // The items that lead to these ends, those of one after those of another.
-fn items_to_ends(
-    alloc: Global,
-    registry: &Registry,
-    ends: &[NameId],
-) -> Result<Vec<NameId>, Memory>
+fn items_to_ends(alloc: Global, registry: &Registry, ends: &[NameId]) -> Result<Vec<NameId>, Memory>
     requires { AreLive registry.now.table ends.now }
     ensures live { IfOk result (λ v. AreLive registry.now.table v.items) }
     ensures names { IfOk result (λ v. names_at registry.now.table v.items ≡ flat_map (items_leading registry.now.entries registry.now.items) (names_at registry.now.table ends.now)) }

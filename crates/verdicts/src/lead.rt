@@ -21,11 +21,9 @@ use crate::refresh::refresh;
 use crate::verdicts::Verdicts;
 use cpe_dictionary::Plan;
 use cpe_registry::Registry;
-use cpe_rows::Mode;
-use cpe_steps::Steps;
-use cpe_values::Memory;
+use cpe_rows::{Memory, Mode};
 use facts::Led;
-use name_index::{NameId, NameTable};
+use name_index::{NameId, NameTable, Steps};
 use std::alloc::Global;
 use std::sync::ledger::Ledger;
 

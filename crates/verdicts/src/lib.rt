@@ -24,6 +24,7 @@ mod truths;
 mod verdicts;
 
 pub use addition::Addition;
+pub use cpe_registry::{FillFault, Registry};
 pub use lead::Lead;
 pub use removal::Removal;
 pub use verdicts::Verdicts;

@@ -3,20 +3,18 @@ ghost use Rattle.std.specs.Prelude.{◌≡◌, ◌++◌, ◌∷◌, [], cond, fi
 ghost use Rattle.std.specs.List.{list_any};
 ghost use Rattle.cpe_rows.specs.Prelude.{has_id, IsLawful, Rows};
 ghost use Rattle.name_index.specs.declared.table.NameId.{NameId};
-ghost use Rattle.fact_rows.specs.Facts.{leads_of, users_of};
-ghost use Rattle.fact_rows.specs.Tickets.{is_empty, without};
+ghost use Rattle.facts.specs.fact_rows.Facts.{leads_of, users_of};
+ghost use Rattle.facts.specs.fact_rows.Tickets.{is_empty, without};
 ghost use Rattle.facts.specs.Facts.{table_of};
 ghost use Rattle.verdicts.specs.Removal.{IsRemoval, IsRemovalOf, StatementRemoved};
 ghost use Rattle.verdicts.specs.Verdicts.{HasVerdicts, statements_in};
 
 use crate::ends::leads_of_all;
 use crate::verdicts::Verdicts;
-use cpe_rows::{Mode, Text};
-use cpe_steps::Steps;
-use cpe_values::Memory;
+use cpe_rows::{Memory, Mode, Text};
 use facts::Facts;
 use kept_facts::keep_each_once;
-use name_index::{NameId, NameTable};
+use name_index::{NameId, NameTable, Steps};
 use statement_rows::FactUse;
 use std::alloc::Global;
 use std::sync::ledger::Ledger;

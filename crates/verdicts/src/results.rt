@@ -7,8 +7,7 @@ ghost use Rattle.verdicts.specs.Verdicts.{HasVerdicts, known_in, statements_in};
 
 use crate::truths::Truths;
 use crate::verdicts::Verdicts;
-use cpe_rows::{CheckKey, Truth};
-use cpe_values::Memory;
+use cpe_rows::{CheckKey, Memory, Truth};
 
 impl Verdicts {
     /// Sets the result of a check, in the place of its last one or else at the end.

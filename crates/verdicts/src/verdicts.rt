@@ -4,11 +4,11 @@ ghost use Rattle.name_index.specs.Table.{Names};
 ghost use Rattle.cpe_rows.specs.Prelude.{fact_truth, first_some, has_id, no_rows, number_of_facts, Rows, verdict};
 ghost use Rattle.cpe_rows.specs.Causes.{statement_causes};
 ghost use Rattle.cpe_rows.specs.Changes.{differing};
-ghost use Rattle.fact_laws.specs.Shown.{name_at};
+ghost use Rattle.facts.specs.fact_laws.Shown.{name_at};
 ghost use Rattle.facts.specs.Facts.{is_used, table_of};
 ghost use Rattle.verdicts.specs.Verdicts.{checks_in, HasVerdicts, known_in, statements_in};
 
-use cpe_inventory::Checks;
+use cpe_registry::Checks;
 use cpe_rows::{Changed, EditFault, List, Mode, Room, Statement, Text, Truth};
 use facts::Facts;
 use name_index::NameId;

@@ -5,13 +5,13 @@ use Rattle.json.specs.Json as json
 use Rattle.serde_json.specs.Data.{Data, string, Members, no_members, put}
 use Rattle.serde_json.specs.Find.{get, get_member}
 use Rattle.serde_json.proofs.Views.{get_member-put, get_member-put_other}
-use Rattle.cpe_values.specs.declared.value.Value.{Value}
-use Rattle.cpe_name.specs.Eleven.{Values}
-use Rattle.cpe_name.specs.declared.attribute.Attribute.{Attribute}
-use Rattle.cpe_name.specs.declared.attribute.Attribute.TheVariants.{Part, Vendor, Product, Version, Update, Edition, Language, SwEdition, TargetSw, TargetHw, Other}
-use Rattle.cpe_name.specs.Names.{value_of}
-use Rattle.cpe_name.specs.Text.{attribute_name}
-use Rattle.cpe_uri.specs.Canon.{is_any}
+use Rattle.cpe_rows.specs.cpe_values.declared.value.Value.{Value}
+use Rattle.cpe_rows.specs.cpe_name.Eleven.{Values}
+use Rattle.cpe_rows.specs.cpe_name.declared.attribute.Attribute.{Attribute}
+use Rattle.cpe_rows.specs.cpe_name.declared.attribute.Attribute.TheVariants.{Part, Vendor, Product, Version, Update, Edition, Language, SwEdition, TargetSw, TargetHw, Other}
+use Rattle.cpe_rows.specs.cpe_name.Names.{value_of}
+use Rattle.cpe_rows.specs.cpe_name.Text.{attribute_name}
+use Rattle.cpe_members.specs.cpe_uri.Canon.{is_any}
 use Rattle.cpe_fs.specs.Grammar.{component}
 use Rattle.written_records.specs.NameObject.{sorted_attributes, with_values, name_object}
 use Rattle.written_records.proofs.ReadBack.{data_of, data_members, fits, fit_members}

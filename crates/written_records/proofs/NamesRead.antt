@@ -5,13 +5,13 @@ use Rattle.std.specs.List.{list_all, AllByRecursion}
 use Rattle.std.proofs.lemmas.Bool.{and_parts, and_from}
 use Rattle.std.proofs.lemmas.List.Elements.{All-head, All-tail}
 use Rattle.serde_json.specs.Data.{Data}
-use Rattle.cpe_values.specs.declared.value.Value.{Value}
-use Rattle.cpe_values.specs.declared.value.Value.TheVariants as value
-use Rattle.cpe_values.specs.Values.{IsValue}
-use Rattle.cpe_name.specs.Eleven.{Values}
-use Rattle.cpe_name.specs.declared.attribute.Attribute.{Attribute}
-use Rattle.cpe_name.specs.declared.attribute.Attribute.TheVariants.{Part, Vendor, Product, Version, Update, Edition, Language, SwEdition, TargetSw, TargetHw, Other}
-use Rattle.cpe_name.specs.Names.{attributes, value_of, named, IsName}
+use Rattle.cpe_rows.specs.cpe_values.declared.value.Value.{Value}
+use Rattle.cpe_rows.specs.cpe_values.declared.value.Value.TheVariants as value
+use Rattle.cpe_rows.specs.cpe_values.Values.{IsValue}
+use Rattle.cpe_rows.specs.cpe_name.Eleven.{Values}
+use Rattle.cpe_rows.specs.cpe_name.declared.attribute.Attribute.{Attribute}
+use Rattle.cpe_rows.specs.cpe_name.declared.attribute.Attribute.TheVariants.{Part, Vendor, Product, Version, Update, Edition, Language, SwEdition, TargetSw, TargetHw, Other}
+use Rattle.cpe_rows.specs.cpe_name.Names.{attributes, value_of, named, IsName}
 use Rattle.cpe_rows.specs.Names.{is_lower}
 use Rattle.cpe_rows.proofs.NameTests.{is_lower_is}
 use Rattle.cpe_fs.specs.Grammar.{component}

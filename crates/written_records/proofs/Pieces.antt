@@ -7,11 +7,11 @@ use Rattle.json.specs.Token.{Token, key, end_array, end_object}
 use Rattle.json.specs.Json.{Json, Members, member}
 use Rattle.json.specs.Json as json
 use Rattle.json.specs.Tree.{json_tokens, items_tokens, members_tokens}
-use Rattle.cpe_name.specs.Names.{value_of}
-use Rattle.cpe_name.specs.Text.{attribute_name}
-use Rattle.cpe_name.specs.declared.attribute.Attribute.{Attribute}
-use Rattle.cpe_name.specs.Eleven.{Values}
-use Rattle.cpe_uri.specs.Canon.{is_any}
+use Rattle.cpe_rows.specs.cpe_name.Names.{value_of}
+use Rattle.cpe_rows.specs.cpe_name.Text.{attribute_name}
+use Rattle.cpe_rows.specs.cpe_name.declared.attribute.Attribute.{Attribute}
+use Rattle.cpe_rows.specs.cpe_name.Eleven.{Values}
+use Rattle.cpe_members.specs.cpe_uri.Canon.{is_any}
 use Rattle.cpe_fs.specs.Grammar.{component}
 use Rattle.written_records.specs.Written.{items_by}
 use Rattle.written_records.specs.NameObject.{with_values, value_tokens}

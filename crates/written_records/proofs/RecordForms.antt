@@ -5,7 +5,7 @@ use Rattle.std.specs.Prelude.{Ok}
 use Rattle.std.proofs.lemmas.Bool.{and_parts, and_from}
 use Rattle.std.proofs.lemmas.Bool.Decides.{nat_tests}
 use Rattle.serde_json.specs.Read.{max_depth}
-use Rattle.cpe_name.specs.Eleven.{Values}
+use Rattle.cpe_rows.specs.cpe_name.Eleven.{Values}
 use Rattle.cpe_rows.specs.Shape.{depth_of, is_sound}
 use Rattle.cpe_rows.specs.Valid.{is_id, is_logic, is_statement_test, is_valid_edit}
 use Rattle.cpe_rows.specs.declared.limits.TheConstants.{MOST_LEVELS}

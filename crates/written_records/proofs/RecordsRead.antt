@@ -6,8 +6,8 @@ use Rattle.std.specs.List.{list_all}
 use Rattle.std.proofs.lemmas.Bool.{and_parts}
 use Rattle.serde_json.specs.Data.{Data, string}
 use Rattle.serde_json.specs.Find.{get, as_str}
-use Rattle.cpe_name.specs.Eleven.{Values}
-use Rattle.cpe_name.specs.Names.{IsName}
+use Rattle.cpe_rows.specs.cpe_name.Eleven.{Values}
+use Rattle.cpe_rows.specs.cpe_name.Names.{IsName}
 use Rattle.cpe_rows.specs.Names.{is_lower}
 use Rattle.cpe_rows.specs.Date.{is_date}
 use Rattle.cpe_rows.specs.Valid.{is_id, is_statement_test, is_valid_edit, is_valid_query}

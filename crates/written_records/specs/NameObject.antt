@@ -2,13 +2,13 @@
 use Rattle.std.specs.Prelude.{ℕ, List, [], ◌∷◌, if◌then◌else◌}
 use Rattle.json.specs.Token.{Token, key}
 use Rattle.json.specs.Json.{Json, string, object, Members, no_members, member}
-use Rattle.cpe_values.specs.declared.value.Value.{Value}
-use Rattle.cpe_name.specs.Eleven.{Values}
-use Rattle.cpe_name.specs.declared.attribute.Attribute.{Attribute}
-use Rattle.cpe_name.specs.declared.attribute.Attribute.TheVariants.{Part, Vendor, Product, Version, Update, Edition, Language, SwEdition, TargetSw, TargetHw, Other}
-use Rattle.cpe_name.specs.Names.{value_of}
-use Rattle.cpe_name.specs.Text.{attribute_name}
-use Rattle.cpe_uri.specs.Canon.{is_any}
+use Rattle.cpe_rows.specs.cpe_values.declared.value.Value.{Value}
+use Rattle.cpe_rows.specs.cpe_name.Eleven.{Values}
+use Rattle.cpe_rows.specs.cpe_name.declared.attribute.Attribute.{Attribute}
+use Rattle.cpe_rows.specs.cpe_name.declared.attribute.Attribute.TheVariants.{Part, Vendor, Product, Version, Update, Edition, Language, SwEdition, TargetSw, TargetHw, Other}
+use Rattle.cpe_rows.specs.cpe_name.Names.{value_of}
+use Rattle.cpe_rows.specs.cpe_name.Text.{attribute_name}
+use Rattle.cpe_members.specs.cpe_uri.Canon.{is_any}
 use Rattle.cpe_fs.specs.Grammar.{component}
 
 -- the attributes, sorted by their names

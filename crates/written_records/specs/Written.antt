@@ -3,7 +3,7 @@ use Rattle.std.specs.Prelude.{ℕ, List, [], ◌∷◌, codes, Option, Some, Non
 use Rattle.json.specs.Json.{Json, null, string, array, object, Items, no_items, item, no_members, member}
 use Rattle.json.specs.Tree.{json_tokens}
 use Rattle.json.specs.Print.{print}
-use Rattle.cpe_name.specs.Eleven.{Values}
+use Rattle.cpe_rows.specs.cpe_name.Eleven.{Values}
 use Rattle.cpe_fs.specs.Grammar.{fs_text}
 use Rattle.cpe_rows.specs.declared.entry.Note.{Note}
 use Rattle.cpe_rows.specs.declared.entry.Provenance.{Provenance}

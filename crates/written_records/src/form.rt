@@ -16,10 +16,10 @@ use crate::test::put_test;
 use crate::write::{put, put_provenance};
 use cpe_fs::read_component_is;
 use cpe_members::{kind_word, mode_word, truth_word};
-use cpe_name::Wfn;
 use cpe_records::{Record, RecordKind};
-use cpe_rows::{CheckKey, Date, Deprecation, Edit, Entry, Query, Statement, Text, Truth};
-use cpe_values::Memory;
+use cpe_rows::{
+    CheckKey, Date, Deprecation, Edit, Entry, Memory, Query, Statement, Text, Truth, Wfn,
+};
 use json::{Token, Writer};
 use std::alloc::Global;
 

@@ -7,8 +7,7 @@ ghost use Rattle.written_records.specs.WrittenRecord.{fact_json, check_json, tes
 use crate::object::{put_around_key, put_around_name};
 use crate::write::put;
 use cpe_members::operator_word;
-use cpe_rows::{BoxedName, CheckKey, Test};
-use cpe_values::Memory;
+use cpe_rows::{BoxedName, CheckKey, Memory, Test};
 use json::{Token, Writer};
 use std::alloc::Global;
 

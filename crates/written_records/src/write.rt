@@ -10,9 +10,7 @@ ghost use Rattle.written_records.specs.Written.{name_json, note_json, deprecatio
 use crate::ascii::{ascii_str, date_str};
 use cpe_fs::bind_fs;
 use cpe_members::{kind_word, note_kind_word};
-use cpe_name::Wfn;
-use cpe_rows::{Deprecation, Entry, Note, Provenance};
-use cpe_values::Memory;
+use cpe_rows::{Deprecation, Entry, Memory, Note, Provenance, Wfn};
 use json::{Token, Writer};
 use std::alloc::Global;
 

@@ -3,10 +3,9 @@ ghost use Rattle.std.specs.Prelude.{◌≡◌, [], Some};
 ghost use Rattle.cpe_rows.specs.declared.truth.Truth.TheVariants.{False};
 ghost use Rattle.fact_rows.specs.Facts.{fact_at, new_fact, truth_of};
 
-use cpe_rows::Mode;
-use cpe_values::Memory;
+use cpe_rows::{Memory, Mode};
 use fact_rows::FactRows;
-use level_board::LevelBoard;
+use kept_facts::LevelBoard;
 use name_index::NameId;
 use std::alloc::Global;
 

@@ -1,13 +1,12 @@
 // A board in use, and how many looks a change takes.
 ghost use Rattle.std.specs.Prelude.{◌≡◌, ◌≢◌, true, ◌+◌, ◌≤◌, ◌<◌, ℕ, [], ◌∷◌, List};
 ghost use Rattle.name_index.specs.Prelude.{IsLive, kept_at, SameElements};
-ghost use Rattle.level_board.specs.Board.{AreMarked, FitsBoard, covers_at, is_marked, maybe_at, target_times, probe_times};
-ghost use Rattle.level_board.specs.declared.level.Level.TheVariants.{Covered, Maybe, Free};
+ghost use Rattle.kept_facts.specs.level_board.Board.{AreMarked, FitsBoard, covers_at, is_marked, maybe_at, target_times, probe_times};
+ghost use Rattle.kept_facts.specs.level_board.declared.level.Level.TheVariants.{Covered, Maybe, Free};
 ghost use Rattle.library_tests.specs.Tried.{plain};
 
-use cpe_steps::Steps;
-use level_board::{Level, LevelBoard};
-use name_index::{NameId, NameTable};
+use kept_facts::{Level, LevelBoard};
+use name_index::{NameId, NameTable, Steps};
 use std::sync::ledger::Ledger;
 
 // Five probes are on the board, of the products `p` and `q0` to `q3`. A target of the product `p` comes: two looks at most.

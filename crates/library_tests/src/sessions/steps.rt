@@ -1,7 +1,7 @@
 // A caller counts its steps.
 ghost use Rattle.std.specs.Prelude.{◌≡◌, ◌+◌, ◌<◌};
 
-use cpe_steps::Steps;
+use name_index::Steps;
 use std::marker::Brand;
 use std::sync::ledger::{Blank, Ledger};
 

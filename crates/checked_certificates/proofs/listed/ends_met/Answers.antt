@@ -1,5 +1,5 @@
 use Rattle.std.proofs.Common.{List, map, sym, subst}
-use Rattle.cpe_name.specs.Eleven.{Values}
+use Rattle.cpe_rows.specs.cpe_name.Eleven.{Values}
 use Rattle.cpe_rows.specs.Lent.{entry_lent}
 use Rattle.checked_certificates.proofs.Visits.{AreMet, visited, ends_met}
 use Rattle.checked_certificates.proofs.listed.ends_met.Goals as goal

@@ -1,5 +1,5 @@
 use Rattle.std.proofs.Common.{Bool, map, sym, ◌∙◌}
-use Rattle.cpe_name.specs.Eleven.{Values}
+use Rattle.cpe_rows.specs.cpe_name.Eleven.{Values}
 use Rattle.cpe_rows.specs.Lent.{entry_lent}
 use Rattle.cpe_rows.specs.Verdict.{is_followed}
 use Rattle.checked_certificates.specs.Relates.{related}

@@ -1,6 +1,6 @@
 use Rattle.std.proofs.Common.{map}
 use Rattle.std.specs.Borrow.{Bor}
-use Rattle.cpe_name.specs.Eleven.{Values}
+use Rattle.cpe_rows.specs.cpe_name.Eleven.{Values}
 use Rattle.cpe_rows.specs.Lent.{entry_lent}
 use Rattle.cpe_rows.specs.Verdict.{is_followed}
 use Rattle.checked_certificates.specs.Relates.{related}

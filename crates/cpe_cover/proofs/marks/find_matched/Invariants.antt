@@ -1,6 +1,6 @@
 use Rattle.std.proofs.Common.{take}
 use Rattle.std.specs.List.{sum_by}
-use Rattle.cpe_steps.specs.Within.{StepsWithin}
+use Rattle.name_index.specs.cpe_steps.Within.{StepsWithin}
 use Rattle.cpe_cover.specs.Marks.{AreMarks}
 use Rattle.cpe_cover.specs.Names.{pattern_looks}
 use Rattle.cpe_cover.proofs.marks.find_matched.Given as goal

@@ -1,7 +1,7 @@
 use Rattle.std.proofs.Common.{List, position, ap, ◌∙◌}
 use Rattle.std.specs.Option.{is_some}
-use Rattle.cpe_name.specs.Eleven.{Values}
-use Rattle.cpe_name.specs.Equal.{same_name}
+use Rattle.cpe_rows.specs.cpe_name.Eleven.{Values}
+use Rattle.cpe_rows.specs.cpe_name.Equal.{same_name}
 use Rattle.cpe_rows.proofs.Lists.{has_place}
 use Rattle.cpe_cover.proofs.names.has.Goals as goal
 

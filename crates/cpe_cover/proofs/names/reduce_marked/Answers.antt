@@ -1,8 +1,8 @@
 use Rattle.std.proofs.Common.{not, ◌∙◌, ap, List, sym, subst}
 use Rattle.std.specs.List.{IsDistinct}
 use Rattle.std.proofs.lemmas.Result.{IfOk-weaker}
-use Rattle.cpe_name.specs.Eleven.{Values}
-use Rattle.cpe_name.specs.Equal.{same_name}
+use Rattle.cpe_rows.specs.cpe_name.Eleven.{Values}
+use Rattle.cpe_rows.specs.cpe_name.Equal.{same_name}
 use Rattle.cpe_cover.specs.Cover.{is_covered, ordered}
 use Rattle.cpe_cover.specs.Laws.{AreNames}
 use Rattle.cpe_cover.proofs.CoverLemmas.{lower_cover}

@@ -1,6 +1,6 @@
 use Rattle.std.proofs.Common.{not, ◌<◌, length, arith}
-use Rattle.cpe_name.specs.Eleven.{Values}
-use Rattle.cpe_name.specs.Lower.{IsLower}
+use Rattle.cpe_rows.specs.cpe_name.Eleven.{Values}
+use Rattle.cpe_rows.specs.cpe_name.Lower.{IsLower}
 use Rattle.cpe_cover.specs.Cover.{is_covered}
 use Rattle.cpe_cover.specs.Marks.{stays}
 use Rattle.cpe_cover.proofs.Among.{all_among}

@@ -1,7 +1,7 @@
 use Rattle.std.proofs.Common.{List, subst}
-use Rattle.cpe_io.specs.Lines.{lines}
-use Rattle.cpe_name.specs.Eleven.{Values}
-use Rattle.cpe_steps.specs.Within.{StepsWithin}
+use Rattle.cpe_session.specs.cpe_io.Lines.{lines}
+use Rattle.cpe_rows.specs.cpe_name.Eleven.{Values}
+use Rattle.name_index.specs.cpe_steps.Within.{StepsWithin}
 use Rattle.cpe_session.specs.Ran.{Ran, Completes}
 use Rattle.cpe_session.specs.Session.{total_cost}
 use Rattle.cpe_session.specs.Task.{task}

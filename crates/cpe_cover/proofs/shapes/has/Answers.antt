@@ -1,6 +1,6 @@
 use Rattle.std.proofs.Common.{ap, ◌∙◌}
 use Rattle.std.specs.Option.{is_some}
-use Rattle.cpe_name.specs.Equal.{same_name}
+use Rattle.cpe_rows.specs.cpe_name.Equal.{same_name}
 use Rattle.cpe_rows.proofs.Lists.{has_place}
 use Rattle.cpe_cover.proofs.shapes.has.Goals as goal
 

@@ -2,7 +2,7 @@ use Rattle.std.proofs.Common.{[], ◌∷◌, false, ◌||◌, ap, ◌∙◌}
 use Rattle.std.specs.List.{list_any}
 use Rattle.std.proofs.lemmas.Bool.{or_left, or_right}
 use Rattle.std.proofs.lemmas.List.Folds.{list_any-append}
-use Rattle.cpe_name.specs.Eleven.{Values}
+use Rattle.cpe_rows.specs.cpe_name.Eleven.{Values}
 use Rattle.cpe_cover.specs.Shapes.{same_shape}
 use Rattle.cpe_cover.proofs.ShapeLemmas.{same_shape_itself}
 use Rattle.cpe_cover.proofs.shapes.put_shape.Goals as goal

@@ -1,9 +1,9 @@
 use Rattle.std.proofs.Common.{◌+◌, List, drop, sym, ap, ◌∙◌}
 use Rattle.std.proofs.lemmas.List.{at_drop_more}
-use Rattle.cpe_name.specs.Eleven.{Values}
-use Rattle.cpe_name.specs.declared.attribute.Attribute.{Attribute}
-use Rattle.cpe_name.specs.declared.attribute.Attribute.TheVariants.{Part}
-use Rattle.cpe_name.specs.Names.{attributes}
+use Rattle.cpe_rows.specs.cpe_name.Eleven.{Values}
+use Rattle.cpe_rows.specs.cpe_name.declared.attribute.Attribute.{Attribute}
+use Rattle.cpe_rows.specs.cpe_name.declared.attribute.Attribute.TheVariants.{Part}
+use Rattle.cpe_rows.specs.cpe_name.Names.{attributes}
 use Rattle.cpe_cover.specs.Shapes.{widened_from}
 use Rattle.cpe_cover.proofs.shapes.widen.Goals as goal
 

@@ -1,5 +1,5 @@
 use Rattle.std.proofs.Common.{◌≡◌, drop}
-use Rattle.cpe_name.specs.Names.{attributes}
+use Rattle.cpe_rows.specs.cpe_name.Names.{attributes}
 use Rattle.cpe_cover.specs.Shapes.{widened_from}
 use Rattle.cpe_cover.proofs.shapes.widen.Given as goal
 

@@ -1,5 +1,5 @@
 use Rattle.std.proofs.Common.{sym, subst}
-use Rattle.cpe_name.specs.Lower.{IsLower}
+use Rattle.cpe_rows.specs.cpe_name.Lower.{IsLower}
 use Rattle.cpe_cover.proofs.CoverLemmas.{lower_name_again}
 use Rattle.cpe_cover.proofs.speaker.in_lower_case.Goals as goal
 

@@ -1,6 +1,6 @@
 use Rattle.std.proofs.Common.{◌++◌, ℕ, List, subst}
 use Rattle.std.proofs.lemmas.Result.{on_ok_weaker}
-use Rattle.cpe_io.specs.Writes.{AppendsPrefix}
+use Rattle.cpe_session.specs.cpe_io.Writes.{AppendsPrefix}
 use Rattle.cpe_session.specs.Pages.{Pours}
 use Rattle.cpe_cover.specs.Lines.{name_line}
 use Rattle.cpe_cover.proofs.LineRows.{row_each}

@@ -3,7 +3,7 @@ use Rattle.std.specs.Prelude.{Option}
 use Rattle.std.specs.List.{list_all}
 use Rattle.cpe_dictionary.specs.Given.{may_have}
 use Rattle.cpe_dictionary.specs.Plans.{numbered}
-use Rattle.names_in_order.proofs.Rows.{this_first}
+use Rattle.entries_in_order.proofs.names_in_order.Rows.{this_first}
 use Rattle.cpe_dictionary.proofs.GivenNumbers.{may_here, may_not_here, none_if, numbered_more}
 use Rattle.cpe_dictionary.proofs.given.number_all.Goals as goal
 

@@ -1,11 +1,11 @@
 use Rattle.std.proofs.Common.{drop, map, take}
 use Rattle.std.specs.Borrow.{Bor}
 use Rattle.std.specs.List.{AllByRecursion}
-use Rattle.cpe_name.specs.Eleven.{Values}
-use Rattle.cpe_name.specs.Lower.{IsLower}
+use Rattle.cpe_rows.specs.cpe_name.Eleven.{Values}
+use Rattle.cpe_rows.specs.cpe_name.Lower.{IsLower}
 use Rattle.cpe_rows.specs.Rows.{Rows}
-use Rattle.fact_laws.specs.Shown.{names_at}
-use Rattle.cpe_registry.specs.Registered.{AreLive}
+use Rattle.engine_edits.specs.fact_laws.Shown.{names_at}
+use Rattle.verdicts.specs.cpe_registry.Registered.{AreLive}
 use Rattle.verdicts.specs.Rows.{AreOfRows}
 use Rattle.cpe_engine.specs.Shown.{AreShown}
 use Rattle.cpe_engine.proofs.leading.all_shown.Given as goal

@@ -1,13 +1,13 @@
 use Rattle.std.proofs.Common.{◌≡◌, ◌∙◌, List, find, map, sym, ap, subst}
 use Rattle.std.specs.Borrow.{Bor}
 use Rattle.std.specs.List.{AllByRecursion, list_any}
-use Rattle.cpe_name.specs.Eleven.{Values}
-use Rattle.cpe_name.specs.Lower.{IsLower}
+use Rattle.cpe_rows.specs.cpe_name.Eleven.{Values}
+use Rattle.cpe_rows.specs.cpe_name.Lower.{IsLower}
 use Rattle.cpe_rows.specs.Names.{is_same}
 use Rattle.cpe_rows.specs.declared.entry.Entry.{Entry}
 use Rattle.name_index.specs.declared.table.NameId.{NameId}
-use Rattle.fact_laws.specs.Asked.{leads}
-use Rattle.fact_laws.specs.Shown.{names_at}
+use Rattle.engine_edits.specs.fact_laws.Asked.{leads}
+use Rattle.engine_edits.specs.fact_laws.Shown.{names_at}
 use Rattle.cpe_engine.specs.Shown.{AreShown}
 use Rattle.cpe_engine.proofs.ShownLemmas.{first_shown, leads_lower}
 use Rattle.cpe_engine.proofs.leading.first_shown.Goals as goal

@@ -1,10 +1,10 @@
 use Rattle.std.proofs.Common.{◌≡◌, Bool, List, map, ap, sym, ◌∙◌}
 use Rattle.std.specs.Borrow.{Bor}
 use Rattle.std.specs.List.{list_any}
-use Rattle.cpe_name.specs.Eleven.{Values}
+use Rattle.cpe_rows.specs.cpe_name.Eleven.{Values}
 use Rattle.cpe_rows.specs.Chains.{ends}
-use Rattle.checked_certificates.specs.Relates.{related}
-use Rattle.checked_certificates.proofs.Elements.{any_map}
+use Rattle.cpe_explain.specs.checked_certificates.Relates.{related}
+use Rattle.cpe_explain.proofs.checked_certificates.Elements.{any_map}
 use Rattle.cpe_engine.proofs.leading.is_met.Goals as goal
 
 pub returns : goal.returns

@@ -1,7 +1,7 @@
 use Rattle.std.proofs.Common.{◌≡◌, IfOk, Option, subst}
 use Rattle.std.proofs.lemmas.Result.{IfOk-weaker}
-use Rattle.cpe_relation.specs.NameRelation.{covers}
-use Rattle.cpe_relation.specs.Maybe.{maybe}
+use Rattle.cpe_rows.specs.cpe_relation.NameRelation.{covers}
+use Rattle.cpe_rows.specs.cpe_relation.Maybe.{maybe}
 use Rattle.checked_certificates.specs.Leading.{followed}
 use Rattle.cpe_explain.specs.Choices.{Fit, first_fit, why_by}
 use Rattle.cpe_explain.proofs.FirstFits.{by_lent, by_none}

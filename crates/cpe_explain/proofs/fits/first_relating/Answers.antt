@@ -1,5 +1,5 @@
 use Rattle.std.proofs.Common.{map, sym, ◌∙◌}
-use Rattle.cpe_name.specs.Eleven.{Values}
+use Rattle.cpe_rows.specs.cpe_name.Eleven.{Values}
 use Rattle.checked_certificates.specs.Relates.{related}
 use Rattle.checked_certificates.proofs.Loops.{left_here, left_next, now, shown_at}
 use Rattle.cpe_explain.proofs.fits.first_relating.Goals as goal

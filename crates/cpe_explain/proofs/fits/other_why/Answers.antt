@@ -1,6 +1,6 @@
 use Rattle.std.proofs.Common.{None, ap}
 use Rattle.std.proofs.lemmas.Result.{IfOk-weaker}
-use Rattle.cpe_relation.specs.Maybe.{maybe}
+use Rattle.cpe_rows.specs.cpe_relation.Maybe.{maybe}
 use Rattle.checked_certificates.specs.Leading.{followed}
 use Rattle.cpe_explain.specs.Choices.{why_by}
 use Rattle.cpe_explain.proofs.FirstFits.{by_lent, by_none}

@@ -1,6 +1,6 @@
 use Rattle.std.proofs.Common.{◌≡◌, ◌∷◌, ◌++◌, ◌+◌, ◌-◌, ◌<◌, ◌≤◌, ℕ, List, [], Some, None, find, length, ap, sym, subst, ◌∙◌}
 use Rattle.std.specs.Option.{option_copied}
-use Rattle.cpe_name.specs.Eleven.{Values}
+use Rattle.cpe_rows.specs.cpe_name.Eleven.{Values}
 use Rattle.checked_certificates.specs.Leading.{next_of}
 use Rattle.cpe_explain.specs.Choices.{has_end, trace_to, way_to}
 use Rattle.cpe_explain.proofs.WaySteps.{on_start, on_next, on_none, on_done}

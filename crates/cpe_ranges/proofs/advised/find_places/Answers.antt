@@ -1,8 +1,8 @@
 use Rattle.std.proofs.Common.{◌≡◌, ℕ, List, ◌++◌, length, sym, ap, subst, ◌∙◌}
 use Rattle.std.specs.List.{flat_map}
 use Rattle.std.specs.Map.{keys_of}
-use Rattle.cpe_values.specs.declared.value.Value.TheVariants as value
-use Rattle.product_orders.specs.Elements.{SameElements}
+use Rattle.cpe_rows.specs.cpe_values.declared.value.Value.TheVariants as value
+use Rattle.name_index.specs.product_orders.Elements.{SameElements}
 use Rattle.names_in_order.proofs.Rising.{sorted_filter}
 use Rattle.cpe_ranges.specs.Found.{is_beside, own_group, passes_at, place_in, places_where}
 use Rattle.cpe_ranges.specs.Groups.{group}

@@ -4,7 +4,7 @@ use Rattle.cpe_rows.specs.declared.edit.Edit.TheVariants as edit
 use Rattle.cpe_dictionary.specs.Kept.{new_entry}
 use Rattle.fact_laws.specs.Shown.{holds_in, names_at}
 use Rattle.fact_laws.specs.Asked.{names_kept}
-use Rattle.cpe_registry.specs.Registered.{name_in, Registered}
+use Rattle.verdicts.specs.cpe_registry.Registered.{name_in, Registered}
 use Rattle.engine_edits.specs.Parts.{AreOf, rows_in}
 use Rattle.engine_edits.proofs.PartsLemmas.{by_lists}
 use Rattle.engine_edits.proofs.entries.add_entry.Goals as goal

@@ -1,7 +1,7 @@
 use Rattle.std.proofs.Common.{sym, ap, ◌∙◌}
 use Rattle.cpe_rows.specs.After.{after}
 use Rattle.cpe_rows.specs.Rows.{Rows}
-use Rattle.cpe_registry.specs.Registered.{name_in}
+use Rattle.verdicts.specs.cpe_registry.Registered.{name_in}
 use Rattle.engine_edits.specs.Numbered.{turned}
 use Rattle.engine_edits.specs.Parts.{rows_in}
 use Rattle.engine_edits.proofs.TurnedLemmas.{after_turned, changes_turned}

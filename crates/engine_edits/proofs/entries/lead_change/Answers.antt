@@ -1,14 +1,14 @@
 use Rattle.std.proofs.Common.{◌≡◌, ℕ, List, [], Some, sym, subst, ◌∙◌}
-use Rattle.cpe_name.specs.Eleven.{Values}
+use Rattle.cpe_rows.specs.cpe_name.Eleven.{Values}
 use Rattle.cpe_rows.specs.After.{after}
 use Rattle.cpe_rows.specs.Lawful.{IsDictionary}
 use Rattle.cpe_rows.specs.Touching.{deprecation_changed}
-use Rattle.cpe_steps.specs.Within.{StepsWithin}
+use Rattle.name_index.specs.cpe_steps.Within.{StepsWithin}
 use Rattle.cpe_dictionary.specs.Kept.{rewritten, written}
 use Rattle.cpe_dictionary.proofs.DictionaryLemmas.{written_changed}
 use Rattle.name_index.specs.Table.{Names}
 use Rattle.fact_laws.specs.Shown.{holds_in, Shows}
-use Rattle.cpe_registry.specs.Registered.{name_in}
+use Rattle.verdicts.specs.cpe_registry.Registered.{name_in}
 use Rattle.verdicts.specs.Leads.{IsReadyLead}
 use Rattle.verdicts.specs.Verdicts.{HasVerdicts}
 use Rattle.engine_edits.specs.Numbered.{given, note_of}

@@ -1,7 +1,7 @@
 use Rattle.std.proofs.Common.{[], Some, refl, ap, subst}
 use Rattle.cpe_rows.specs.After.{after}
 use Rattle.cpe_rows.specs.Rows.{Rows}
-use Rattle.cpe_registry.specs.Registered.{name_in}
+use Rattle.verdicts.specs.cpe_registry.Registered.{name_in}
 use Rattle.verdicts.specs.Leads.{IsReadyLead}
 use Rattle.engine_edits.specs.Numbered.{given, note_of, turned}
 use Rattle.engine_edits.specs.Parts.{AreOf, rows_in}

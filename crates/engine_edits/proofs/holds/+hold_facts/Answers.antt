@@ -1,6 +1,6 @@
 use Rattle.std.proofs.Common.{rules, true, ◌≡◌, ◌++◌, ◌+◌, ◌<◌, List, length, drop, take, sym, ap, subst, ◌∙◌, arith, take_all, append_assoc}
 use Rattle.std.specs.List.{flat_map}
-use Rattle.cpe_name.specs.Eleven.{Values}
+use Rattle.cpe_rows.specs.cpe_name.Eleven.{Values}
 use Rattle.cpe_rows.specs.FactNames.{fact_names}
 use Rattle.cpe_rows.specs.Shape.{depth_of, is_sound}
 use Rattle.cpe_rows.specs.declared.test.Test.{Logic}

@@ -3,7 +3,7 @@ use Rattle.std.proofs.lemmas.List.{drop_all}
 use Rattle.name_index.specs.declared.table.NameId.{NameId}
 use Rattle.name_index.specs.Index.{name_id}
 use Rattle.fact_laws.specs.Shown.{names_at}
-use Rattle.cpe_registry.specs.Registered.{AreLive}
+use Rattle.verdicts.specs.cpe_registry.Registered.{AreLive}
 use Rattle.engine_edits.specs.Parts.{AreOf}
 use Rattle.engine_edits.proofs.HoldLemmas.{first_there}
 use Rattle.engine_edits.proofs.holds.release_all.Goals as goal

@@ -1,8 +1,8 @@
 use Rattle.std.proofs.Common.{◌++◌, List, drop}
-use Rattle.cpe_name.specs.Eleven.{Values}
+use Rattle.cpe_rows.specs.cpe_name.Eleven.{Values}
 use Rattle.cpe_rows.specs.Rows.{Rows}
 use Rattle.fact_laws.specs.Shown.{names_at}
-use Rattle.cpe_registry.specs.Registered.{AreLive}
+use Rattle.verdicts.specs.cpe_registry.Registered.{AreLive}
 use Rattle.verdicts.specs.Verdicts.{VerdictsNow}
 use Rattle.engine_edits.specs.Parts.{AreOf}
 use Rattle.engine_edits.proofs.holds.release_all.Given as goal

@@ -2,7 +2,7 @@ use Rattle.std.proofs.Common.{◌∷◌, [], refl, sym, subst, ◌∙◌}
 use Rattle.cpe_rows.specs.After.{after}
 use Rattle.cpe_rows.specs.declared.edit.Edit.TheVariants as edit
 use Rattle.name_index.specs.Table.{Names}
-use Rattle.cpe_registry.specs.Registered.{name_in}
+use Rattle.verdicts.specs.cpe_registry.Registered.{name_in}
 use Rattle.engine_edits.specs.Parts.{AreOf, rows_in}
 use Rattle.engine_edits.proofs.MadeLemmas.{told}
 use Rattle.engine_edits.proofs.items.add_item.Goals as goal

@@ -4,11 +4,11 @@ use Rattle.cpe_rows.specs.declared.edit.Edit.TheVariants as edit
 use Rattle.name_index.specs.Table.{Names}
 use Rattle.fact_laws.specs.Shown.{holds_in, name_at}
 use Rattle.fact_laws.specs.Asked.{names_kept}
-use Rattle.cpe_steps.specs.Within.{StepsWithin}
-use Rattle.cpe_registry.specs.Registered.{name_in}
-use Rattle.facts.specs.Facts.{LeadsTo}
+use Rattle.name_index.specs.cpe_steps.Within.{StepsWithin}
+use Rattle.verdicts.specs.cpe_registry.Registered.{name_in}
+use Rattle.verdicts.specs.facts.Facts.{LeadsTo}
 use Rattle.cpe_rows.specs.declared.statement.Mode.TheVariants.{Follow}
-use Rattle.facts.specs.Looks.{item_looks}
+use Rattle.verdicts.specs.facts.Looks.{item_looks}
 use Rattle.verdicts.specs.Verdicts.{HasVerdicts}
 use Rattle.engine_edits.specs.Parts.{AreOf, rows_in}
 use Rattle.std.specs.List.{list_any}

@@ -1,9 +1,9 @@
 use Rattle.std.proofs.Common.{◌∷◌, ◌++◌, List, [], Some, None, length, refl, sym, subst, ◌∙◌}
-use Rattle.cpe_name.specs.Eleven.{Values}
+use Rattle.cpe_rows.specs.cpe_name.Eleven.{Values}
 use Rattle.cpe_rows.specs.After.{after}
 use Rattle.cpe_rows.specs.Changes.{change}
 use Rattle.cpe_rows.specs.declared.edit.Edit.TheVariants as edit
-use Rattle.product_orders.specs.Elements.{SameElements}
+use Rattle.name_index.specs.product_orders.Elements.{SameElements}
 use Rattle.name_index.specs.Table.{Names}
 use Rattle.fact_laws.specs.Shown.{holds_in, names_at}
 use Rattle.fact_laws.specs.Asked.{names_kept}

@@ -3,7 +3,7 @@ use Rattle.name_index.specs.Table.{AreNames, kept_at, Names}
 use Rattle.cpe_rows.specs.Rows.{Rows}
 use Rattle.cpe_rows.specs.Verdict.{fact_truth}
 use Rattle.cpe_rows.specs.declared.statement.Mode.TheVariants.{Follow}
-use Rattle.level_board.specs.Board.{AreAnswers}
+use Rattle.kept_facts.specs.level_board.Board.{AreAnswers}
 use Rattle.facts.specs.Leads.{AreLedBut, ChangesTo, SameUsers}
 use Rattle.facts.proofs.lead.lead_facts.Given as goal
 

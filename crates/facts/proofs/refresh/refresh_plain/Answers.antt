@@ -1,7 +1,7 @@
 use Rattle.std.proofs.Common.{List, false, subst}
 use Rattle.cpe_rows.specs.declared.statement.Mode.TheVariants.{Plain}
 use Rattle.name_index.specs.declared.table.NameId.{NameId}
-use Rattle.level_board.specs.Board.{Board}
+use Rattle.kept_facts.specs.level_board.Board.{Board}
 use Rattle.fact_rows.specs.Facts.{has_end}
 use Rattle.fact_rows.specs.Calls.{Refreshed}
 use Rattle.facts.specs.Facts.{is_touched}

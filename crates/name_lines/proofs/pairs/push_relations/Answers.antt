@@ -1,6 +1,6 @@
 use Rattle.std.proofs.Common.{ℕ, List, ◌++◌, ap, ◌∙◌}
 use Rattle.std.proofs.lemmas.Result.{IfOk-weaker}
-use Rattle.cpe_name.specs.Borrowed.{name_lent}
+use Rattle.cpe_fs.specs.cpe_name.Borrowed.{name_lent}
 use Rattle.name_lines.proofs.RelationTexts.{line_is}
 use Rattle.name_lines.proofs.pairs.push_relations.Goals as goal
 

@@ -1,7 +1,7 @@
 use Rattle.std.proofs.Common.{take_all, subst, ap, sym, ◌∙◌, All}
 use Rattle.std.specs.List.{flat_map}
 use Rattle.std.proofs.lemmas.List.Elements.{All-append}
-use Rattle.cpe_name.specs.Names.{IsName}
+use Rattle.cpe_rows.specs.cpe_name.Names.{IsName}
 use Rattle.proof_lines.specs.Whole.{names}
 use Rattle.cpe_rows.proofs.Lists.{all_with_next}
 use Rattle.proof_lines.proofs.Names.{names_at, names-logic, names-pair}

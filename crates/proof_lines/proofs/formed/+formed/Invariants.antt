@@ -1,7 +1,7 @@
 use Rattle.std.proofs.Common.{take}
 use Rattle.std.specs.Prelude.{All}
 use Rattle.std.specs.List.{flat_map}
-use Rattle.cpe_name.specs.Names.{IsName}
+use Rattle.cpe_rows.specs.cpe_name.Names.{IsName}
 use Rattle.proof_lines.proofs.Names.{names_at}
 use Rattle.proof_lines.proofs.formed.+formed.Given as goal
 

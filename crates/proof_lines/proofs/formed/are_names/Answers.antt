@@ -1,6 +1,6 @@
 use Rattle.std.proofs.Common.{All, subst, take_all}
 use Rattle.std.proofs.lemmas.List.Elements.{All-more}
-use Rattle.cpe_name.specs.Names.{IsName}
+use Rattle.cpe_rows.specs.cpe_name.Names.{IsName}
 use Rattle.proof_lines.proofs.formed.are_names.Goals as goal
 
 pub loop-name-preserved : goal.loop-name-preserved

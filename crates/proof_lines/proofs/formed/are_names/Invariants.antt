@@ -1,6 +1,6 @@
 use Rattle.std.proofs.Common.{take}
 use Rattle.std.specs.Prelude.{All}
-use Rattle.cpe_name.specs.Names.{IsName}
+use Rattle.cpe_rows.specs.cpe_name.Names.{IsName}
 use Rattle.proof_lines.proofs.formed.are_names.Given as goal
 
 abbrev pub invariant-loop-name : goal.invariant-loop-name

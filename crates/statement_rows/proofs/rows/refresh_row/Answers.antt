@@ -1,8 +1,8 @@
 use Rattle.std.proofs.Common.{length, refl, sym, ap, subst, ◌∙◌, vec_capacity}
 use Rattle.statement_rows.specs.declared.row.Row.{Row}
-use Rattle.ticket_list.specs.Rising.{IsRising}
+use Rattle.cpe_inventory.specs.ticket_list.Rising.{IsRising}
 use Rattle.statement_rows.specs.Rows.{after_move, is_changed, judge_row, ticket_of, tickets}
-use Rattle.ticket_list.proofs.RisingLemmas.{rising_passing}
+use Rattle.cpe_inventory.proofs.ticket_list.RisingLemmas.{rising_passing}
 use Rattle.statement_rows.proofs.RowLemmas.{changed_rows, fewer, found_row, moved_is, not_found, placed_row, room_for, same_at}
 use Rattle.statement_rows.proofs.rows.refresh_row.Goals as goal
 

@@ -1,7 +1,7 @@
 use Rattle.std.proofs.Common.{ℕ, List, length, get_or, refl, sym, ap, subst, ◌∙◌, take_all, cond, vec_capacity}
 use Rattle.std.specs.Prelude.{nat_eq}
 use Rattle.statement_rows.specs.declared.row.Row.{Row}
-use Rattle.ticket_list.specs.Rising.{IsRisingBy}
+use Rattle.cpe_inventory.specs.ticket_list.Rising.{IsRisingBy}
 use Rattle.statement_rows.specs.Rows.{at_rows, judge_row, ticket_of}
 use Rattle.statement_rows.proofs.ByResultLemmas.{anew_again}
 use Rattle.std.proofs.lemmas.List.{length-map}

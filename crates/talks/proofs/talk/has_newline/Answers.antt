@@ -1,5 +1,5 @@
 use Rattle.std.proofs.Common.{◌∙◌}
-use Rattle.cpe_io.proofs.NewlineLemmas.{first_newline, is_some-newline}
+use Rattle.cpe_session.proofs.cpe_io.NewlineLemmas.{first_newline, is_some-newline}
 use Rattle.talks.proofs.talk.has_newline.Goals as goal
 
 pub returns : goal.returns

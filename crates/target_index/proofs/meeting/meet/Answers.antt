@@ -3,10 +3,10 @@ use Rattle.std.specs.Prelude.{IfOk, IsTrue, Result}
 use Rattle.std.specs.List.{filter}
 use Rattle.std.proofs.lemmas.List.{length-map}
 use Rattle.std.proofs.lemmas.Result.{IfOk-weaker}
-use Rattle.cpe_name.specs.Eleven.{Values}
-use Rattle.cpe_name.specs.Wildcards.{name_has_specials}
+use Rattle.name_index.specs.cpe_name.Eleven.{Values}
+use Rattle.name_index.specs.cpe_name.Wildcards.{name_has_specials}
 use Rattle.cpe_relation.specs.NameRelation.{covers}
-use Rattle.product_orders.specs.Elements.{SameElements}
+use Rattle.name_index.specs.product_orders.Elements.{SameElements}
 use Rattle.name_index.specs.Table.{Names}
 use Rattle.name_index.specs.Index.{Fits, ids, is_covered}
 use Rattle.target_index.specs.declared.meeting.Met.{Met}

@@ -1,7 +1,7 @@
 use Rattle.std.proofs.Common.{◌++◌, List, length, sym, ap, subst, ◌∙◌, refl, arith}
 use Rattle.std.specs.List.{filter}
 use Rattle.std.proofs.lemmas.Bool.{or_right}
-use Rattle.product_orders.specs.Elements.{SameElements}
+use Rattle.name_index.specs.product_orders.Elements.{SameElements}
 use Rattle.name_index.specs.declared.table.NameId.{NameId}
 use Rattle.name_index.specs.Table.{kept_at}
 use Rattle.name_index.specs.Index.{ids, is_product_covered, is_covered}

@@ -5,7 +5,7 @@ use Rattle.name_index.specs.Index.{name_id}
 use Rattle.cpe_dictionary.specs.Plans.{ends_by}
 use Rattle.kept_facts.proofs.Steps.{first_live, first_there}
 use Rattle.kept_facts.specs.Kept.{AreLive}
-use Rattle.fact_laws.specs.Shown.{names_at}
+use Rattle.facts.specs.fact_laws.Shown.{names_at}
 use Rattle.verdicts.proofs.NumberLemmas.{all_both, more_names}
 use Rattle.verdicts.proofs.ends.all_ends_after.Goals as goal
 

@@ -1,7 +1,7 @@
 use Rattle.std.proofs.Common.{◌≡◌, Some, drop, take}
 use Rattle.std.specs.List.{flat_map}
 use Rattle.cpe_dictionary.specs.Plans.{ends_by}
-use Rattle.fact_laws.specs.Shown.{names_at}
+use Rattle.facts.specs.fact_laws.Shown.{names_at}
 use Rattle.kept_facts.specs.Kept.{AreLive}
 use Rattle.verdicts.proofs.ends.all_ends_after.Given as goal
 

@@ -1,7 +1,7 @@
 use Rattle.std.proofs.Common.{◌≡◌, take}
 use Rattle.std.specs.List.{flat_map}
 use Rattle.name_index.specs.declared.table.NameId.{NameId}
-use Rattle.fact_rows.specs.Facts.{leads_of}
+use Rattle.facts.specs.fact_rows.Facts.{leads_of}
 use Rattle.facts.specs.Facts.{table_of}
 use Rattle.verdicts.proofs.ends.leads_of_all.Given as goal
 

@@ -1,7 +1,7 @@
 use Rattle.std.proofs.Common.{◌+◌, ◌++◌, ◌∷◌, [], drop, get_or, refl, subst, take, ◌∙◌}
 use Rattle.std.proofs.lemmas.List.{take_all}
 use Rattle.name_index.specs.declared.table.NameId.{NameId}
-use Rattle.fact_rows.specs.Facts.{name_id}
+use Rattle.facts.specs.fact_rows.Facts.{name_id}
 use Rattle.kept_facts.proofs.Steps.{first_live, first_there}
 use Rattle.facts.proofs.AddLemmas.{among_ends}
 use Rattle.facts.specs.Facts.{table_of}

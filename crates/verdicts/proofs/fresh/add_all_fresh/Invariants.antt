@@ -1,6 +1,6 @@
 use Rattle.std.proofs.Common.{◌≡◌, ℕ, drop, false, take}
 use Rattle.kept_facts.specs.Kept.{AreLive}
-use Rattle.fact_rows.specs.Facts.{fact_at, has_end}
+use Rattle.facts.specs.fact_rows.Facts.{fact_at, has_end}
 use Rattle.facts.specs.Facts.{table_of}
 use Rattle.verdicts.specs.Addition.{AreAdded, FreshBeside}
 use Rattle.verdicts.proofs.fresh.add_all_fresh.Given as goal

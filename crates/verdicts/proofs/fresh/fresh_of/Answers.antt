@@ -1,7 +1,7 @@
 use Rattle.std.proofs.Common.{ap, subst, sym, ◌∙◌}
 use Rattle.std.specs.Prelude.{not}
 use Rattle.name_index.specs.declared.table.NameId.{NameId}
-use Rattle.fact_laws.specs.Shown.{one_if_some, times_in}
+use Rattle.facts.specs.fact_laws.Shown.{one_if_some, times_in}
 use Rattle.kept_facts.specs.Kept.{AreLive}
 use Rattle.facts.specs.Facts.{is_used, table_of}
 use Rattle.verdicts.proofs.NumberLemmas.{live_filtered}

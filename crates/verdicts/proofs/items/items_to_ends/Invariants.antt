@@ -1,6 +1,6 @@
 use Rattle.std.proofs.Common.{◌≡◌, drop, take}
 use Rattle.std.specs.List.{flat_map}
-use Rattle.fact_laws.specs.Shown.{names_at}
+use Rattle.facts.specs.fact_laws.Shown.{names_at}
 use Rattle.cpe_registry.specs.Registered.{items_leading}
 use Rattle.kept_facts.specs.Kept.{AreLive}
 use Rattle.verdicts.proofs.items.items_to_ends.Given as goal

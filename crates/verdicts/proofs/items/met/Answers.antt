@@ -1,11 +1,11 @@
 use Rattle.std.proofs.Common.{count_by, filter, sym, ap, subst, ◌∙◌}
 use Rattle.std.specs.Prelude.{IfOk}
-use Rattle.cpe_steps.specs.Within.{StepsWithin}
-use Rattle.product_orders.specs.Elements.{SameElements}
+use Rattle.name_index.specs.cpe_steps.Within.{StepsWithin}
+use Rattle.name_index.specs.product_orders.Elements.{SameElements}
 use Rattle.name_index.specs.Index.{ids, is_covered}
-use Rattle.target_index.specs.declared.meeting.Met.{Met}
-use Rattle.target_index.specs.Targets.{FitsTargets, held, is_maybe, is_met, Targets}
-use Rattle.level_board.specs.Board.{Board}
+use Rattle.facts.specs.target_index.declared.meeting.Met.{Met}
+use Rattle.facts.specs.target_index.Targets.{FitsTargets, held, is_maybe, is_met, Targets}
+use Rattle.facts.specs.level_board.Board.{Board}
 use Rattle.verdicts.proofs.items.met.Goals as goal
 
 pub met-requires-clause-fits : goal.met-requires-clause-fits

@@ -4,7 +4,7 @@ use Rattle.std.proofs.lemmas.List.{take_all}
 use Rattle.name_index.specs.declared.table.NameId.{NameId}
 use Rattle.cpe_rows.specs.declared.test.CheckKey.{CheckKey}
 use Rattle.cpe_rows.specs.declared.truth.Truth.{Truth}
-use Rattle.fact_rows.specs.Facts.{name_id, users_of}
+use Rattle.facts.specs.fact_rows.Facts.{name_id, users_of}
 use Rattle.facts.specs.Facts.{table_of}
 use Rattle.statement_rows.specs.State.{at_tickets, judge}
 use Rattle.verdicts.specs.Verdicts.{truths_in}

@@ -1,9 +1,9 @@
 use Rattle.std.proofs.Common.{ℕ, Bool, List, ap, ◌∙◌, arith}
 use Rattle.std.specs.List.{flat_map}
 use Rattle.name_index.specs.declared.table.NameId.{NameId}
-use Rattle.fact_laws.specs.Shown.{times_in}
-use Rattle.fact_rows.specs.Facts.{has_end, leads_of, users_of}
-use Rattle.fact_rows.specs.Tickets.{is_empty, without}
+use Rattle.facts.specs.fact_laws.Shown.{times_in}
+use Rattle.facts.specs.fact_rows.Facts.{has_end, leads_of, users_of}
+use Rattle.facts.specs.fact_rows.Tickets.{is_empty, without}
 use Rattle.facts.specs.Facts.{table_of}
 use Rattle.verdicts.proofs.LastLemmas.{filtered_ends, one_at_most, same_ends}
 use Rattle.verdicts.proofs.removal.removal_of.Goals as goal

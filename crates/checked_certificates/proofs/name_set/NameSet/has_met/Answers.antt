@@ -1,7 +1,7 @@
 use Rattle.std.proofs.Common.{List, sym, ap, ◌∙◌}
 use Rattle.std.specs.Borrow.{Bor}
 use Rattle.std.specs.List.{list_any}
-use Rattle.cpe_name.specs.Eleven.{Values}
+use Rattle.cpe_rows.specs.cpe_name.Eleven.{Values}
 use Rattle.checked_certificates.specs.Relates.{related}
 use Rattle.checked_certificates.proofs.Elements.{any_map}
 use Rattle.checked_certificates.proofs.name_set.NameSet.has_met.Goals as goal

@@ -1,6 +1,6 @@
 use Rattle.std.proofs.Common.{◌-◌, length}
 use Rattle.std.specs.Borrow.{Bor}
-use Rattle.cpe_name.specs.Eleven.{Values}
+use Rattle.cpe_rows.specs.cpe_name.Eleven.{Values}
 use Rattle.cpe_rows.specs.Lent.{entry_lent}
 use Rattle.checked_certificates.proofs.Loops.{AreListed}
 use Rattle.checked_certificates.proofs.rows.PlainRows.find_fact.Given as goal

@@ -4,7 +4,7 @@ use Rattle.cpe_rows.specs.Lawful.{IsDictionary}
 use Rattle.deprecation_graph.specs.Graph.{Node, changed_nodes}
 use Rattle.name_index.specs.declared.table.NameId.{NameId}
 use Rattle.name_index.specs.Table.{kept_at}
-use Rattle.names_in_order.specs.InOrder.{AreInOrder, names_numbered}
+use Rattle.entries_in_order.specs.names_in_order.InOrder.{AreInOrder, names_numbered}
 use Rattle.entries_in_order.specs.Listed.{entries_listed, Listed}
 use Rattle.cpe_dictionary.specs.Numbers.{nodes_of_entries}
 use Rattle.cpe_dictionary.specs.Kept.{entries_in, entries_of, FitsTable, rewritten, Stored, written}

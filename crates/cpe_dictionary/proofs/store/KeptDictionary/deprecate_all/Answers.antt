@@ -5,7 +5,7 @@ use Rattle.cpe_rows.specs.declared.entry.Deprecation.{Deprecation}
 use Rattle.cpe_rows.specs.declared.entry.Entry.{Entry}
 use Rattle.name_index.specs.declared.table.NameId.{NameId}
 use Rattle.name_index.specs.Table.{kept_at}
-use Rattle.names_in_order.specs.InOrder.{AreInOrder, names_numbered}
+use Rattle.entries_in_order.specs.names_in_order.InOrder.{AreInOrder, names_numbered}
 use Rattle.entries_in_order.specs.Listed.{entries_listed, Listed}
 use Rattle.cpe_dictionary.specs.Given.{each_deprecated}
 use Rattle.cpe_dictionary.specs.Kept.{entries_in, entries_of, FitsTable, IsKept, Stored}

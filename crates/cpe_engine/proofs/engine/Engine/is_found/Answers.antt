@@ -1,5 +1,5 @@
 use Rattle.std.proofs.Common.{◌∙◌}
-use Rattle.checked_certificates.specs.Relates.{related}
+use Rattle.cpe_explain.specs.checked_certificates.Relates.{related}
 use Rattle.cpe_engine.proofs.FactLemmas.{found_told}
 use Rattle.cpe_engine.proofs.engine.Engine.is_found.Goals as goal
 

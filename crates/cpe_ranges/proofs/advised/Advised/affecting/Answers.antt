@@ -1,7 +1,7 @@
 use Rattle.std.proofs.Common.{ap, ◌∙◌}
 use Rattle.std.specs.List.{flat_map}
 use Rattle.std.proofs.lemmas.Result.{IfOk-weaker}
-use Rattle.cpe_values.specs.declared.value.Value.{Value}
+use Rattle.cpe_rows.specs.cpe_values.declared.value.Value.{Value}
 use Rattle.cpe_ranges.specs.Answers.{ids_affecting}
 use Rattle.cpe_ranges.specs.Found.{affecting_there, is_beside, places_where}
 use Rattle.cpe_ranges.proofs.GroupLemmas.{beside_suffice}

@@ -1,5 +1,5 @@
 use Rattle.std.proofs.Common.{◌-◌, List, sym, subst, ◌∙◌}
-use Rattle.cpe_name.specs.Eleven.{Values}
+use Rattle.cpe_rows.specs.cpe_name.Eleven.{Values}
 use Rattle.cpe_rows.specs.Weight.{name_weight}
 use Rattle.cpe_ranges.specs.Kept.{rows_in, IsWeight}
 use Rattle.cpe_ranges.specs.Step.{after}

@@ -1,5 +1,5 @@
 use Rattle.std.proofs.Common.{◌≡◌, List, sym, ap, ◌∙◌}
-use Rattle.cpe_name.specs.Eleven.{Values}
+use Rattle.cpe_rows.specs.cpe_name.Eleven.{Values}
 use Rattle.cpe_ranges.specs.Kept.{rows_in}
 use Rattle.cpe_ranges.specs.Rows.{AdviceRows}
 use Rattle.cpe_ranges.specs.Step.{after}

@@ -1,6 +1,6 @@
 use Rattle.std.proofs.Common.{◌≡◌, ◌++◌, ◌∷◌, [], List, sym, ap, subst, ◌∙◌}
 use Rattle.std.specs.Prelude.{OnOk}
-use Rattle.cpe_name.specs.Eleven.{Values}
+use Rattle.cpe_rows.specs.cpe_name.Eleven.{Values}
 use Rattle.names_in_order.specs.InOrder.{names_numbered}
 use Rattle.fact_laws.specs.Shown.{holds_in, Shows}
 use Rattle.cpe_dictionary.specs.Kept.{entries_in, names_of, new_entry, Stored}

@@ -1,8 +1,8 @@
 use Rattle.std.proofs.Common.{◌≡◌, ap, subst, ◌∙◌}
 use Rattle.std.specs.Prelude.{IfErr, OnOk}
 use Rattle.cpe_rows.specs.Lawful.{IsDictionary}
-use Rattle.deprecation_graph.specs.declared.fill_fault.FillFault.{FillFault}
-use Rattle.deprecation_graph.specs.declared.fill_fault.FillFault.TheVariants as fault
+use Rattle.cpe_dictionary.specs.deprecation_graph.declared.fill_fault.FillFault.{FillFault}
+use Rattle.cpe_dictionary.specs.deprecation_graph.declared.fill_fault.FillFault.TheVariants as fault
 use Rattle.cpe_dictionary.specs.Kept.{entries_in, names_of, Stored}
 use Rattle.cpe_dictionary.specs.Given.{each_deprecated}
 use Rattle.cpe_dictionary.proofs.GivenLemmas.{names_given}

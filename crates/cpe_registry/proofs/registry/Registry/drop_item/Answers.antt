@@ -1,6 +1,6 @@
 use Rattle.std.proofs.Common.{◌≡◌, ◌++◌, ◌∷◌, List, true, sym, ap, subst, ◌∙◌}
 use Rattle.std.specs.List.{list_any}
-use Rattle.cpe_name.specs.Eleven.{Values}
+use Rattle.cpe_rows.specs.cpe_name.Eleven.{Values}
 use Rattle.name_index.specs.Table.{IsLive}
 use Rattle.names_in_order.proofs.ChangeLemmas.{live_less, name_among}
 use Rattle.names_in_order.specs.InOrder.{AreLive as AreLiveAt, names_numbered, same_id}

@@ -1,6 +1,6 @@
 use Rattle.std.proofs.Common.{sym, ap, subst, ◌∙◌}
 use Rattle.std.specs.List.{list_any}
-use Rattle.cpe_name.specs.Equal.{same_name}
+use Rattle.cpe_rows.specs.cpe_name.Equal.{same_name}
 use Rattle.name_index.specs.Table.{HasName}
 use Rattle.names_in_order.proofs.ChangeLemmas.{name_nowhere}
 use Rattle.names_in_order.specs.InOrder.{names_numbered}

@@ -1,7 +1,7 @@
 use Rattle.std.proofs.Common.{List, filter, sym, ap, subst, ◌∙◌}
 use Rattle.std.proofs.lemmas.Result.{IfOk-weaker}
-use Rattle.cpe_name.specs.Eleven.{Values}
-use Rattle.product_orders.specs.Elements.{SameElements}
+use Rattle.cpe_rows.specs.cpe_name.Eleven.{Values}
+use Rattle.name_index.specs.product_orders.Elements.{SameElements}
 use Rattle.name_index.specs.declared.table.NameId.{NameId}
 use Rattle.names_in_order.proofs.ChangeLemmas.{covered_live, passes, passing_names}
 use Rattle.fact_laws.specs.Shown.{names_at}

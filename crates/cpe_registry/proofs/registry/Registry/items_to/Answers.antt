@@ -1,7 +1,7 @@
 use Rattle.std.proofs.Common.{List, filter, sym, ap, ◌∙◌}
 use Rattle.std.specs.List.{list_any}
 use Rattle.std.proofs.lemmas.Result.{IfOk-weaker}
-use Rattle.cpe_name.specs.Eleven.{Values}
+use Rattle.cpe_rows.specs.cpe_name.Eleven.{Values}
 use Rattle.cpe_rows.specs.Names.{is_same}
 use Rattle.name_index.specs.declared.table.NameId.{NameId}
 use Rattle.fact_laws.specs.Shown.{names_at}

@@ -1,5 +1,5 @@
 use Rattle.std.proofs.Common.{◌++◌, ◌∷◌, List, sym, ap, subst, ◌∙◌}
-use Rattle.cpe_name.specs.Eleven.{Values}
+use Rattle.cpe_rows.specs.cpe_name.Eleven.{Values}
 use Rattle.name_index.specs.Table.{IsLive}
 use Rattle.names_in_order.specs.InOrder.{names_numbered}
 use Rattle.cpe_dictionary.specs.Kept.{entries_in, names_of}

@@ -1,15 +1,15 @@
 use Rattle.std.proofs.Common.{◌≡◌, ℕ, List, Option, None, Some, position, slice_get, refl, sym, ap, ◌∙◌, arith}
 use Rattle.std.specs.Prelude.{option_and_then}
 use Rattle.std.specs.Option.{option_map_or}
-use Rattle.cpe_name.specs.Eleven.{Values}
+use Rattle.cpe_rows.specs.cpe_name.Eleven.{Values}
 use Rattle.cpe_rows.specs.Rows.{is_named}
 use Rattle.cpe_rows.specs.Weight.{deprecation_weight}
 use Rattle.cpe_rows.specs.declared.entry.Deprecation.{Deprecation}
 use Rattle.cpe_rows.specs.declared.entry.Entry.{Entry}
 use Rattle.cpe_weight.specs.Gain.{deprecated_weight, weight_of_first}
-use Rattle.cpe_registry.specs.Registered.{name_in}
+use Rattle.verdicts.specs.cpe_registry.Registered.{name_in}
 use Rattle.cpe_dictionary.proofs.DictionaryLemmas.{no_entry}
-use Rattle.entries_in_order.proofs.EntryLemmas.{not_found}
+use Rattle.cpe_dictionary.proofs.entries_in_order.EntryLemmas.{not_found}
 use Rattle.cpe_dictionary.proofs.PlanLemmas.{entry_found}
 use Rattle.engine_edits.proofs.PartsLemmas.{counted}
 use Rattle.engine_edits.proofs.parts.Parts.deprecation_weight.Goals as goal

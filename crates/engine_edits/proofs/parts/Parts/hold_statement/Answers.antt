@@ -1,6 +1,6 @@
 use Rattle.std.proofs.Common.{arith, ◌++◌, List, [], sym, subst}
 use Rattle.std.proofs.lemmas.List.{append-nil}
-use Rattle.cpe_name.specs.Eleven.{Values}
+use Rattle.cpe_rows.specs.cpe_name.Eleven.{Values}
 use Rattle.name_index.specs.declared.table.NameId.{NameId}
 use Rattle.fact_laws.specs.Shown.{names_at}
 use Rattle.fact_laws.specs.Asked.{names_kept}

@@ -1,6 +1,6 @@
 use Rattle.std.proofs.Common.{◌++◌, [], refl, sym, subst}
 use Rattle.fact_laws.specs.Shown.{names_at}
-use Rattle.cpe_registry.specs.Registered.{AreLive}
+use Rattle.verdicts.specs.cpe_registry.Registered.{AreLive}
 use Rattle.engine_edits.specs.Numbered.{coming, numbers_of}
 use Rattle.engine_edits.specs.Parts.{AreOf, rows_in}
 use Rattle.engine_edits.proofs.NumberedLemmas.{coming_live}

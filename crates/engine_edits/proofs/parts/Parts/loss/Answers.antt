@@ -1,6 +1,6 @@
 use Rattle.std.proofs.Common.{◌≡◌, ◌+◌, [], None, not, arith, sym, ap, subst, ◌∙◌}
 use Rattle.std.proofs.lemmas.Bool.{not-false}
-use Rattle.cpe_name.specs.Eleven.{Values}
+use Rattle.cpe_rows.specs.cpe_name.Eleven.{Values}
 use Rattle.cpe_rows.specs.Causes.{causes}
 use Rattle.cpe_rows.specs.Rows.{is_checked, is_item}
 use Rattle.cpe_rows.specs.Step.{first_some}
@@ -9,7 +9,7 @@ use Rattle.cpe_rows.specs.declared.edit.Edit.TheVariants as edit
 use Rattle.cpe_rows.specs.declared.fault.EditFault.TheVariants as fault
 use Rattle.cpe_weight.specs.Capped.{capped}
 use Rattle.cpe_weight.specs.Gain.{loss}
-use Rattle.cpe_registry.specs.Registered.{name_in}
+use Rattle.verdicts.specs.cpe_registry.Registered.{name_in}
 use Rattle.engine_edits.specs.Numbered.{edit_of}
 use Rattle.engine_edits.specs.Parts.{rows_in}
 use Rattle.engine_edits.specs.declared.numbered.Numbered.{Numbered}

@@ -1,7 +1,7 @@
 use Rattle.std.proofs.Common.{ap, subst, ◌++◌}
 use Rattle.cpe_dictionary.specs.Kept.{names_of}
 use Rattle.fact_laws.specs.Shown.{holds_in, Shows}
-use Rattle.cpe_registry.specs.Registered.{Registered}
+use Rattle.verdicts.specs.cpe_registry.Registered.{Registered}
 use Rattle.engine_edits.proofs.parts.Parts.new.Goals as goal
 
 pub returns-clause-rows : goal.returns-clause-rows

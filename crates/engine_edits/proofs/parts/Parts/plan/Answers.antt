@@ -4,7 +4,7 @@ use Rattle.cpe_rows.specs.Causes.{causes, IsCause}
 use Rattle.cpe_rows.specs.Step.{first_some}
 use Rattle.cpe_rows.specs.declared.fault.EditFault.{EditFault}
 use Rattle.cpe_dictionary.specs.Kept.{new_entry}
-use Rattle.cpe_registry.specs.Registered.{name_in}
+use Rattle.verdicts.specs.cpe_registry.Registered.{name_in}
 use Rattle.engine_edits.specs.Numbered.{edit_of}
 use Rattle.engine_edits.specs.Parts.{rows_in}
 use Rattle.engine_edits.specs.declared.numbered.Numbered.{Numbered}

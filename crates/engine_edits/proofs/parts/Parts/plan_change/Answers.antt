@@ -4,7 +4,7 @@ use Rattle.std.proofs.lemmas.Result.{err_from_is_err_and}
 use Rattle.cpe_rows.specs.Causes.{causes, IsCause}
 use Rattle.cpe_rows.specs.Step.{first_some}
 use Rattle.cpe_rows.specs.declared.fault.EditFault.{EditFault}
-use Rattle.cpe_registry.specs.Registered.{name_in}
+use Rattle.verdicts.specs.cpe_registry.Registered.{name_in}
 use Rattle.cpe_dictionary.proofs.DictionaryLemmas.{at_error}
 use Rattle.engine_edits.specs.Numbered.{note_of, turned}
 use Rattle.engine_edits.specs.Parts.{rows_in}

@@ -1,6 +1,6 @@
 use Rattle.std.proofs.Common.{◌≡◌, List, IfOk, sym, ap, subst, ◌∙◌}
-use Rattle.cpe_name.specs.Eleven.{Values}
-use Rattle.cpe_steps.specs.Within.{StepsWithin}
+use Rattle.cpe_rows.specs.cpe_name.Eleven.{Values}
+use Rattle.name_index.specs.cpe_steps.Within.{StepsWithin}
 use Rattle.names_in_order.specs.Places.{near_count, places_covered}
 use Rattle.entries_in_order.specs.Listed.{names_of}
 use Rattle.entries_in_order.proofs.EntryLemmas.{names_are}

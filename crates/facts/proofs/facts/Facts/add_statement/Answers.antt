@@ -4,7 +4,7 @@ use Rattle.cpe_rows.specs.Rows.{Rows}
 use Rattle.cpe_rows.specs.declared.edit.Edit.TheVariants as edit
 use Rattle.cpe_rows.specs.declared.statement.Mode.{Mode}
 use Rattle.cpe_rows.specs.declared.statement.Mode.TheVariants.{Plain, Follow}
-use Rattle.level_board.specs.Board.{Board}
+use Rattle.kept_facts.specs.level_board.Board.{Board}
 use Rattle.fact_laws.specs.Asked.{same_mode}
 use Rattle.kept_facts.specs.Kept.{board_of, ShowRows}
 use Rattle.kept_facts.specs.Moved.{FactsAsked}

@@ -1,7 +1,7 @@
 use Rattle.std.proofs.Common.{length, ◌≡◌, ◌+◌, ◌∙◌, List, ℕ, Bool, [], Some, true, false, not, refl, sym, ap, subst, arith}
-use Rattle.cpe_name.specs.Eleven.{Values}
-use Rattle.product_orders.specs.declared.products.Side.{Side}
-use Rattle.product_orders.specs.declared.products.Side.TheVariants as side
+use Rattle.cpe_rows.specs.cpe_name.Eleven.{Values}
+use Rattle.name_index.specs.product_orders.declared.products.Side.{Side}
+use Rattle.name_index.specs.product_orders.declared.products.Side.TheVariants as side
 use Rattle.cpe_rows.specs.After.{after}
 use Rattle.cpe_rows.specs.Rows.{Rows}
 use Rattle.cpe_rows.specs.Verdict.{fact_truth}
@@ -9,7 +9,7 @@ use Rattle.cpe_rows.specs.declared.edit.Edit.{Edit}
 use Rattle.cpe_rows.specs.Touching.{deprecation_changed}
 use Rattle.name_index.specs.Table.{kept_at}
 use Rattle.cpe_rows.specs.declared.statement.Mode.TheVariants.{Plain, Follow}
-use Rattle.level_board.specs.Board.{AreAnswers, Board, probe_times, target_times}
+use Rattle.kept_facts.specs.level_board.Board.{AreAnswers, Board, probe_times, target_times}
 use Rattle.cpe_rows.specs.Chains.{ends, leads_to}
 use Rattle.fact_laws.specs.Shown.{different, near_names}
 use Rattle.fact_laws.specs.Asked.{asked, facts_in, there}

@@ -1,10 +1,10 @@
 use Rattle.std.proofs.Common.{◌++◌, List, ◌∷◌, [], refl, sym, subst, arith}
-use Rattle.cpe_name.specs.Eleven.{Values}
+use Rattle.cpe_rows.specs.cpe_name.Eleven.{Values}
 use Rattle.cpe_rows.specs.After.{after}
 use Rattle.cpe_rows.specs.Rows.{Rows}
 use Rattle.cpe_rows.specs.declared.edit.Edit.TheVariants as edit
 use Rattle.cpe_rows.specs.declared.statement.Mode.TheVariants.{Plain, Follow}
-use Rattle.level_board.specs.Board.{target_times}
+use Rattle.kept_facts.specs.level_board.Board.{target_times}
 use Rattle.fact_laws.specs.Shown.{name_at, Shows}
 use Rattle.fact_laws.specs.Asked.{there}
 use Rattle.kept_facts.specs.Kept.{ShowRows}

@@ -1,7 +1,7 @@
 use Rattle.std.proofs.Common.{◌≡◌, ◌<◌, ◌≤◌, ℕ, List, sym, ap, ◌∙◌, inl, inr, arith}
 use Rattle.std.proofs.lemmas.Bool.{cases_Bool, cases_eq}
-use Rattle.level_board.specs.declared.level.Level.TheVariants.{Covered, Free}
-use Rattle.level_board.specs.Board.{Board, is_marked, probe_times, target_times, find_times, or_none}
+use Rattle.kept_facts.specs.level_board.declared.level.Level.TheVariants.{Covered, Free}
+use Rattle.kept_facts.specs.level_board.Board.{Board, is_marked, probe_times, target_times, find_times, or_none}
 use Rattle.library_tests.proofs.Levels.{is_covered, is_free}
 use Rattle.library_tests.proofs.boards.pairs.drop_two_targets.Goals as goal
 

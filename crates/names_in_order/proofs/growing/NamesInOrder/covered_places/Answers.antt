@@ -1,5 +1,5 @@
 use Rattle.std.proofs.Common.{◌≡◌, List, subst}
-use Rattle.cpe_name.specs.Eleven.{Values}
+use Rattle.name_index.specs.cpe_name.Eleven.{Values}
 use Rattle.names_in_order.specs.InOrder.{names_numbered}
 use Rattle.names_in_order.specs.Places.{places_covered}
 use Rattle.names_in_order.proofs.Places.{sorted_places}

@@ -1,7 +1,7 @@
 use Rattle.std.proofs.Common.{List, subst}
 use Rattle.std.specs.List.{IsDistinct}
-use Rattle.cpe_name.specs.Eleven.{Values}
-use Rattle.cpe_name.specs.Equal.{same_name}
+use Rattle.name_index.specs.cpe_name.Eleven.{Values}
+use Rattle.name_index.specs.cpe_name.Equal.{same_name}
 use Rattle.names_in_order.proofs.OrderLemmas.{names_distinct}
 use Rattle.names_in_order.proofs.growing.NamesInOrder.lawful.Goals as goal
 

@@ -1,7 +1,7 @@
 use Rattle.std.proofs.Common.{◌≡◌, ◌≤◌, length, ◌∷◌, ◌++◌, [], ℕ, List, Some, sym, subst}
 use Rattle.std.specs.List.{IsDistinct}
-use Rattle.cpe_values.specs.declared.value.Value.{Value}
-use Rattle.cpe_values.specs.Same.{same_value}
+use Rattle.cpe_relation.specs.cpe_values.declared.value.Value.{Value}
+use Rattle.cpe_relation.specs.cpe_values.Same.{same_value}
 use Rattle.product_orders.specs.Listed.{Listed, product_at, Adds}
 use Rattle.product_orders.specs.Placed.{by_number, ArePlaced}
 use Rattle.product_orders.proofs.Placed.{not_there, pushed, added, few_number}

@@ -1,6 +1,6 @@
 use Rattle.std.proofs.Common.{ℕ, [], List, sym, subst}
 use Rattle.std.specs.List.{filter}
-use Rattle.cpe_values.specs.Same.{same_value}
+use Rattle.cpe_relation.specs.cpe_values.Same.{same_value}
 use Rattle.product_orders.specs.Elements.{SameElements}
 use Rattle.product_orders.specs.Listed.{Listed, value_at, live}
 use Rattle.product_orders.specs.Placed.{by_number}

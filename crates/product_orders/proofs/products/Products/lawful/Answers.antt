@@ -1,5 +1,5 @@
 use Rattle.std.proofs.Common.{◌≡◌, subst}
-use Rattle.cpe_values.specs.Lower.{lower_value}
+use Rattle.cpe_relation.specs.cpe_values.Lower.{lower_value}
 use Rattle.product_orders.specs.Listed.{Listed, value_at}
 use Rattle.product_orders.proofs.Live.{all_lower}
 use Rattle.product_orders.proofs.products.Products.lawful.Goals as goal

@@ -1,6 +1,6 @@
 use Rattle.std.proofs.Common.{[], ap, ◌∙◌, false}
 use Rattle.std.specs.List.{sum_by}
-use Rattle.cpe_values.specs.declared.value.Value.{Value}
+use Rattle.cpe_relation.specs.cpe_values.declared.value.Value.{Value}
 use Rattle.cpe_relation.specs.Near.{near}
 use Rattle.product_orders.specs.declared.keys.End.TheVariants as end
 use Rattle.product_orders.specs.declared.keys.Shape.TheVariants as shape

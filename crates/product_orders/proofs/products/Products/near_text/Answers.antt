@@ -1,7 +1,7 @@
 use Rattle.std.proofs.Common.{◌≡◌, ℕ, Bool, List, sym, ◌∙◌, true, false}
 use Rattle.std.specs.List.{filter}
-use Rattle.cpe_values.specs.Parts.{Parts}
-use Rattle.cpe_values.specs.declared.value.Value.TheVariants.{Text}
+use Rattle.cpe_relation.specs.cpe_values.Parts.{Parts}
+use Rattle.cpe_relation.specs.cpe_values.declared.value.Value.TheVariants.{Text}
 use Rattle.cpe_relation.specs.Near.{near}
 use Rattle.product_orders.specs.declared.keys.End.{End}
 use Rattle.product_orders.specs.declared.keys.End.TheVariants as end

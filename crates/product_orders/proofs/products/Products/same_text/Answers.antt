@@ -1,6 +1,6 @@
 use Rattle.std.proofs.Common.{ℕ, true, sym, ap, subst, ◌∙◌}
 use Rattle.std.specs.List.{filter, sum_by}
-use Rattle.cpe_values.specs.Same.{same_value}
+use Rattle.cpe_relation.specs.cpe_values.Same.{same_value}
 use Rattle.product_orders.specs.declared.keys.End.TheVariants as end
 use Rattle.product_orders.specs.declared.keys.Shape.TheVariants as shape
 use Rattle.product_orders.specs.Elements.{SameElements}

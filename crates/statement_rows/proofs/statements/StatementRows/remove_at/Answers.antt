@@ -5,8 +5,8 @@ use Rattle.std.specs.Str.{bytes_eq}
 use Rattle.cpe_rows.specs.FactNames.{fact_names}
 use Rattle.cpe_rows.specs.declared.statement.Mode.{Mode}
 use Rattle.name_index.specs.declared.table.NameId.{NameId}
-use Rattle.ticket_list.specs.Rising.{IsRising}
-use Rattle.ticket_list.proofs.RisingLemmas.{rising_passing}
+use Rattle.cpe_inventory.specs.ticket_list.Rising.{IsRising}
+use Rattle.cpe_inventory.proofs.ticket_list.RisingLemmas.{rising_passing}
 use Rattle.statement_rows.specs.declared.row.NumberedStatement.{NumberedStatement}
 use Rattle.statement_rows.specs.declared.row.Row.{Row}
 use Rattle.statement_rows.specs.Askers.{AreAsked, askers_at}

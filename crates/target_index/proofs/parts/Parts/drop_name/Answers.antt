@@ -1,5 +1,5 @@
 use Rattle.std.proofs.Common.{◌-◌, ℕ, ◌∷◌, Bool, cond, refl, sym, ap, subst, ◌∙◌, arith}
-use Rattle.product_orders.specs.Elements.{SameElements}
+use Rattle.name_index.specs.product_orders.Elements.{SameElements}
 use Rattle.name_index.specs.Table.{kept_at}
 use Rattle.target_index.specs.declared.parts.Parts.{Parts}
 use Rattle.target_index.specs.Targets.{held}

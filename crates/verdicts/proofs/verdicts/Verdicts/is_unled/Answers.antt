@@ -4,7 +4,7 @@ use Rattle.std.specs.Bool.{OnTrue}
 use Rattle.std.specs.Option.{option_copied}
 use Rattle.cpe_rows.specs.Rows.{is_named}
 use Rattle.cpe_rows.specs.declared.entry.Entry.{Entry}
-use Rattle.level_board.specs.Board.{probe_times, target_times}
+use Rattle.facts.specs.level_board.Board.{probe_times, target_times}
 use Rattle.cpe_registry.specs.Registered.{name_in}
 use Rattle.kept_facts.specs.Kept.{Boards}
 use Rattle.verdicts.specs.Verdicts.{HasVerdicts, VerdictsNow}

@@ -1,15 +1,15 @@
 use Rattle.std.proofs.Common.{◌≡◌, ◌∙◌, Bool, true, false, cond, List, sym, ap, subst}
 use Rattle.std.specs.List.{list_any}
 use Rattle.std.proofs.lemmas.Result.{IfOk-weaker}
-use Rattle.cpe_name.specs.Eleven.{Values}
-use Rattle.cpe_relation.specs.Maybe.{maybe}
-use Rattle.cpe_relation.specs.NameRelation.{covers}
+use Rattle.cpe_rows.specs.cpe_name.Eleven.{Values}
+use Rattle.cpe_rows.specs.cpe_relation.Maybe.{maybe}
+use Rattle.cpe_rows.specs.cpe_relation.NameRelation.{covers}
 use Rattle.cpe_rows.specs.Names.{is_same}
 use Rattle.name_index.specs.declared.table.NameId.{NameId}
 use Rattle.name_index.specs.Table.{kept_at, Names}
-use Rattle.level_board.specs.Board.{Board, FitsBoard}
-use Rattle.fact_laws.specs.Shown.{names_at}
-use Rattle.fact_laws.specs.Asked.{there}
+use Rattle.facts.specs.level_board.Board.{Board, FitsBoard}
+use Rattle.facts.specs.fact_laws.Shown.{names_at}
+use Rattle.facts.specs.fact_laws.Asked.{there}
 use Rattle.kept_facts.specs.Kept.{AreLive, board_of, Boards}
 use Rattle.verdicts.specs.Items.{ArePassing, items_at}
 use Rattle.verdicts.specs.Verdicts.{HasVerdicts, tickets_in, VerdictsNow}

@@ -1,17 +1,17 @@
 use Rattle.std.proofs.Common.{◌∙◌, count_by, sym, subst}
-use Rattle.cpe_steps.specs.Within.{StepsWithin}
-use Rattle.cpe_relation.specs.Maybe.{maybe}
-use Rattle.cpe_relation.specs.NameRelation.{covers}
-use Rattle.product_orders.specs.declared.products.Side.TheVariants as side
+use Rattle.name_index.specs.cpe_steps.Within.{StepsWithin}
+use Rattle.cpe_rows.specs.cpe_relation.Maybe.{maybe}
+use Rattle.cpe_rows.specs.cpe_relation.NameRelation.{covers}
+use Rattle.name_index.specs.product_orders.declared.products.Side.TheVariants as side
 use Rattle.name_index.specs.Index.{ids}
 use Rattle.name_index.specs.declared.table.NameId.{NameId}
 use Rattle.name_index.specs.Table.{kept_at}
-use Rattle.target_index.specs.Targets.{is_met}
-use Rattle.level_board.specs.Board.{FitsBoard, target_ids}
+use Rattle.facts.specs.target_index.Targets.{is_met}
+use Rattle.facts.specs.level_board.Board.{FitsBoard, target_ids}
 use Rattle.cpe_rows.specs.Rows.{Rows}
 use Rattle.cpe_rows.specs.declared.statement.Mode.TheVariants.{Plain}
-use Rattle.fact_laws.specs.Asked.{there}
-use Rattle.fact_laws.specs.Shown.{near_names}
+use Rattle.facts.specs.fact_laws.Asked.{there}
+use Rattle.facts.specs.fact_laws.Shown.{near_names}
 use Rattle.kept_facts.specs.Kept.{AreLive, Boards}
 use Rattle.verdicts.specs.Rows.{AreOfRows}
 use Rattle.verdicts.specs.Verdicts.{HasVerdicts, VerdictsNow}

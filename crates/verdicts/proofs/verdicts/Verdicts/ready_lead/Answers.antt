@@ -1,6 +1,6 @@
 use Rattle.std.proofs.Common.{◌≡◌, Bool, true, List, Some, ap, filter, length, subst, sym, ◌∙◌}
 use Rattle.std.specs.List.{AllByRecursion, flat_map, list_any}
-use Rattle.cpe_name.specs.Eleven.{Values}
+use Rattle.cpe_rows.specs.cpe_name.Eleven.{Values}
 use Rattle.cpe_rows.specs.Chains.{ends}
 use Rattle.cpe_rows.specs.Names.{is_same}
 use Rattle.cpe_rows.specs.Rows.{Rows}
@@ -9,9 +9,9 @@ use Rattle.cpe_dictionary.specs.Plans.{ends_by, IsAllowed}
 use Rattle.cpe_registry.specs.Registered.{name_in}
 use Rattle.name_index.specs.declared.table.NameId.{NameId}
 use Rattle.name_index.specs.Table.{AreNames, Names}
-use Rattle.fact_laws.specs.Shown.{names_at}
+use Rattle.facts.specs.fact_laws.Shown.{names_at}
 use Rattle.kept_facts.specs.Kept.{AreLive}
-use Rattle.fact_rows.specs.Facts.{ends_of, fact_at, FactTable}
+use Rattle.facts.specs.fact_rows.Facts.{ends_of, fact_at, FactTable}
 use Rattle.facts.specs.Facts.{HasFacts, is_used}
 use Rattle.facts.specs.LeadCalls.{HasRoomForEnds}
 use Rattle.facts.specs.declared.lead.Led.{Led}

@@ -1,5 +1,5 @@
 use Rattle.std.proofs.Common.{◌≡◌, ℕ, true, false, None, sym, subst}
-use Rattle.fact_rows.specs.Facts.{fact_at, has_end}
+use Rattle.facts.specs.fact_rows.Facts.{fact_at, has_end}
 use Rattle.facts.specs.Facts.{is_used, table_of}
 use Rattle.cpe_rows.specs.Causes.{statement_causes}
 use Rattle.cpe_rows.specs.Step.{first_some}

@@ -1,9 +1,9 @@
 use Rattle.std.proofs.Common.{◌≡◌, ◌≤◌, ◌<◌, ℕ, List, true, false, sym, subst}
 use Rattle.std.specs.List.{AllByRecursion}
 use Rattle.name_index.specs.declared.table.NameId.{NameId}
-use Rattle.fact_laws.specs.Shown.{times_in}
+use Rattle.facts.specs.fact_laws.Shown.{times_in}
 use Rattle.kept_facts.specs.Kept.{AreLive, AreSound}
-use Rattle.fact_rows.specs.Facts.{has_end, is_fact}
+use Rattle.facts.specs.fact_rows.Facts.{has_end, is_fact}
 use Rattle.facts.specs.Facts.{AreUsedBut, table_of}
 use Rattle.statement_rows.specs.Askers.{AreAsked}
 use Rattle.statement_rows.specs.State.{SameRows}

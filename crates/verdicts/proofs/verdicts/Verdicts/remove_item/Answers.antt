@@ -2,7 +2,7 @@ use Rattle.std.proofs.Common.{refl, sym, ap, subst, ◌∙◌}
 use Rattle.cpe_rows.specs.After.{after}
 use Rattle.cpe_rows.specs.Rows.{Rows}
 use Rattle.cpe_rows.specs.declared.edit.Edit.TheVariants as edit
-use Rattle.fact_laws.specs.Shown.{name_at}
+use Rattle.facts.specs.fact_laws.Shown.{name_at}
 use Rattle.facts.proofs.PutLemmas.{both_changed}
 use Rattle.verdicts.specs.Verdicts.{checks_in, HasVerdicts, known_in, statements_in, tickets_in, VerdictsNow}
 use Rattle.verdicts.proofs.JudgeLemmas.{refreshed, same_statements, users_of_all}

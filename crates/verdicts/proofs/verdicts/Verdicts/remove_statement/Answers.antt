@@ -10,9 +10,9 @@ use Rattle.cpe_rows.specs.Rows.{has_id}
 use Rattle.cpe_rows.specs.declared.edit.Edit.TheVariants as edit
 use Rattle.cpe_rows.specs.declared.statement.Mode.{Mode}
 use Rattle.cpe_rows.specs.declared.statement.Statement.{Statement}
-use Rattle.fact_laws.specs.Shown.{names_at}
+use Rattle.facts.specs.fact_laws.Shown.{names_at}
 use Rattle.kept_facts.specs.Kept.{AreLive}
-use Rattle.fact_rows.specs.Tickets.{without}
+use Rattle.facts.specs.fact_rows.Tickets.{without}
 use Rattle.facts.specs.Facts.{HasFacts}
 use Rattle.statement_rows.specs.State.{is_of, StatementRow, use_in, use_of}
 use Rattle.verdicts.specs.Removal.{IsRemoval, RemovesWith, StatementRemoved}
