@@ -23,7 +23,8 @@ crate below, in its `proofs/`. If such a lemma changes, the proofs of the crate 
 change too. These are all such citations, from the bottom up. The proofs of
 
 """
-CITED = re.compile(r"\bRattle\.(\w+)\.proofs\.(\w+)")
+# The crate and the file of lemmas, or the crate that hands on the lemmas of another one, that one, and the file.
+CITED = re.compile(r"\bRattle\.(\w+)\.proofs\.(\w+)(?:\.(\w+))?")
 
 
 def crates():
@@ -37,7 +38,9 @@ def citations(crate, ours):
     found = collections.defaultdict(set)
     for path in sorted((TOP / "crates" / crate).rglob("*.*t")):
         if path.suffix in (".antt", ".rt") and "out" not in path.relative_to(TOP).parts:
-            for below, lemmas in CITED.findall(path.read_text(encoding="utf-8")):
+            for below, lemmas, further in CITED.findall(path.read_text(encoding="utf-8")):
+                if lemmas in ours:
+                    below, lemmas = lemmas, further
                 if below != crate and below in ours:
                     found[below].add(lemmas)
     return found

@@ -200,7 +200,7 @@ examples() {
 # map are right. No line of a document is too long, no cell of a table, and each link has its target. Kept names are compared by counted
 # looks, except where docs/TRUST.md says so.
 compares_documents() {
-    for it in citations contracts areas documents looks; do
+    for it in citations contracts areas edges documents looks; do
         needs "documents and sources: tests/$it.py" python3 || continue
         python3 "tests/$it.py" > "$room/out" 2> "$room/error"
         judge "documents and sources: tests/$it.py" $? 0 /dev/null
