@@ -26,7 +26,7 @@ use crate::values::Components;
 use crate::write::FromComponents;
 pub use bind::{append_fs, bind_fs, fs_len};
 pub use component::{ComponentFault, bind_component, read_component_is, unbind_component};
-use cpe_name::{Wfn, put_output, read_name, scan_wfn};
+use cpe_name::{put_output, read_name, scan_wfn};
 pub use cpe_name::{ATTRIBUTES, Attribute, NameRef, Wfn};
 pub use lend::lend_fs;
 use std::alloc::Global;
