@@ -13,10 +13,14 @@ use Rattle.cpe_rows.specs.Names.{has_wildcards, is_identifier, is_lower, is_same
 use Rattle.cpe_rows.specs.Rows.{is_named, Rows}
 use Rattle.cpe_rows.specs.Verdict.{is_followed}
 use Rattle.cpe_rows.specs.declared.entry.Entry.{Entry}
+use Rattle.cpe_rows.specs.declared.statement.Mode.{Mode}
+use Rattle.cpe_rows.specs.declared.statement.Mode.TheVariants.{Plain, Follow}
 use Rattle.cpe_rows.proofs.NameTests.{is_lower_is, same_is}
 use Rattle.name_index.specs.declared.table.NameId.{NameId}
 use Rattle.name_index.specs.Table.{Names}
+use Rattle.engine_edits.specs.fact_laws.Asked.{leads}
 use Rattle.engine_edits.specs.fact_laws.Shown.{name_at, names_at}
+use Rattle.cpe_explain.specs.checked_certificates.Leading.{followed}
 use Rattle.cpe_explain.specs.checked_certificates.Relates.{related}
 use Rattle.cpe_explain.specs.checked_certificates.declared.relates.Relates.{Relates}
 use Rattle.verdicts.specs.Items.{AreItemsTo}
@@ -44,18 +48,23 @@ lower_names (e ∷ es) all =
     first : (n : Values) → is_entry_name n ≡ true → is_lower n ≡ true
     first n h = (and_parts (is_lower n) (is_identifier n) (and_parts (is_lower n && is_identifier n) (not (has_wildcards n)) h).0).0
 
-pub ends_lower : (es : List Entry) (n : Values) → IsDictionary es → IsLower n → AllByRecursion IsLower (ends es n)
+ends_lower : (es : List Entry) (n : Values) → IsDictionary es → IsLower n → AllByRecursion IsLower (ends es n)
 ends_lower es n lawful lower = by (list_any (is_named n) es)
   where
     by : (b : Bool) → AllByRecursion IsLower (cond b (map (λ (e : Entry). e.name) (filter is_active (chain es n))) (n ∷ []))
     by true = lower_names (filter is_active (chain es n)) (kept_all _ is_active (chain es n) (kept_all _ _ es lawful.names))
     by false = (lower, tt)
 
+-- and so are the names to which it leads in either mode
+pub leads_lower : (rows : Rows) (mode : Mode) (n : Values) → IsDictionary rows.entries → IsLower n → AllByRecursion IsLower (leads rows.entries mode n)
+leads_lower rows Plain n lawful lower = (lower, tt)
+leads_lower rows Follow n lawful lower = ends_lower rows.entries n lawful lower
+
 -- ---- what one name more shows
 
-pub shown_more : (table : Names) (rows : Rows) (relates : Relates) (names : List Values) (n : Values) (found items : List NameId) → AreShown rows relates names (names_at table found)
-    → AreItemsTo rows (related relates n) (names_at table items) → AreShown rows relates (names ++ n ∷ []) (names_at table (found ++ items))
-shown_more table rows relates names n found items shown more i item =
+pub shown_more : (table : Names) (rows : Rows) (mode : Mode) (relates : Relates) (names : List Values) (n : Values) (found items : List NameId) → AreShown rows mode relates names (names_at table found)
+    → AreItemsTo rows mode (related relates n) (names_at table items) → AreShown rows mode relates (names ++ n ∷ []) (names_at table (found ++ items))
+shown_more table rows mode relates names n found items shown more i item =
     ap (list_any (is_same i)) (map-append (name_at table) found items)
     ∙ list_any-append (is_same i) (names_at table found) (names_at table items)
     ∙ (λ j. shown i item j || more i item j)
@@ -63,7 +72,7 @@ shown_more table rows relates names n found items shown more i item =
     ∙ sym (list_any-append shows names (n ∷ []))
   where
     shows : Values → Bool
-    shows f = list_any (related relates f) (ends rows.entries i)
+    shows f = list_any (related relates f) (leads rows.entries mode i)
 
     alone : (b : Bool) → b ≡ (b || false)
     alone true = refl
@@ -77,6 +86,7 @@ first_same p q (n ∷ items) same =
     ap (λ (b : Bool). cond b (Some n) (find p items)) (same n (or_left (is_same n n) (list_any (is_same n) items) ((same_is n n).1 refl)))
     ∙ ap (cond (q n) (Some n)) (first_same p q items (λ m among. same m (or_right (is_same m n) (list_any (is_same m) items) among)))
 
-pub first_shown : (rows : Rows) (relates : Relates) (n : Values) (found : List Values) → AreShown rows relates (ends rows.entries n) found
-    → find (λ i. list_any (is_same i) found) rows.items ≡ find (is_followed (related relates) rows.entries n) rows.items
-first_shown rows relates n found shown = first_same (λ i. list_any (is_same i) found) (is_followed (related relates) rows.entries n) rows.items shown
+pub first_shown : (rows : Rows) (mode : Mode) (relates : Relates) (n : Values) (found : List Values) → AreShown rows mode relates (leads rows.entries mode n) found
+    → find (λ i. list_any (is_same i) found) rows.items ≡ find (is_followed (related relates) (followed rows mode) n) rows.items
+first_shown rows Plain relates n found shown = first_same (λ i. list_any (is_same i) found) (is_followed (related relates) [] n) rows.items shown
+first_shown rows Follow relates n found shown = first_same (λ i. list_any (is_same i) found) (is_followed (related relates) rows.entries n) rows.items shown

@@ -1,7 +1,7 @@
 -- How many looks at names an answer may take, or an edit (`edit_looks`). A statement's verdict is kept, so that to ask for it is no look.
-use Rattle.std.specs.Prelude.{ℕ, map}
+use Rattle.std.specs.Prelude.{ℕ, count_by, map}
+use Rattle.cpe_rows.specs.cpe_relation.Maybe.{meets}
 use Rattle.verdicts.specs.names_in_order.Places.{near_count}
-use Rattle.verdicts.specs.items_in_order.InOrder.{met_count}
 use Rattle.cpe_rows.specs.Rows.{Rows}
 use Rattle.cpe_rows.specs.declared.entry.Entry.{Entry}
 use Rattle.cpe_rows.specs.declared.edit.Query.{Query}
@@ -12,5 +12,5 @@ pub use Rattle.engine_edits.specs.Looks.{edit_looks}
 -- meets, and for each other query none
 abbrev pub looks : Rows → Query → ℕ
 looks rows (Search asked active_only) = near_count asked (map (λ (e : Entry). e.name) rows.entries)
-looks rows (Items asked) = met_count asked rows.items
+looks rows (Items asked) = count_by (λ n. meets asked.product n.product) rows.items
 looks rows query = 0

@@ -78,7 +78,7 @@ impl Engine {
         Counts {
             entries: self.parts.registry.dictionary().len() as u64,
             deprecated: self.parts.registry.dictionary().count_deprecated() as u64,
-            items: self.parts.registry.items().len() as u64,
+            items: self.parts.registry.items_len() as u64,
             statements: self.parts.verdicts.len() as u64,
             facts: self.parts.verdicts.facts() as u64,
             checks: self.parts.verdicts.results().len() as u64,
@@ -128,7 +128,7 @@ impl Engine {
     pub fn items_len(&self) -> usize
         ensures { result ≡ length self.now.items }
     {
-        self.parts.registry.items().len()
+        self.parts.registry.items_len()
     }
 
     /// The items by their slots, in their order. An item that goes leaves its slot to none, so that none can be found by its place among
@@ -275,12 +275,12 @@ impl Engine {
         ensures steps { StepsWithin steps.old steps.new (looks self.now (Query.Items name)) }
     {
         cpe_rows::law::names_are_equal();
-        match self.parts.registry.items().met(alloc, &name, steps) {
-            Ok(met) => Ok(Reply::Items {
-                name,
-                rows: met.covered,
-                maybe: met.maybe,
-            }),
+        let parts = &self.parts;
+        match parts
+            .verdicts
+            .items_met(alloc, &parts.registry, &name, steps)
+        {
+            Ok((rows, maybe)) => Ok(Reply::Items { name, rows, maybe }),
             Err(memory) => Err(let_go(name, memory)),
         }
     }

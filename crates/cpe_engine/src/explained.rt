@@ -7,7 +7,7 @@ ghost use Rattle.cpe_explain.specs.checked_certificates.Relates.{related};
 
 use crate::engine::Engine;
 use crate::leading::{ends_of, first_followed, first_shown};
-use crate::slots::{first_by_product, first_related, item_of};
+use crate::slots::{first_related, item_of};
 use crate::truths::kept_truth;
 use cpe_explain::{ExplainedRows, PlainRows, Relates};
 use cpe_rows::{CheckKey, Deprecation, EntryRef, Memory, Mode, Statement, Text, Truth, Wfn};
@@ -32,43 +32,39 @@ impl Engine {
         item_of(&slots, self.items_len(), k)
     }
 
-    // The first item to which a name stands so. It goes over the items only where the name isn't in lower case, as that of each fact of
-    // a statement is.
-    fn first_plain(
+    // The first item to which a name stands so in a mode. It goes over the items.
+    fn first_compared(
         &self,
         alloc: Global,
         relates: Relates,
+        mode: Mode,
         name: &Wfn,
     ) -> Result<Option<&Wfn>, Memory>
-        ensures { IfOk result (λ item. option_copied item ≡ find (related relates name.now) self.now.items) }
+        ensures { IfOk result (λ item. option_copied item ≡ find (is_followed (related relates) (followed self.now mode) name.now) self.now.items) }
     {
-        if name.is_lower() {
-            let items = self.parts.registry.items();
-            let found = first_by_product(&items, alloc, relates, name)?;
-            return Ok(found);
-        }
         let slots = self.item_slots();
-        Ok(first_related(&slots, relates, name))
+        match mode {
+            Mode::Plain => Ok(first_related(&slots, relates, name)),
+            Mode::Follow => first_followed(&self.parts.registry, alloc, &slots, relates, name),
+        }
     }
 
-    // The first item to an end of which some end of the name stands so. It goes over the items only where the name isn't in lower case, as
-    // `first_plain` does.
-    fn first_by_ends(
+    // The same, found by products if the name is in lower case, as that of each fact of a statement is.
+    fn sought_item(
         &self,
         alloc: Global,
         relates: Relates,
+        mode: Mode,
         name: &Wfn,
     ) -> Result<Option<&Wfn>, Memory>
-        ensures { IfOk result (λ item. option_copied item ≡ find (is_followed (related relates) self.now.entries name.now) self.now.items) }
+        ensures { IfOk result (λ item. option_copied item ≡ find (is_followed (related relates) (followed self.now mode) name.now) self.now.items) }
     {
         let parts = &self.parts;
         if name.is_lower() {
-            let found = first_shown(&parts.registry, &parts.verdicts, alloc, relates, name)?;
+            let found = first_shown(&parts.registry, &parts.verdicts, alloc, relates, mode, name)?;
             return Ok(found);
         }
-        let slots = self.item_slots();
-        let found = first_followed(&parts.registry, alloc, &slots, relates, name)?;
-        Ok(found)
+        self.first_compared(alloc, relates, mode, name)
     }
 }
 
@@ -87,22 +83,6 @@ impl Engine {
         match self.told_truth(mode, name) {
             Some(truth) => relates.is_ruled_out(truth),
             None => false,
-        }
-    }
-
-    // The first item to which a name stands so in a mode.
-    fn sought_item(
-        &self,
-        alloc: Global,
-        relates: Relates,
-        mode: Mode,
-        name: &Wfn,
-    ) -> Result<Option<&Wfn>, Memory>
-        ensures { IfOk result (λ item. option_copied item ≡ find (is_followed (related relates) (followed self.now mode) name.now) self.now.items) }
-    {
-        match mode {
-            Mode::Plain => self.first_plain(alloc, relates, name),
-            Mode::Follow => self.first_by_ends(alloc, relates, name),
         }
     }
 
@@ -177,7 +157,10 @@ impl PlainRows for Engine {
     }
 
     fn has_item(&self, name: &Wfn) -> bool {
-        self.parts.registry.items().has(name)
+        match self.parts.registry.find(name) {
+            Some(id) => self.parts.registry.has_item(id),
+            None => false,
+        }
     }
 
     fn deprecation_of(&self, name: &Wfn) -> Option<&Deprecation> {

@@ -1,17 +1,19 @@
-// Where names lead, and the first item by the ends of both.
+// Where names lead, and the first item by where both lead.
 ghost use Rattle.std.specs.Prelude.{◌≡◌, ◌∷◌, [], ℕ, IfOk, find, map, true, option_copied};
 ghost use Rattle.std.specs.List.{AllByRecursion, filter_map, list_any};
 ghost use Rattle.cpe_rows.specs.Prelude.{ends, is_followed, IsLower, Rows};
 ghost use Rattle.name_index.specs.Table.{IsLive};
+ghost use Rattle.engine_edits.specs.fact_laws.Asked.{leads};
 ghost use Rattle.engine_edits.specs.fact_laws.Shown.{names_at};
 ghost use Rattle.verdicts.specs.cpe_registry.Registered.{AreLive, name_in};
 ghost use Rattle.verdicts.specs.Items.{AreItemsTo};
 ghost use Rattle.verdicts.specs.Rows.{AreOfRows};
+ghost use Rattle.cpe_explain.specs.checked_certificates.Leading.{followed};
 ghost use Rattle.cpe_explain.specs.checked_certificates.Relates.{related};
 ghost use Rattle.cpe_engine.specs.Shown.{AreShown};
 
 use cpe_explain::Relates;
-use cpe_rows::{Memory, Wfn};
+use cpe_rows::{Memory, Mode, Wfn};
 use engine_edits::ItemSlots;
 use name_index::NameId;
 use std::alloc::Global;
@@ -122,47 +124,65 @@ pub(crate) fn first_followed<'t>(
     Ok(None)
 }
 
-// The items to an end of which a name in lower case stands so.
+// The names to which a name leads in a mode.
+fn leads_of<'a>(
+    registry: &'a Registry,
+    alloc: Global,
+    mode: Mode,
+    name: &'a Wfn,
+) -> Result<Vec<&'a Wfn>, Memory>
+    ensures { IfOk result (λ names. map (λ n. n.now) names.items ≡ leads registry.now.entries mode name.now) }
+{
+    match mode {
+        Mode::Plain => alone(alloc, name),
+        Mode::Follow => ends_of(registry, alloc, name),
+    }
+}
+
+// The items that lead in a mode to a name to which a name in lower case stands so.
 fn items_shown(
     registry: &Registry,
     verdicts: &Verdicts,
     alloc: Global,
     relates: Relates,
+    mode: Mode,
     name: &Wfn,
 ) -> Result<Vec<NameId>, Memory>
     requires lower { IsLower name.now }
     requires stood { (rows : Rows) × AreOfRows registry.now verdicts.now rows }
     ensures live { IfOk result (λ v. AreLive registry.now.table v.items) }
-    ensures items { (rows : Rows) → AreOfRows registry.now verdicts.now rows → IfOk result (λ v. AreItemsTo rows (related relates name.now) (names_at registry.now.table v.items)) }
+    ensures items { (rows : Rows) → AreOfRows registry.now verdicts.now rows → IfOk result (λ v. AreItemsTo rows mode (related relates name.now) (names_at registry.now.table v.items)) }
 {
     match relates {
-        Relates::Covers => verdicts.items_covered(alloc, registry, name),
-        Relates::MayCover => verdicts.items_maybe(alloc, registry, name),
+        Relates::Covers => verdicts.items_covered(alloc, registry, mode, name),
+        Relates::MayCover => verdicts.items_maybe(alloc, registry, mode, name),
     }
 }
 
-// The items to an end of which one of these names stands so.
+// The same for one of these names.
 fn all_shown(
     registry: &Registry,
     verdicts: &Verdicts,
     alloc: Global,
     relates: Relates,
+    mode: Mode,
     names: &[&Wfn],
 ) -> Result<Vec<NameId>, Memory>
     requires lower { AllByRecursion IsLower (map (λ n. n.now) names.now) }
     requires stood { (rows : Rows) × AreOfRows registry.now verdicts.now rows }
     ensures live { IfOk result (λ v. AreLive registry.now.table v.items) }
-    ensures items { (rows : Rows) → AreOfRows registry.now verdicts.now rows → IfOk result (λ v. AreShown rows relates (map (λ n. n.now) names.now) (names_at registry.now.table v.items)) }
+    ensures items { (rows : Rows) → AreOfRows registry.now verdicts.now rows → IfOk result (λ v. AreShown rows mode relates (map (λ n. n.now) names.now) (names_at registry.now.table v.items)) }
 {
     let mut all = Vec::new(alloc);
     for name in names {
-        let items = items_shown(registry, verdicts, alloc, relates, *name)?;
+        let items = items_shown(registry, verdicts, alloc, relates, mode, *name)?;
         all.extend_from_slice(&items)?;
     }
     Ok(all)
 }
 
-/// The first item to an end of which some end of a name in lower case stands so. It is found by the products of these ends.
+/// The first item to which a name in lower case stands so in a mode: some name to which the name leads stands so to one to which the
+/// item leads. It is found by products.
 ///
 /// # Errors
 /// Only that memory ran out.
@@ -171,13 +191,14 @@ pub(crate) fn first_shown<'a>(
     verdicts: &Verdicts,
     alloc: Global,
     relates: Relates,
+    mode: Mode,
     name: &Wfn,
 ) -> Result<Option<&'a Wfn>, Memory>
     requires lower { IsLower name.now }
     requires stood { (rows : Rows) × AreOfRows registry.now verdicts.now rows }
-    ensures { (rows : Rows) → AreOfRows registry.now verdicts.now rows → IfOk result (λ item. option_copied item ≡ find (is_followed (related relates) rows.entries name.now) rows.items) }
+    ensures { (rows : Rows) → AreOfRows registry.now verdicts.now rows → IfOk result (λ item. option_copied item ≡ find (is_followed (related relates) (followed rows mode) name.now) rows.items) }
 {
-    let ends = ends_of(registry, alloc, name)?;
-    let items = all_shown(registry, verdicts, alloc, relates, &ends)?;
+    let names = leads_of(registry, alloc, mode, name)?;
+    let items = all_shown(registry, verdicts, alloc, relates, mode, &names)?;
     Ok(registry.first_item_of(&items))
 }

@@ -6,7 +6,7 @@
 //! Refused, it releases its names. Made, it answers the verdicts that it changed; to ask for a verdict evaluates nothing.
 //!
 //! Certificates ask an engine for items that facts show and for truths of facts: where a name leads is known by the registry, and which
-//! items lead to an end by the verdicts; both lend the names. A name that isn't in lower case, which no statement has, is compared with
+//! items lead to a name by the verdicts; both lend the names. A name that isn't in lower case, which no statement has, is compared with
 //! each item.
 #![tactic(auto)]
 

@@ -1,13 +1,10 @@
 // Items by their slots, and the first to which a name stands so.
-ghost use Rattle.std.specs.Prelude.{◌≡◌, IfOk, find, length, slice_get, filter_map, option_copied};
-ghost use Rattle.cpe_rows.specs.cpe_name.Lower.{IsLower};
+ghost use Rattle.std.specs.Prelude.{◌≡◌, find, length, slice_get, filter_map, option_copied};
 ghost use Rattle.cpe_explain.specs.checked_certificates.Relates.{related};
 
 use cpe_explain::Relates;
-use cpe_rows::{Memory, Wfn};
+use cpe_rows::Wfn;
 use engine_edits::ItemSlots;
-use std::alloc::Global;
-use verdicts::Items;
 
 // The item at a place, where some slots may be empty.
 fn nth_item<'t>(slots: &ItemSlots<'t>, k: usize) -> Option<&'t Wfn>
@@ -34,25 +31,6 @@ pub(crate) fn item_of<'t>(slots: &ItemSlots<'t>, count: usize, k: usize) -> Opti
         return slots.at(k);
     }
     nth_item(slots, k)
-}
-
-/// The first item to which a name in lower case stands so. It is found by the name's product.
-///
-/// # Errors
-/// Only that memory ran out.
-pub(crate) fn first_by_product<'t>(
-    items: &Items<'t>,
-    alloc: Global,
-    relates: Relates,
-    name: &Wfn,
-) -> Result<Option<&'t Wfn>, Memory>
-    requires { IsLower name.now }
-    ensures { IfOk result (λ item. option_copied item ≡ find (related relates name.now) items.now) }
-{
-    match relates {
-        Relates::Covers => items.first_covered(alloc, name),
-        Relates::MayCover => items.first_maybe(alloc, name),
-    }
 }
 
 /// The first item to which a name stands so. It goes over the items.

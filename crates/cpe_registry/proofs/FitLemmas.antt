@@ -9,16 +9,16 @@ use Rattle.name_index.specs.declared.table.NameId.{NameId}
 use Rattle.name_index.specs.Index.{name_id}
 use Rattle.name_index.specs.Table.{AreNames, find_kept, HasName, Holds, IsLive, Kept, kept_at, kept_or, Names, Releases}
 use Rattle.name_index.proofs.Fitting.{held_live, held_name}
-use Rattle.names_in_order.specs.InOrder.{AreInOrder, IsSafe, names_numbered}
+use Rattle.names_in_order.specs.InOrder.{AreInOrder, AreLive as AreLiveAt, IsSafe, names_numbered}
 use Rattle.names_in_order.specs.Laws.{OrdersStay}
-use Rattle.names_in_order.proofs.StayLemmas.{hold_stays, names_stay}
+use Rattle.names_in_order.proofs.OrderLemmas.{kept_live}
+use Rattle.names_in_order.proofs.StayLemmas.{hold_stays, names_stay, names_without, release_stays}
 use Rattle.fact_laws.specs.Shown.{holds_in, Shows, times_named}
 use Rattle.cpe_rows.specs.Names.{is_same}
 use Rattle.cpe_rows.specs.Rows.{is_named}
 use Rattle.cpe_rows.specs.declared.entry.Entry.{Entry}
 use Rattle.cpe_dictionary.specs.Kept.{entries_in, entries_of, FitsTable, IsKept, names_of, Stored}
 use Rattle.cpe_dictionary.proofs.entries_in_order.EntryLemmas.{names_are}
-use Rattle.items_in_order.specs.InOrder.{AreItems, ItemRoll}
 use Rattle.cpe_registry.specs.Moved.{NameHeld}
 use Rattle.cpe_registry.specs.Registered.{AreFitting, AreHeld, Registered, registered}
 use Rattle.cpe_registry.proofs.HeldLemmas.{second_stands, third_stands}
@@ -70,15 +70,34 @@ is_safe old new id numbers list names live r among shows = by (find_kept new id)
     by None e = inr (none e)
     by (Some k) e = inl (subst IsSome (sym e) refl)
 
-module _ (old new : Names) (s : Stored) (r : ItemRoll) (id : ℕ) (others : List Values) (names : AreNames old) (live : IsLive old id) (gone : Releases old new id) (fit : AreFitting old s r)
-    (shows : Shows new (holds_in new) (others ++ (names_of (entries_in old s) ++ names_numbered old r.numbers))) where
+module _ (old new : Names) (s : Stored) (items : List NameId) (id : ℕ) (others : List Values) (names : AreNames old) (live : IsLive old id) (gone : Releases old new id) (fit : AreFitting old s items)
+    (shows : Shows new (holds_in new) (others ++ (names_of (entries_in old s) ++ names_numbered old items))) where
   pub safe_entries : IsSafe new s.names.numbers id
   safe_entries =
-      is_safe old new id s.names.numbers (others ++ (names_of (entries_in old s) ++ names_numbered old r.numbers)) names live gone
-      (λ n k at. second_stands n others (names_of (entries_in old s)) (names_numbered old r.numbers) k (ap (λ (ns : List Values). slice_get ns k) (names_stored old s fit.entries) ∙ at)) shows
+      is_safe old new id s.names.numbers (others ++ (names_of (entries_in old s) ++ names_numbered old items)) names live gone
+      (λ n k at. second_stands n others (names_of (entries_in old s)) (names_numbered old items) k (ap (λ (ns : List Values). slice_get ns k) (names_stored old s fit.entries) ∙ at)) shows
 
-  pub safe_items : IsSafe new r.numbers id
-  safe_items = is_safe old new id r.numbers (others ++ (names_of (entries_in old s) ++ names_numbered old r.numbers)) names live gone (λ n k at. third_stands n others (names_of (entries_in old s)) (names_numbered old r.numbers) k at) shows
+  pub safe_items : IsSafe new items id
+  safe_items = is_safe old new id items (others ++ (names_of (entries_in old s) ++ names_numbered old items)) names live gone (λ n k at. third_stands n others (names_of (entries_in old s)) (names_numbered old items) k at) shows
+
+-- ---- numbers that are live still
+
+-- each live number has the name and the product that it had
+abbrev StayAll : Names → Names → Type 0
+StayAll old new = (x : ℕ) (k : Kept) → find_kept old x ≡ Some k → (l : Kept) × (find_kept new x ≡ Some l) × (l.name ≡ k.name) × (l.product ≡ k.product)
+
+live_still : (old new : Names) (numbers : List NameId) → StayAll old new → AreLiveAt old numbers → AreLiveAt new numbers
+live_still old new numbers stay live k x at = let o = kept_live old x.0 (live k x at) in subst IsSome (sym (stay x.0 o.0 o.1).1) refl
+
+-- numbers of which none goes are live after a release, and have their names
+pub live_released : (old new : Names) (id : ℕ) (numbers : List NameId) → Releases old new id → IsSafe new numbers id → AreLiveAt old numbers → AreLiveAt new numbers
+live_released old new id numbers r safe live = elim safe [
+  | inl there ↦ live_still old new numbers (release_stays old new id r there) live
+  | inr none ↦ λ k x at. subst IsSome (sym (r.others x.0 (λ is. none k (at ∙ ap {B = Option NameId} (λ (n : ℕ). Some (name_id n)) is)))) (live k x at)
+]
+
+pub names_released : (old new : Names) (id : ℕ) (numbers : List NameId) → Releases old new id → IsSafe new numbers id → AreLiveAt old numbers → names_numbered new numbers ≡ names_numbered old numbers
+names_released old new id numbers r safe live = elim safe [ inl there ↦ names_stay old new numbers (release_stays old new id r there) live | inr none ↦ names_without old new id numbers r none ]
 
 -- ---- answers
 
@@ -108,56 +127,56 @@ either (Err e) f g ok err = g err
 
 -- ---- what stays where the table changes
 
-pub record Stays (old new : Names) (s : Stored) (r : ItemRoll) : Type 0 where
-  pub fitting : AreFitting new s r
+pub record Stays (old new : Names) (s : Stored) (numbers : List NameId) : Type 0 where
+  pub fitting : AreFitting new s numbers
   pub entries : entries_in new s ≡ entries_in old s
-  pub items : names_numbered new r.numbers ≡ names_numbered old r.numbers
+  pub items : names_numbered new numbers ≡ names_numbered old numbers
 
-pub stays_by : (old new : Names) (s : Stored) (r : ItemRoll) → AreFitting old s r → AreInOrder new s.names.held s.names.numbers → names_numbered new s.names.numbers ≡ names_numbered old s.names.numbers
-    → AreItems new r.targets r.numbers → names_numbered new r.numbers ≡ names_numbered old r.numbers → Stays old new s r
-stays_by old new s r fit order names item_order item_names = record {
-  fitting = record { entries = fits_still old new s order names fit.entries; items = item_order };
+pub stays_by : (old new : Names) (s : Stored) (items : List NameId) → AreFitting old s items → AreInOrder new s.names.held s.names.numbers → names_numbered new s.names.numbers ≡ names_numbered old s.names.numbers
+    → AreLiveAt new items → names_numbered new items ≡ names_numbered old items → Stays old new s items
+stays_by old new s items fit order names live item_names = record {
+  fitting = record { entries = fits_still old new s order names fit.entries; items = live };
   entries = same_entries old new s names;
   items = item_names;
 }
 
-pub stays_same : (old new : Names) (s : Stored) (r : ItemRoll) → AreFitting old s r → new ≡ old → Stays old new s r
-stays_same old new s r fit same = subst (λ (t : Names). Stays old t s r) (sym same) (record { fitting = fit; entries = refl; items = refl })
+pub stays_same : (old new : Names) (s : Stored) (items : List NameId) → AreFitting old s items → new ≡ old → Stays old new s items
+stays_same old new s items fit same = subst (λ (t : Names). Stays old t s items) (sym same) (record { fitting = fit; entries = refl; items = refl })
 
 -- a hold leaves all as it was but the table
-pub stays_held : {E : Type 0} (old new : Names) (s : Stored) (r : ItemRoll) (name : Values) (result : Result NameId E) → AreFitting old s r → OrdersStay
-    → ((id : ℕ) → Holds old new id name → AreItems old r.targets r.numbers → AreItems new r.targets r.numbers) → IfOk result (λ id. Holds old new id.0 name) → OnErr result (new ≡ old) → Stays old new s r
-stays_held old new s r name result fit orders items held same = either_if (λ (id : NameId). Holds old new id.0 name) result
-    (λ id h. stays_by old new s r fit (orders.held old new id.0 name s.names.held s.names.numbers h fit.entries.order) (orders.held_names old new id.0 name s.names.held s.names.numbers h fit.entries.order)
-    (items id.0 h fit.items) (names_stay old new r.numbers (hold_stays old new id.0 name h) fit.items.live))
-    (λ e. stays_same old new s r fit e) held same
+pub stays_held : {E : Type 0} (old new : Names) (s : Stored) (items : List NameId) (name : Values) (result : Result NameId E) → AreFitting old s items → OrdersStay → IfOk result (λ id. Holds old new id.0 name)
+    → OnErr result (new ≡ old) → Stays old new s items
+stays_held old new s items name result fit orders held same = either_if (λ (id : NameId). Holds old new id.0 name) result
+    (λ id h. stays_by old new s items fit (orders.held old new id.0 name s.names.held s.names.numbers h fit.entries.order) (orders.held_names old new id.0 name s.names.held s.names.numbers h fit.entries.order)
+    (live_still old new items (hold_stays old new id.0 name h) fit.items) (names_stay old new items (hold_stays old new id.0 name h) fit.items))
+    (λ e. stays_same old new s items fit e) held same
 
 -- the list of what is held, by the names that stay
-pub shows_still : (old new : Names) (s : Stored) (r : ItemRoll) (prefix : List Values) → Stays old new s r → Shows new (holds_in new) (prefix ++ (names_of (entries_in old s) ++ names_numbered old r.numbers))
-    → Shows new (holds_in new) (prefix ++ (names_of (entries_in new s) ++ names_numbered new r.numbers))
-shows_still old new s r prefix stays shows =
-    let list : prefix ++ (names_of (entries_in new s) ++ names_numbered new r.numbers) ≡ prefix ++ (names_of (entries_in old s) ++ names_numbered old r.numbers) = λ k. prefix ++ (names_of (stays.entries k) ++ stays.items k) in
+pub shows_still : (old new : Names) (s : Stored) (items : List NameId) (prefix : List Values) → Stays old new s items → Shows new (holds_in new) (prefix ++ (names_of (entries_in old s) ++ names_numbered old items))
+    → Shows new (holds_in new) (prefix ++ (names_of (entries_in new s) ++ names_numbered new items))
+shows_still old new s items prefix stays shows =
+    let list : prefix ++ (names_of (entries_in new s) ++ names_numbered new items) ≡ prefix ++ (names_of (entries_in old s) ++ names_numbered old items) = λ k. prefix ++ (names_of (stays.entries k) ++ stays.items k) in
     subst (Shows new (holds_in new)) (sym list) shows
 
 -- what a hold answers
-pub name_held : {E : Type 0} {x : Registered} (old new : Names) (s : Stored) (r : ItemRoll) (name : Values) (result : Result NameId E) → registered old s r ≡ x → Stays old new s r
+pub name_held : {E : Type 0} {x : Registered} (old new : Names) (s : Stored) (items : List NameId) (name : Values) (result : Result NameId E) → registered old s items ≡ x → Stays old new s items
     → IfOk result (λ id. Holds old new id.0 name) → OnErr result (new ≡ old) → ((id : ℕ) (list : List Values) → Holds old new id name → Shows old (holds_in old) list → Shows new (holds_in new) (name ∷ list))
-    → NameHeld x (registered new s r) name result
-name_held old new s r name result view stay held same more = record {
+    → NameHeld x (registered new s items) name result
+name_held old new s items name result view stay held same more = record {
   live = if_ok result (λ id h. held_live old new id.0 name h) held;
   named = if_ok result (λ id h. held_name old new id.0 name h) held;
   held = subst (λ (y : Registered). IfOk result (λ (id : NameId). Holds y.table new id.0 name)) view held;
   entries = stay.entries ∙ ap (λ (y : Registered). y.entries) view;
   items = stay.items ∙ ap (λ (y : Registered). y.items) view;
   others = λ others was. let shows = subst (λ (y : Registered). AreHeld y others) (sym view) was in
-      ok_if (λ (id : NameId). Holds old new id.0 name) result (λ id h. shows_still old new s r (name ∷ others) stay (more id.0 (others ++ (names_of (entries_in old s) ++ names_numbered old r.numbers)) h shows)) held;
-  err = on_err result (λ e. ap (λ (t : Names). registered t s r) e ∙ view) same;
+      ok_if (λ (id : NameId). Holds old new id.0 name) result (λ id h. shows_still old new s items (name ∷ others) stay (more id.0 (others ++ (names_of (entries_in old s) ++ names_numbered old items)) h shows)) held;
+  err = on_err result (λ e. ap (λ (t : Names). registered t s items) e ∙ view) same;
 }
 
 -- entries that keep their names keep what is held
-pub others_same : {x : Registered} (table : Names) (s next : Stored) (r : ItemRoll) → registered table s r ≡ x → names_of (entries_in table next) ≡ names_of (entries_in table s) → (others : List Values) → AreHeld x others → AreHeld (registered table next r) others
-others_same table s next r view same others was =
-    subst (λ (ns : List Values). Shows table (holds_in table) (others ++ (ns ++ names_numbered table r.numbers))) (sym same) (subst (λ (y : Registered). AreHeld y others) (sym view) was)
+pub others_same : {x : Registered} (table : Names) (s next : Stored) (items : List NameId) → registered table s items ≡ x → names_of (entries_in table next) ≡ names_of (entries_in table s) → (others : List Values) → AreHeld x others → AreHeld (registered table next r) others
+others_same table s next items view same others was =
+    subst (λ (ns : List Values). Shows table (holds_in table) (others ++ (ns ++ names_numbered table items))) (sym same) (subst (λ (y : Registered). AreHeld y others) (sym view) was)
 
 -- ---- entries by their names
 

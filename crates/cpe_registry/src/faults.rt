@@ -28,7 +28,7 @@ impl Registry {
         if self.has_item(id) {
             return Some(EditFault::Exists);
         }
-        if self.items().len() >= MOST_ITEMS {
+        if self.items_len() >= MOST_ITEMS {
             return Some(EditFault::Full(Which::Items));
         }
         None

@@ -5,14 +5,17 @@
 //! besides. A name is moved in and found by its hash once ([`Registry::hold`], [`Registry::find`]); what comes later goes by its
 //! number, where a name leads and what leads to it too ([`Registry::ends_of`], [`Registry::sources_of`]). That the table has these
 //! names and no other is one fact, `AreHeld`, which each call says how it changes.
+//!
+//! Of the items it keeps the order alone, and no index by product. Items that were found elsewhere it puts in order
+//! ([`Registry::items_in_order`], [`Registry::first_item_of`]).
 #![tactic(auto)]
 
 mod ends;
 mod faults;
 mod given;
+mod items;
 mod registry;
 
 pub use cpe_dictionary::FillFault;
 pub use cpe_inventory::Checks;
-pub use items_in_order::Items;
 pub use registry::Registry;

@@ -14,8 +14,8 @@ ghost use Rattle.cpe_registry.specs.Registered.{AreHeld, AreLive, name_in};
 use cpe_dictionary::{Dictionary, KeptDictionary, Plan};
 use cpe_inventory::ItemSlots;
 use cpe_rows::{Deprecation, EntryRef, Memory, Note, Provenance, Text, Wfn};
-use items_in_order::{ItemNames, Items};
 use name_index::{NameId, NameTable};
+use names_in_order::{MarkedNumbers, PushNumber};
 use std::alloc::Global;
 use std::marker::Model;
 
@@ -25,7 +25,7 @@ use std::marker::Model;
 pub struct Registry {
     pub(crate) table: NameTable,
     pub(crate) dictionary: KeptDictionary,
-    items: ItemNames,
+    pub(crate) items: MarkedNumbers,
 }
 
 impl Model for Registry {
@@ -50,7 +50,7 @@ impl Registry {
         Registry {
             table: NameTable::new(alloc),
             dictionary: KeptDictionary::new(alloc),
-            items: ItemNames::new(alloc),
+            items: MarkedNumbers::new(alloc),
         }
     }
 
@@ -68,11 +68,11 @@ impl Registry {
         self.dictionary.with(&self.table)
     }
 
-    /// The items.
-    pub fn items(&self) -> Items<'_>
-        ensures { result ≡ self.now.items }
+    /// How many items there are.
+    pub fn items_len(&self) -> usize
+        ensures { result ≡ length self.now.items }
     {
-        Items::new(&self.table, &self.items)
+        self.items.len()
     }
 
     /// The table of names.
@@ -171,7 +171,6 @@ impl Registry {
         ensures { NameHeld self.old self.new name.now result }
     {
         names_in_order::law::orders_stay();
-        items_in_order::law::items_stay();
         fact_laws::law::tables_are_lists();
         self.table.hold(name)
     }
@@ -186,7 +185,6 @@ impl Registry {
         ensures { NameHeld self.old self.new name result }
     {
         names_in_order::law::orders_stay();
-        items_in_order::law::items_stay();
         fact_laws::law::tables_are_lists();
         self.table.hold_moved(name)
     }
@@ -202,7 +200,6 @@ impl Registry {
     {
         self.table.lawful();
         names_in_order::law::orders_stay();
-        items_in_order::law::items_stay();
         fact_laws::law::tables_are_lists();
         self.table.release(id);
     }
@@ -257,7 +254,7 @@ impl Registry {
         cpe_inventory::law::item_laws();
         names_in_order::law::orders_stay();
         fact_laws::law::lists_are_shown();
-        self.items.push(&self.table, id)
+        self.items.push(id)
     }
 
     /// Takes an item out. Its hold of the name is the caller's then, until it is [released](Registry::release). It takes no memory.
@@ -272,6 +269,6 @@ impl Registry {
         self.table.lawful();
         cpe_inventory::law::item_laws();
         fact_laws::law::lists_are_shown();
-        self.items.remove(&self.table, id);
+        self.items.remove(id);
     }
 }

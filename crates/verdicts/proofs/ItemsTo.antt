@@ -1,5 +1,5 @@
 -- The items that lead to ends which pass are those of which an end passes.
-use Rattle.std.proofs.Common.{◌≡◌, ◌≤◌, ◌+◌, ℕ, Bool, true, false, not, cond, ◌||◌, ◌&&◌, List, [], ◌∷◌, filter, Option, Some, None, refl, sym, ap, subst, ◌∙◌, inl, inr, arith, eq-eqb}
+use Rattle.std.proofs.Common.{◌≡◌, ◌≤◌, ◌+◌, ℕ, zero, suc, Bool, true, false, not, cond, ◌||◌, ◌&&◌, List, [], ◌∷◌, count_by, filter, Option, Some, None, refl, sym, ap, subst, ◌∙◌, inl, inr, arith, eq-eqb}
 use Rattle.std.specs.Prelude.{IsSome, is_none, nat_eq, nat_lt}
 use Rattle.std.specs.Cmp.{both_ways}
 use Rattle.std.specs.List.{flat_map, list_any, sum_by}
@@ -13,22 +13,29 @@ use Rattle.name_index.proofs.Postings.{sum_map}
 use Rattle.cpe_rows.specs.cpe_name.Eleven.{Values}
 use Rattle.cpe_rows.specs.cpe_name.Equal.{same_name}
 use Rattle.cpe_rows.specs.Chains.{chain, ends, is_active, leads_to}
-use Rattle.cpe_rows.specs.Lawful.{are_different}
+use Rattle.cpe_rows.specs.Lawful.{are_different, IsLawful}
 use Rattle.cpe_rows.specs.Names.{is_same}
-use Rattle.cpe_rows.specs.Rows.{is_named}
+use Rattle.cpe_rows.specs.Rows.{is_named, Rows}
 use Rattle.cpe_rows.specs.declared.entry.Entry.{Entry}
+use Rattle.cpe_rows.specs.declared.statement.Mode.{Mode}
+use Rattle.cpe_rows.specs.declared.statement.Mode.TheVariants.{Plain, Follow}
 use Rattle.cpe_rows.proofs.NameTests.{same_is}
 use Rattle.name_index.specs.Index.{ids, name_id, times_held}
 use Rattle.name_index.specs.Table.{AreNames, find_kept, Kept, Names, kept_at}
 use Rattle.name_index.specs.declared.table.NameId.{NameId}
-use Rattle.facts.specs.fact_laws.Shown.{different, names_at, names_in, Shows}
-use Rattle.facts.proofs.fact_laws.Different.{held_different}
+use Rattle.name_index.specs.product_orders.declared.products.Side.TheVariants as side
+use Rattle.facts.specs.target_index.Targets.{is_met}
+use Rattle.cpe_rows.specs.cpe_values.declared.value.Value.{Value}
+use Rattle.facts.specs.fact_laws.Shown.{different, meets_on, names_at, names_in, near_names, one_if_some, Shows, times_named}
+use Rattle.facts.proofs.fact_laws.Different.{counts_same, held_different, near_different, one_once, one_some}
+use Rattle.facts.proofs.fact_laws.Sources.{apart_once}
 use Rattle.facts.specs.level_board.Board.{Board, IsOn, target_ids, target_times}
-use Rattle.facts.specs.fact_laws.Asked.{entry_names, source_names}
+use Rattle.facts.specs.fact_laws.Asked.{entry_names, leads, source_names, there}
 use Rattle.facts.proofs.fact_laws.Counted.{same_test}
 use Rattle.facts.proofs.fact_laws.Facts.{any_same}
-use Rattle.cpe_registry.specs.Registered.{items_leading}
-use Rattle.kept_facts.specs.Kept.{AreLive}
+use Rattle.cpe_registry.specs.Registered.{items_leading, PutsItemsInOrder, Registered}
+use Rattle.kept_facts.specs.Kept.{AreLive, board_of, Boards}
+use Rattle.verdicts.specs.Items.{AreItemsTo, ArePassing, items_at}
 use Rattle.verdicts.proofs.UnledLemmas.{AreActive, none_active, own_end}
 
 -- ---- lists that have a name
@@ -205,7 +212,7 @@ module _ (es : List Entry) (differ : are_different (λ (e : Entry). is_named e.n
     found_is : (n : Values) → list_any (is_same n) found ≡ list_any (λ f. p f && is_same n f) (flat_map (ends es) items)
     found_is n = sym (any_same (is_same n) (filter p (different (flat_map (ends es) items))) found same) ∙ any_filter (is_same n) p (different (flat_map (ends es) items)) ∙ any_different (λ f. p f && is_same n f) (flat_map (ends es) items)
 
-    pub led : (n : Values) → list_any (is_same n) items ≡ true → list_any (is_same n) (flat_map (items_leading es items) found) ≡ list_any p (ends es n)
+    led : (n : Values) → list_any (is_same n) items ≡ true → list_any (is_same n) (flat_map (items_leading es items) found) ≡ list_any p (ends es n)
     led n item = both_ways (list_any (is_same n) (flat_map (items_leading es items) found)) (list_any p (ends es n)) there_is is_there
       where
         there_is : list_any (is_same n) (flat_map (items_leading es items) found) ≡ true → list_any p (ends es n) ≡ true
@@ -232,6 +239,40 @@ module _ (es : List Entry) (differ : are_different (λ (e : Entry). is_named e.n
             (any_filter (is_same n) (λ x. list_any (is_same x) items) (sources f) ∙ passes (λ x. list_any (is_same x) items && is_same n x) n (sources f) (both_true item ((same_is n n).1 refl)) (source_of_end n f w.2))
             among
 
+-- ---- in mode plain each item leads to itself
+
+plain_there : (es : List Entry) (items : List Values) → flat_map (leads es Plain) items ≡ items
+plain_there es [] = refl
+plain_there es (n ∷ items) = ap (λ (ns : List Values). n ∷ ns) (plain_there es items)
+
+-- each item is there once
+each_once : (rows : Rows) → are_different is_same rows.items ≡ true → SameElements (different (there rows Plain)) rows.items
+each_once rows differ = counts_same (different (there rows Plain)) rows.items
+    (λ n. one_once n (there rows Plain) ∙ ap (λ (ns : List Values). one_if_some (times_named n ns)) (plain_there rows.entries rows.items) ∙ exact (times_named n rows.items) (apart_once n rows.items differ))
+  where
+    exact : (t : ℕ) → t ≤ 1 → one_if_some t ≡ t
+    exact zero h = refl
+    exact (suc t) h = omega (arith, h, one_some (suc t) (omega arith))
+
+-- the items that pass are those that lead to a name that passes
+led_plain : (items : List Values) (p : Values → Bool) (found : List Values) → SameElements (filter p items) found → (n : Values) → list_any (is_same n) items ≡ true → list_any (is_same n) found ≡ list_any p (n ∷ [])
+led_plain items p found same n item =
+    sym (any_same (is_same n) (filter p items) found same) ∙ any_filter (is_same n) p items ∙ both_ways (list_any (λ x. p x && is_same n x) items) (p n || false) is_there there_is
+  where
+    is_there : list_any (λ x. p x && is_same n x) items ≡ true → (p n || false) ≡ true
+    is_there h =
+        let x = some (λ x. p x && is_same n x) items h in
+        let both = and_parts (p x.0) (is_same n x.0) x.1 in
+        or_left (p n) false (ap p ((same_is n x.0).0 both.1) ∙ both.0)
+
+    there_is : (p n || false) ≡ true → list_any (λ x. p x && is_same n x) items ≡ true
+    there_is h = elim (or_cases (p n) false h) [ inl here ↦ passes (λ x. p x && is_same n x) n items (both_true here ((same_is n n).1 refl)) item | inr never ↦ absurd cc ]
+
+-- so the items that lead in either mode to names that pass
+pub led_in : (rows : Rows) (mode : Mode) (p : Values → Bool) (found : List Values) → IsLawful rows → SameElements (filter p (different (there rows mode))) found → AreItemsTo rows mode p (items_at rows.entries rows.items mode found)
+led_in rows Plain p found lawful same = led_plain rows.items p found (λ f. sym (filter_same p (different (there rows Plain)) rows.items (each_once rows lawful.items_differ) f) ∙ same f)
+led_in rows Follow p found lawful same = led rows.entries lawful.dictionary.names_differ rows.items p found same
+
 -- ---- names by their numbers
 
 names_of_those : (names : Names) (p : Values → Bool) (held : List (ℕ × ℕ)) → names_at names (filter (λ (id : NameId). p (kept_at names id.0).name) (ids held)) ≡ filter p (names_in names held)
@@ -244,9 +285,13 @@ names_of_those names p (x ∷ held) = by (p (kept_at names x.0).name) (names_of_
     by true later = ap (λ (ns : List Values). (kept_at names x.0).name ∷ ns) later
     by false later = later
 
+-- numbers found of a lent board are those of the board
+pub passing_there : (shown table : Names) (lent boards : Boards) (mode : Mode) (p : Values → Bool) (found : List NameId) → shown ≡ table → lent ≡ boards → ArePassing shown (board_of lent mode) p found → ArePassing table (board_of boards mode) p found
+passing_there shown table lent boards mode p found same same_boards met = subst (λ (t : Names). ArePassing t (board_of boards mode) p found) same (subst (λ (b : Boards). ArePassing shown (board_of b mode) p found) same_boards met)
+
 -- the numbers found of a board's targets have those names of the list that pass
-pub found_names : (names : Names) (board : Board) (list : List Values) (p : Values → Bool) (found : List NameId) → AreNames names → IsOn board → Shows names (target_times board) list
-    → SameElements (filter (λ (id : NameId). p (kept_at names id.0).name) (ids (target_ids board))) found → SameElements (filter p (different list)) (names_at names found)
+pub found_names : (names : Names) (board : Board) (list : List Values) (p : Values → Bool) (found : List NameId) → AreNames names → IsOn board → Shows names (target_times board) list → ArePassing names board p found
+    → SameElements (filter p (different list)) (names_at names found)
 found_names names board list p found are on shows same f =
     sym (filter_same p (names_in names (target_ids board)) (different list) (held_different names (target_times board) list (target_ids board) are on.targets shows) f)
     ∙ ap (sum_by f) (sym (names_of_those names p (target_ids board)))
@@ -254,7 +299,26 @@ found_names names board list p found are on shows same f =
     ∙ same (λ (id : NameId). f (kept_at names id.0).name)
     ∙ sym (sum_map f (λ (id : NameId). (kept_at names id.0).name) found)
 
--- and they are live
+-- so numbers found of the plain board are those of the items that pass
+module _ (names : Names) (board : Board) (rows : Rows) (are : AreNames names) (on : IsOn board) (shows : Shows names (target_times board) (there rows Plain)) (differ : are_different is_same rows.items ≡ true) where
+  pub items_passing : (p : Values → Bool) (found : List NameId) → ArePassing names board p found → SameElements (filter p rows.items) (names_at names found)
+  items_passing p found met f = sym (filter_same p (different (there rows Plain)) rows.items (each_once rows differ) f) ∙ found_names names board (there rows Plain) p found are on shows met f
+
+  -- and as many targets are met as items
+  pub items_near : (asked : Value) → count_by (is_met names asked) (ids (target_ids board)) ≡ near_names side.Source asked rows.items
+  items_near asked =
+      near_different names (target_times board) (there rows Plain) (target_ids board) are on.targets shows side.Source asked
+      ∙ each_once rows differ (λ (n : Values). cond (meets_on side.Source asked n.product) 1 0)
+
+-- a registry puts them in order
+pub items_ordered : (r : Registered) (rows : Rows) (p : Values → Bool) (found ids : List NameId) (items : List Values) → rows.items ≡ r.items → ids ≡ found → SameElements (filter p rows.items) (names_at r.table found) → PutsItemsInOrder r ids items → items ≡ filter p rows.items
+items_ordered r rows p found ids items same are passing puts =
+    puts p
+    (subst (λ (all : List Values). SameElements (filter p all) (names_at r.table ids)) same
+    (subst (λ (xs : List NameId). SameElements (filter p rows.items) (names_at r.table xs)) (sym are) passing))
+    ∙ ap (filter p) (sym same)
+
+-- numbers that were found are live
 module _ (names : Names) where
   abbrev dead : NameId → Bool
   dead id = is_none (find_kept names id.0)

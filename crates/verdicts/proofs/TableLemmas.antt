@@ -95,7 +95,7 @@ not_none : (o : Option Kept) → IsSome o → o ≡ None → ⊥
 not_none None some e = true≢false (sym some)
 not_none (Some k) some e = none-some k (sym e)
 
-mode_of : (names : Names) (f : FactsNow) (rows : Rows) (tickets : List ℕ) → HasFacts names f rows tickets → (mode : Mode) → FactsOf names (board_of f.boards mode) (table_of f mode) rows tickets mode
+pub mode_of : (names : Names) (f : FactsNow) (rows : Rows) (tickets : List ℕ) → HasFacts names f rows tickets → (mode : Mode) → FactsOf names (board_of f.boards mode) (table_of f mode) rows tickets mode
 mode_of names f rows tickets s Plain = s.plain
 mode_of names f rows tickets s Follow = s.follow
 

@@ -6,6 +6,5 @@ pub mod Rows
 pub mod Removal
 pub use Rattle.facts.specs as facts
 pub use Rattle.cpe_registry.specs as cpe_registry
-pub use Rattle.cpe_registry.specs.items_in_order as items_in_order
 pub use Rattle.cpe_registry.specs.names_in_order as names_in_order
 pub use Rattle.cpe_dictionary.specs as cpe_dictionary

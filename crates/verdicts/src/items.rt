@@ -1,23 +1,25 @@
-// Items are added and removed, and those are found that lead to an end which a name covers or may cover.
-ghost use Rattle.std.specs.Prelude.{◌≡◌, ◌<◌, ◌≤◌, IfOk, true, cond, filter, length, OnOk};
+// Items are added and removed, and those are found that a name meets, by themselves or by their ends.
+ghost use Rattle.std.specs.Prelude.{◌≡◌, ◌<◌, ◌≤◌, IfOk, true, cond, count_by, filter, length, OnOk};
 ghost use Rattle.std.specs.List.{flat_map, list_any};
 ghost use Rattle.name_index.specs.Prelude.{IsLive, Names, StepsWithin};
 ghost use Rattle.cpe_rows.specs.Prelude.{after, covers, is_same, IsLawful, IsLower, maybe, Rows};
 ghost use Rattle.cpe_rows.specs.declared.edit.Edit.TheVariants as edit;
 ghost use Rattle.cpe_rows.specs.declared.statement.Mode.TheVariants.{Follow};
 ghost use Rattle.cpe_registry.specs.Registered.{items_leading};
-ghost use Rattle.facts.specs.fact_laws.Shown.{name_at};
-ghost use Rattle.kept_facts.specs.Prelude.{AreLive, FitBoards, ids, is_covered, is_maybe, names_at, SameElements, target_ids};
+ghost use Rattle.name_index.specs.product_orders.declared.products.Side.TheVariants as side;
+ghost use Rattle.facts.specs.level_board.Board.{FitsBoard};
+ghost use Rattle.facts.specs.fact_laws.Shown.{name_at, near_names};
+ghost use Rattle.kept_facts.specs.Prelude.{AreLive, board_of, ids, is_met, names_at, target_ids};
 ghost use Rattle.facts.specs.Facts.{LeadsTo};
 ghost use Rattle.facts.specs.Looks.{item_looks};
-ghost use Rattle.verdicts.specs.Items.{AreItemsTo, HasRoomForItem};
+ghost use Rattle.verdicts.specs.Items.{AreItemsTo, ArePassing, HasRoomForItem, items_at};
 ghost use Rattle.verdicts.specs.Rows.{AreOfRows};
 ghost use Rattle.verdicts.specs.Verdicts.{HasVerdicts, SameStatements};
 
 use crate::refresh::refresh;
 use crate::verdicts::Verdicts;
 use cpe_registry::Registry;
-use cpe_rows::{Memory, Wfn};
+use cpe_rows::{List, Memory, Mode, Wfn};
 use facts::Met;
 use kept_facts::{KeptFacts, Wanted};
 use name_index::{NameId, NameTable, Steps};
@@ -91,9 +93,36 @@ impl Verdicts {
         refresh(&mut self.statements, &self.facts);
     }
 
-    /// The numbers of the items that have an end which a name in lower case covers (NIST IR 7696, 7697), in any order, each once
-    /// for each such end. Cost: that of the ends whose product the name's meets, and of the names that lead to those that it
-    /// covers. It counts no steps.
+    /// The items that a name in lower case covers (NIST IR 7696), and those that it may cover, each in the order of items. A step is
+    /// a look at an item: it looks at none twice, and only at items whose product the name's meets.
+    ///
+    /// # Errors
+    /// Only that memory ran out. The bound on steps holds then, too.
+    pub fn items_met<L: Ledger>(
+        &self,
+        alloc: Global,
+        registry: &Registry,
+        name: &Wfn,
+        steps: &mut Steps<L>,
+    ) -> Result<(List<Wfn>, List<Wfn>), Memory>
+        requires lower { IsLower name.now }
+        requires stood { (rows : Rows) × AreOfRows registry.now self.now rows }
+        ensures covered { (rows : Rows) → AreOfRows registry.now self.now rows → IfOk result (λ p. p.0 ≡ filter (covers name.now) rows.items) }
+        ensures maybe { (rows : Rows) → AreOfRows registry.now self.now rows → IfOk result (λ p. p.1 ≡ filter (maybe name.now) rows.items) }
+        ensures steps { (rows : Rows) → AreOfRows registry.now self.now rows → StepsWithin steps.old steps.new (near_names side.Source name.now.product rows.items) }
+    {
+        registry.lawful();
+        self.facts.lawful();
+        let table = registry.table();
+        let found = met(alloc, table, self.facts.boards(), Mode::Plain, name, steps)?;
+        let covered = registry.items_in_order(alloc, &found.covered)?;
+        let maybes = registry.items_in_order(alloc, &found.maybe)?;
+        Ok((covered, maybes))
+    }
+
+    /// The numbers of the items that lead in a mode to a name which a name in lower case covers (NIST IR 7696, 7697), in any order,
+    /// each once for each such name. Cost: that of the items whose product the name's meets; in mode follow that of such ends of
+    /// items, and of the names that lead to the ends that it covers. It counts no steps.
     ///
     /// # Errors
     /// Only that memory ran out.
@@ -101,17 +130,18 @@ impl Verdicts {
         &self,
         alloc: Global,
         registry: &Registry,
+        mode: Mode,
         name: &Wfn,
     ) -> Result<Vec<NameId>, Memory>
         requires lower { IsLower name.now }
         requires stood { (rows : Rows) × AreOfRows registry.now self.now rows }
         ensures live { IfOk result (λ v. AreLive registry.now.table v.items) }
-        ensures items { (rows : Rows) → AreOfRows registry.now self.now rows → IfOk result (λ v. AreItemsTo rows (covers name.now) (names_at registry.now.table v.items)) }
+        ensures items { (rows : Rows) → AreOfRows registry.now self.now rows → IfOk result (λ v. AreItemsTo rows mode (covers name.now) (names_at registry.now.table v.items)) }
     {
-        self.items_met(alloc, registry, name, true)
+        self.items_found(alloc, registry, mode, name, true)
     }
 
-    /// The numbers of the items that have an end which a name in lower case may cover, as [`Verdicts::items_covered`].
+    /// The numbers of the items that lead in a mode to a name which a name in lower case may cover, as [`Verdicts::items_covered`].
     ///
     /// # Errors
     /// Only that memory ran out.
@@ -119,54 +149,75 @@ impl Verdicts {
         &self,
         alloc: Global,
         registry: &Registry,
+        mode: Mode,
         name: &Wfn,
     ) -> Result<Vec<NameId>, Memory>
         requires lower { IsLower name.now }
         requires stood { (rows : Rows) × AreOfRows registry.now self.now rows }
         ensures live { IfOk result (λ v. AreLive registry.now.table v.items) }
-        ensures items { (rows : Rows) → AreOfRows registry.now self.now rows → IfOk result (λ v. AreItemsTo rows (maybe name.now) (names_at registry.now.table v.items)) }
+        ensures items { (rows : Rows) → AreOfRows registry.now self.now rows → IfOk result (λ v. AreItemsTo rows mode (maybe name.now) (names_at registry.now.table v.items)) }
     {
-        self.items_met(alloc, registry, name, false)
+        self.items_found(alloc, registry, mode, name, false)
     }
 
-    // The items that have an end which a name covers, or one which it may cover.
-    fn items_met(
+    // The items that lead in a mode to a name which a name covers, or to one which it may cover.
+    fn items_found(
         &self,
         alloc: Global,
         registry: &Registry,
+        mode: Mode,
         name: &Wfn,
         surely: bool,
     ) -> Result<Vec<NameId>, Memory>
         requires lower { IsLower name.now }
         requires stood { (rows : Rows) × AreOfRows registry.now self.now rows }
         ensures live { IfOk result (λ v. AreLive registry.now.table v.items) }
-        ensures items { (rows : Rows) → AreOfRows registry.now self.now rows → IfOk result (λ v. AreItemsTo rows (cond surely (covers name.now) (maybe name.now)) (names_at registry.now.table v.items)) }
+        ensures items { (rows : Rows) → AreOfRows registry.now self.now rows → IfOk result (λ v. AreItemsTo rows mode (cond surely (covers name.now) (maybe name.now)) (names_at registry.now.table v.items)) }
     {
         registry.lawful();
         self.facts.lawful();
-        let met = met_uncounted(alloc, registry.table(), self.facts.boards(), name)?;
-        items_to_all(alloc, registry, met_ends(&met, surely))
+        let found = met_uncounted(alloc, registry.table(), self.facts.boards(), mode, name)?;
+        items_to(alloc, registry, mode, either_of(found, surely))
     }
 }
 
-// The ends of items that a name covers, and those that it may cover. The ledger is for this call alone: nobody reads its steps.
+// The targets of the board of a mode that a name covers, and those that it may cover.
+fn met<L: Ledger>(
+    alloc: Global,
+    table: &NameTable,
+    boards: &KeptFacts,
+    mode: Mode,
+    name: &Wfn,
+    steps: &mut Steps<L>,
+) -> Result<Met, Memory>
+    requires fits { FitsBoard (board_of boards.now mode) table.now }
+    requires lower { IsLower name.now }
+    ensures covered { IfOk result (λ m. ArePassing table.now (board_of boards.now mode) (covers name.now) m.covered.items) }
+    ensures maybe { IfOk result (λ m. ArePassing table.now (board_of boards.now mode) (maybe name.now) m.maybe.items) }
+    ensures steps { StepsWithin steps.old steps.new (count_by (is_met table.now name.now.product) (ids (target_ids (board_of boards.now mode)))) }
+{
+    boards.board(mode).targets().met(alloc, table, name, steps)
+}
+
+// The same over a ledger for this call alone: nobody reads its steps.
 fn met_over<L: Ledger>(
     alloc: Global,
     table: &NameTable,
     boards: &KeptFacts,
+    mode: Mode,
     name: &Wfn,
     blank: Blank,
 ) -> Result<Met, Memory>
-    requires fits { FitBoards boards.now table.now }
+    requires fits { FitsBoard (board_of boards.now mode) table.now }
     requires lower { IsLower name.now }
     requires ledger { blank.name ≡ L.name }
     requires parts { blank.parts ≡ L.parts }
     requires some { 0 < blank.parts }
-    ensures covered { IfOk result (λ m. SameElements (filter (is_covered table.now name.now) (ids (target_ids boards.now.follow))) m.covered.items) }
-    ensures maybe { IfOk result (λ m. SameElements (filter (is_maybe table.now name.now) (ids (target_ids boards.now.follow))) m.maybe.items) }
+    ensures covered { IfOk result (λ m. ArePassing table.now (board_of boards.now mode) (covers name.now) m.covered.items) }
+    ensures maybe { IfOk result (λ m. ArePassing table.now (board_of boards.now mode) (maybe name.now) m.maybe.items) }
 {
     let mut steps = Steps::<L>::new(blank);
-    boards.ends().met(alloc, table, name, &mut steps)
+    met(alloc, table, boards, mode, name, &mut steps)
 }
 
 // The same for a caller that counts no steps.
@@ -174,18 +225,47 @@ fn met_uncounted(
     alloc: Global,
     table: &NameTable,
     boards: &KeptFacts,
+    mode: Mode,
     name: &Wfn,
 ) -> Result<Met, Memory>
-    requires fits { FitBoards boards.now table.now }
+    requires fits { FitsBoard (board_of boards.now mode) table.now }
     requires lower { IsLower name.now }
-    ensures covered { IfOk result (λ m. SameElements (filter (is_covered table.now name.now) (ids (target_ids boards.now.follow))) m.covered.items) }
-    ensures maybe { IfOk result (λ m. SameElements (filter (is_maybe table.now name.now) (ids (target_ids boards.now.follow))) m.maybe.items) }
+    ensures covered { IfOk result (λ m. ArePassing table.now (board_of boards.now mode) (covers name.now) m.covered.items) }
+    ensures maybe { IfOk result (λ m. ArePassing table.now (board_of boards.now mode) (maybe name.now) m.maybe.items) }
 {
-    met_over::<Brand>(alloc, table, boards, name, Blank::new(1))
+    met_over::<Brand>(alloc, table, boards, mode, name, Blank::new(1))
 }
 
-// The items that lead to these names, those of one after those of another.
-fn items_to_all(alloc: Global, registry: &Registry, ends: &[NameId]) -> Result<Vec<NameId>, Memory>
+// Those that a name covers, or those that it may cover.
+fn either_of(met: Met, surely: bool) -> Vec<NameId>
+    ensures { result.items ≡ cond surely met.covered.items met.maybe.items }
+{
+    let Met { covered, maybe } = met;
+    if surely {
+        return covered;
+    }
+    maybe
+}
+
+// The items that lead in a mode to these names.
+fn items_to(
+    alloc: Global,
+    registry: &Registry,
+    mode: Mode,
+    names: Vec<NameId>,
+) -> Result<Vec<NameId>, Memory>
+    requires { AreLive registry.now.table names.items }
+    ensures live { IfOk result (λ v. AreLive registry.now.table v.items) }
+    ensures names { IfOk result (λ v. names_at registry.now.table v.items ≡ items_at registry.now.entries registry.now.items mode (names_at registry.now.table names.items)) }
+{
+    match mode {
+        Mode::Plain => Ok(names),
+        Mode::Follow => items_to_ends(alloc, registry, &names),
+    }
+}
+
+// The items that lead to these ends, those of one after those of another.
+fn items_to_ends(alloc: Global, registry: &Registry, ends: &[NameId]) -> Result<Vec<NameId>, Memory>
     requires { AreLive registry.now.table ends.now }
     ensures live { IfOk result (λ v. AreLive registry.now.table v.items) }
     ensures names { IfOk result (λ v. names_at registry.now.table v.items ≡ flat_map (items_leading registry.now.entries registry.now.items) (names_at registry.now.table ends.now)) }
@@ -196,11 +276,4 @@ fn items_to_all(alloc: Global, registry: &Registry, ends: &[NameId]) -> Result<V
         all.extend_from_slice(&items)?;
     }
     Ok(all)
-}
-
-// The ends that a name covers, or those that it may cover.
-fn met_ends(met: &Met, surely: bool) -> &[NameId]
-    ensures { result.now ≡ cond surely met.now.covered.items met.now.maybe.items }
-{
-    if surely { &met.covered } else { &met.maybe }
 }

@@ -88,7 +88,7 @@ impl Verdicts {
         requires number { position (is_named (name_in registry.now.table id)) registry.now.entries ≡ Some number }
         ensures { (rows : Rows) → AreOfRows registry.now self.now rows → OnTrue result (IsUnled rows (name_in registry.now.table id)) }
     {
-        if registry.items().len() == 0 && self.statements.len() == 0 {
+        if registry.items_len() == 0 && self.statements.len() == 0 {
             return true;
         }
         match registry.dictionary().deprecation_at(number) {

@@ -6,6 +6,9 @@
 //!
 //! A statement is added or removed, and a deprecation is changed, in two stages: the first takes all memory and changes no verdict
 //! ([`Verdicts::ready_statement`], [`Verdicts::ready_removal`], [`Verdicts::ready_lead`]); the second cannot fail.
+//!
+//! The boards of facts have all items by product, and their ends. So they also find the items that a name meets
+//! ([`Verdicts::items_met`], [`Verdicts::items_covered`]); the registry has the order of items.
 #![tactic(auto)]
 
 mod addition;
@@ -21,7 +24,7 @@ mod truths;
 mod verdicts;
 
 pub use addition::Addition;
-pub use cpe_registry::{FillFault, Items, Registry};
+pub use cpe_registry::{FillFault, Registry};
 pub use lead::Lead;
 pub use removal::Removal;
 pub use verdicts::Verdicts;

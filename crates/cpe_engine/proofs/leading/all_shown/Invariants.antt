@@ -14,5 +14,5 @@ abbrev pub invariant-loop-name : goal.invariant-loop-name
 invariant-loop-name l = record {
   rest : AllByRecursion IsLower (map (λ (n : Bor Values). n.now) (drop l.name-index l.names));
   live : AreLive l.registry.table l.all.items;
-  items : (rows : Rows) → AreOfRows l.registry l.verdicts rows → AreShown rows l.relates (map (λ (n : Bor Values). n.now) (take l.name-index l.names)) (names_at l.registry.table l.all.items);
+  items : (rows : Rows) → AreOfRows l.registry l.verdicts rows → AreShown rows l.mode l.relates (map (λ (n : Bor Values). n.now) (take l.name-index l.names)) (names_at l.registry.table l.all.items);
 }

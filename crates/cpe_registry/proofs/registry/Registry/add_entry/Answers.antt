@@ -13,7 +13,7 @@ pub returns : goal.returns
 returns c =
     let i = c.self.inside in
     let es = entries_in i.table i.dictionary in
-    let items = names_numbered i.table i.items.numbers in
+    let items = names_numbered i.table i.items in
     let e = new_entry (name_in i.table c.args.id) c.args.title c.args.provenance in
     record {
       table = ap (λ (x : Registered). x.table) c.self.view_is;

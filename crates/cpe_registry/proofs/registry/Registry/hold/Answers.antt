@@ -5,8 +5,7 @@ use Rattle.cpe_registry.proofs.registry.Registry.hold.Goals.{After-hold}
 stays : (c : After-hold) → Stays c.self.inside.table c.hold.new.self c.self.inside.dictionary c.self.inside.items
 stays c =
     let i = c.self.inside in
-    stays_held i.table c.hold.new.self i.dictionary i.items c.args.name.now c.hold.result c.self.invariant c.orders_stay.ensures
-    (λ id. c.items_stay.ensures.held i.table c.hold.new.self id c.args.name.now i.items.targets i.items.numbers) c.hold.ensures.held c.hold.ensures.err
+    stays_held i.table c.hold.new.self i.dictionary i.items c.args.name.now c.hold.result c.self.invariant c.orders_stay.ensures c.hold.ensures.held c.hold.ensures.err
 
 pub invariant_of-self : goal.invariant_of-self
 invariant_of-self c = (stays (goal.at.invariant_of-self c).After-hold).fitting

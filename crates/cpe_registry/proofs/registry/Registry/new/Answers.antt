@@ -1,4 +1,6 @@
-use Rattle.std.proofs.Common.{[], arith, refl, sym, subst}
+use Rattle.std.proofs.Common.{[], List, arith, refl, slice_get, sym, ap, subst, ◌∙◌}
+use Rattle.std.proofs.lemmas.Option.{none-some}
+use Rattle.name_index.specs.declared.table.NameId.{NameId}
 use Rattle.name_index.specs.Table.{Names}
 use Rattle.names_in_order.specs.InOrder.{Roll}
 use Rattle.cpe_dictionary.specs.Kept.{Stored}
@@ -12,7 +14,7 @@ invariant_of-result c =
     let fit : AreFitting [] empty c.new-3.result =
     record {
       entries = record { order = c.orders_stay.ensures.empty []; even = refl; kept = record { lawful = c.rows_stay_lawful.ensures.start.dictionary; few = omega arith; numbered = refl } };
-      items = c.new-3.ensures.order [];
+      items = λ k x at. absurd (none-some x (sym (ap (λ (xs : List NameId). slice_get xs k) c.new-3.ensures) ∙ at));
     } in
     subst (λ (t : Names). AreFitting t c.new-2.result c.new-3.result) (sym c.new.ensures)
     (subst (λ (s : Stored). AreFitting [] s c.new-3.result) (sym c.new-2.ensures) fit)

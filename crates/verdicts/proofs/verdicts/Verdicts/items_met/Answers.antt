@@ -1,63 +1,99 @@
-use Rattle.std.proofs.Common.{◌≡◌, ◌∙◌, Bool, true, false, cond, List, filter, sym, ap, subst}
-use Rattle.std.specs.List.{flat_map, list_any}
-use Rattle.std.proofs.lemmas.Result.{IfOk-weaker}
-use Rattle.cpe_rows.specs.cpe_name.Eleven.{Values}
+use Rattle.std.proofs.Common.{◌∙◌, count_by, sym, subst}
+use Rattle.name_index.specs.cpe_steps.Within.{StepsWithin}
 use Rattle.cpe_rows.specs.cpe_relation.Maybe.{maybe}
 use Rattle.cpe_rows.specs.cpe_relation.NameRelation.{covers}
-use Rattle.cpe_rows.specs.Names.{is_same}
-use Rattle.cpe_rows.specs.declared.statement.Mode.TheVariants.{Follow}
-use Rattle.name_index.specs.product_orders.Elements.{SameElements}
-use Rattle.name_index.specs.declared.table.NameId.{NameId}
+use Rattle.name_index.specs.product_orders.declared.products.Side.TheVariants as side
 use Rattle.name_index.specs.Index.{ids}
-use Rattle.name_index.specs.Table.{kept_at, Names}
-use Rattle.facts.specs.level_board.Board.{Board, target_ids}
-use Rattle.facts.specs.fact_laws.Shown.{names_at}
+use Rattle.name_index.specs.declared.table.NameId.{NameId}
+use Rattle.name_index.specs.Table.{kept_at}
+use Rattle.facts.specs.target_index.Targets.{is_met}
+use Rattle.facts.specs.level_board.Board.{FitsBoard, target_ids}
+use Rattle.cpe_rows.specs.Rows.{Rows}
+use Rattle.cpe_rows.specs.declared.statement.Mode.TheVariants.{Plain}
 use Rattle.facts.specs.fact_laws.Asked.{there}
-use Rattle.cpe_registry.specs.Registered.{items_leading}
-use Rattle.kept_facts.specs.Kept.{AreLive, Boards, FitBoards}
+use Rattle.facts.specs.fact_laws.Shown.{near_names}
+use Rattle.kept_facts.specs.Kept.{AreLive, Boards}
+use Rattle.verdicts.specs.Rows.{AreOfRows}
 use Rattle.verdicts.specs.Verdicts.{HasVerdicts, VerdictsNow}
-use Rattle.verdicts.proofs.ItemsTo.{found_live, found_names, led}
+use Rattle.verdicts.proofs.ItemsTo.{found_live, items_near, items_ordered, items_passing, passing_there}
+use Rattle.verdicts.proofs.verdicts.Verdicts.items_met.Given.{Over}
 use Rattle.verdicts.proofs.verdicts.Verdicts.items_met.Goals as goal
+use Rattle.verdicts.proofs.verdicts.Verdicts.items_met.Goals.{After-met}
 
--- these are the ends whose name passes
-abbrev AreMet : Names → Board → (Values → Bool) → List NameId → Type 0
-AreMet table board passes found = SameElements (filter (λ (id : NameId). passes (kept_at table id.0).name) (ids (target_ids board))) found
-
-met_either : (surely : Bool) (shown table : Names) (lent board : Board) (n : Values) (sure possible : List NameId) → shown ≡ table → lent ≡ board → AreMet shown lent (covers n) sure → AreMet shown lent (maybe n) possible
-    → AreMet table board (cond surely (covers n) (maybe n)) (cond surely sure possible)
-met_either true shown table lent board n sure possible e f covered may = subst (λ (t : Names). AreMet t board (covers n) sure) e (subst (λ (b : Board). AreMet shown b (covers n) sure) f covered)
-met_either false shown table lent board n sure possible e f covered may = subst (λ (t : Names). AreMet t board (maybe n) possible) e (subst (λ (b : Board). AreMet shown b (maybe n) possible) f may)
-
-pub met_uncounted-requires-clause-fits : goal.met_uncounted-requires-clause-fits
-met_uncounted-requires-clause-fits c =
-    let rows = c.requires.stood.0 in
-    let h = subst (λ (v : VerdictsNow). HasVerdicts c.args.registry.now.table v rows) (sym c.self.view_is) c.requires.stood.1.verdicts in
-    let fits : FitBoards c.self.inside.facts.boards c.args.registry.now.table = record { plain = h.facts.plain.fits; follow = h.facts.follow.fits } in
-    subst (λ (b : Boards). FitBoards b c.table.result.now) (sym c.boards.ensures) (subst (FitBoards c.self.inside.facts.boards) (sym c.table.ensures) fits)
-
-pub items_to_all-requires : goal.items_to_all-requires
-items_to_all-requires c =
+pub met-requires-clause-fits : goal.met-requires-clause-fits
+met-requires-clause-fits g c =
     let table = c.args.registry.now.table in
-    let board = c.self.inside.facts.boards.follow in
-    let p : Values → Bool = cond c.args.surely (covers c.args.name.now) (maybe c.args.name.now) in
-    let met = met_either c.args.surely c.table.result.now table c.boards.result.now.follow board c.args.name.now c.in_ok-met.met.covered.items c.in_ok-met.met.maybe.items c.table.ensures (ap (λ (b : Boards). b.follow) c.boards.ensures) c.in_ok-met.ensures.covered c.in_ok-met.ensures.maybe in
     let h = subst (λ (v : VerdictsNow). HasVerdicts table v c.requires.stood.0) (sym c.self.view_is) c.requires.stood.1.verdicts in
-    subst (AreLive table) (sym c.met_ends.ensures) (found_live table board (there c.requires.stood.0 Follow) (λ (id : NameId). p (kept_at table id.0).name) (cond c.args.surely c.in_ok-met.met.covered.items c.in_ok-met.met.maybe.items) (c.lawful-2.ensures.on Follow) h.facts.follow.shows.there met)
+    subst (λ (b : Boards). FitsBoard b.plain c.table-table.result.now) (sym c.boards.ensures) (subst (FitsBoard c.self.inside.facts.boards.plain) (sym c.table-table.ensures) h.facts.plain.fits)
 
-pub returns-clause-items : goal.returns-clause-items
-returns-clause-items c rows are =
+module _ (g : Over) (c : After-met g) (rows : Rows) (are : AreOfRows c.args.registry.now c.args.self.now rows) where
+  shown : HasVerdicts c.args.registry.now.table (record { facts = c.self.inside.facts; statements = c.self.inside.statements }) rows
+  shown = subst (λ (v : VerdictsNow). HasVerdicts c.args.registry.now.table v rows) (sym c.self.view_is) are.verdicts
+
+  within : StepsWithin c.args.steps.now c.met.new.steps (near_names side.Source c.args.name.now.product rows.items)
+  within =
+      let table = c.args.registry.now.table in
+      let board = c.self.inside.facts.boards.plain in
+      let asked = c.args.name.now.product in
+      subst (StepsWithin c.args.steps.now c.met.new.steps)
+      ((λ i. count_by (is_met (c.table-table.ensures i) asked) (ids (target_ids (c.boards.ensures i).plain)))
+      ∙ items_near table board rows c.lawful.ensures (c.lawful-2.ensures.on Plain) shown.facts.plain.shows.there are.lawful.items_differ asked)
+      c.met.ensures.steps
+
+pub returns-in_err-found-clause-steps : goal.returns-in_err-found-clause-steps
+returns-in_err-found-clause-steps g c rows are = within g (goal.at.returns-in_err-found-clause-steps g c).After-met rows are
+
+pub items_in_order-covered-requires : goal.items_in_order-covered-requires
+items_in_order-covered-requires g c =
     let table = c.args.registry.now.table in
-    let board = c.self.inside.facts.boards.follow in
-    let p : Values → Bool = cond c.args.surely (covers c.args.name.now) (maybe c.args.name.now) in
-    let found : List NameId = cond c.args.surely c.in_ok-met.met.covered.items c.in_ok-met.met.maybe.items in
-    let met = met_either c.args.surely c.table.result.now table c.boards.result.now.follow board c.args.name.now c.in_ok-met.met.covered.items c.in_ok-met.met.maybe.items c.table.ensures (ap (λ (b : Boards). b.follow) c.boards.ensures) c.in_ok-met.ensures.covered c.in_ok-met.ensures.maybe in
-    let h = subst (λ (v : VerdictsNow). HasVerdicts table v rows) (sym c.self.view_is) are.verdicts in
-    let named = found_names table board (there rows Follow) p found c.lawful.ensures (c.lawful-2.ensures.on Follow) h.facts.follow.shows.there met in
-    IfOk-weaker c.items_to_all.result _ _
-    (λ v is m item.
-    ap (list_any (is_same m))
-    (is
-    ∙ ap (λ (ends : List NameId). flat_map (items_leading c.args.registry.now.entries c.args.registry.now.items) (names_at table ends)) c.met_ends.ensures
-    ∙ (λ i. flat_map (items_leading (sym are.entries i) (sym are.items i)) (names_at table found)))
-    ∙ led rows.entries are.lawful.dictionary.names_differ rows.items p (names_at table found) named m item)
-    c.items_to_all.ensures.names
+    let boards = c.self.inside.facts.boards in
+    let n = c.args.name.now in
+    let rows = c.requires.stood.0 in
+    let h = shown g (goal.at.items_in_order-covered-requires g c).After-met rows c.requires.stood.1 in
+    let found = c.in_ok-found.found.covered.items in
+    subst (AreLive table) (sym c.deref.ensures.value)
+    (found_live table boards.plain (there rows Plain) (λ (id : NameId). covers n (kept_at table id.0).name) found (c.lawful-2.ensures.on Plain) h.facts.plain.shows.there
+    (passing_there c.table-table.result.now table c.boards.result.now boards Plain (covers n) found c.table-table.ensures c.boards.ensures c.in_ok-found.ensures.covered))
+
+pub returns-in_err-covered-clause-steps : goal.returns-in_err-covered-clause-steps
+returns-in_err-covered-clause-steps g c rows are = within g (goal.at.returns-in_err-covered-clause-steps g c).After-met rows are
+
+pub items_in_order-maybes-requires : goal.items_in_order-maybes-requires
+items_in_order-maybes-requires g c =
+    let table = c.args.registry.now.table in
+    let boards = c.self.inside.facts.boards in
+    let n = c.args.name.now in
+    let rows = c.requires.stood.0 in
+    let h = shown g (goal.at.items_in_order-maybes-requires g c).After-met rows c.requires.stood.1 in
+    let found = c.in_ok-found.found.maybe.items in
+    subst (AreLive table) (sym c.deref-2.ensures.value)
+    (found_live table boards.plain (there rows Plain) (λ (id : NameId). maybe n (kept_at table id.0).name) found (c.lawful-2.ensures.on Plain) h.facts.plain.shows.there
+    (passing_there c.table-table.result.now table c.boards.result.now boards Plain (maybe n) found c.table-table.ensures c.boards.ensures c.in_ok-found.ensures.maybe))
+
+pub returns-in_err-maybes-clause-steps : goal.returns-in_err-maybes-clause-steps
+returns-in_err-maybes-clause-steps g c rows are = within g (goal.at.returns-in_err-maybes-clause-steps g c).After-met rows are
+
+pub returns-clause-covered : goal.returns-clause-covered
+returns-clause-covered g c rows are =
+    let r = c.args.registry.now in
+    let boards = c.self.inside.facts.boards in
+    let n = c.args.name.now in
+    let h = shown g (goal.at.returns-clause-covered g c).After-met rows are in
+    let found = c.in_ok-found.found.covered.items in
+    let passing = items_passing r.table boards.plain rows c.lawful.ensures (c.lawful-2.ensures.on Plain) h.facts.plain.shows.there are.lawful.items_differ (covers n) found
+    (passing_there c.table-table.result.now r.table c.boards.result.now boards Plain (covers n) found c.table-table.ensures c.boards.ensures c.in_ok-found.ensures.covered) in
+    items_ordered r rows (covers n) found c.deref.result.now c.in_ok-covered.covered are.items c.deref.ensures.value passing c.in_ok-covered.ensures
+
+pub returns-clause-maybe : goal.returns-clause-maybe
+returns-clause-maybe g c rows are =
+    let r = c.args.registry.now in
+    let boards = c.self.inside.facts.boards in
+    let n = c.args.name.now in
+    let h = shown g (goal.at.returns-clause-maybe g c).After-met rows are in
+    let found = c.in_ok-found.found.maybe.items in
+    let passing = items_passing r.table boards.plain rows c.lawful.ensures (c.lawful-2.ensures.on Plain) h.facts.plain.shows.there are.lawful.items_differ (maybe n) found
+    (passing_there c.table-table.result.now r.table c.boards.result.now boards Plain (maybe n) found c.table-table.ensures c.boards.ensures c.in_ok-found.ensures.maybe) in
+    items_ordered r rows (maybe n) found c.deref-2.result.now c.in_ok-maybes.maybes are.items c.deref-2.ensures.value passing c.in_ok-maybes.ensures
+
+pub returns-clause-steps : goal.returns-clause-steps
+returns-clause-steps g c rows are = within g (goal.at.returns-clause-steps g c).After-met rows are

@@ -3,7 +3,7 @@ use Rattle.std.specs.List.{flat_map}
 use Rattle.facts.specs.fact_laws.Shown.{names_at}
 use Rattle.cpe_registry.specs.Registered.{items_leading}
 use Rattle.kept_facts.specs.Kept.{AreLive}
-use Rattle.verdicts.proofs.items.items_to_all.Given as goal
+use Rattle.verdicts.proofs.items.items_to_ends.Given as goal
 
 abbrev pub invariant-loop-end : goal.invariant-loop-end
 invariant-loop-end l = record {

@@ -1,2 +1,0 @@
-pub mod Stay
-pub mod Changes

@@ -1,4 +1,0 @@
-use Rattle.items_in_order.proofs.names.ItemNames.met_uncounted.Given as goal
-
-abbrev pub ghosts-met_over : goal.ghosts-met_over
-ghosts-met_over a = record { name = a.blank.name; parts = a.blank.parts }
