@@ -13,8 +13,7 @@
 
 A fleet decides as `scan.py` does: all statements are asked of the names of the items as they are and as the dictionary leads them,
 whatever the mode of the statement. What a list doesn't say is UNKNOWN. With --strict it is FALSE if an item says less than an advisory
-asks for. Remarks name the items that have no
-entry, or only a removed one.
+asks for. Remarks name the items that have no entry, or only a removed one.
 
 A fleet writes only verdicts, so it has no gates and no other forms. `affected.sh` and `report.py` take --kev and --epss for what it wrote;
 --fail-on, --since and --format are of `scan.py`.
