@@ -11,9 +11,9 @@ relation is SUBSET by `cpe compare`), it writes
 By NIST IR 7696 such a fact is FALSE: `log4j:2.0` in any update isn't known to be `log4j:2.0` without an update, and `log4j` in any version
 isn't known to be 2.0. The names to which the dictionary leads are compared, or the names as they are if the statement is in mode plain.
 
-A range has any version in its fact. So an item with a version says more there. If it says less in another attribute, such as a plugin
-without its platform, neither name covers the other. With --ranges, which `advisories.sh --ranges` wrote, such an item is compared by its
-version, and listed unless the version is surely outside the range. --letters is that of `decide.py`.
+The fact of a range has no version, so an item with a version says more in this attribute. If it says less in another attribute, such as a
+plugin without its platform, neither name covers the other. With --ranges, which `advisories.sh --ranges` wrote, such an item is compared
+by its version, and listed unless the version is surely outside the range. --letters is that of `decide.py`.
 """
 from __future__ import annotations
 
