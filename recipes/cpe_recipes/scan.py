@@ -42,7 +42,8 @@ evaluates them in portions, with the same verdicts (portions.py). With portions,
 the machines are FALSE without being evaluated (concern.py), unless --all asks for each of them.
 
 A statement holds for a machine if it holds of the names as written, or of those to which the dictionary leads them, of items and of facts.
-calling.py says which names an item has then, and which it perhaps has. What is negated holds only if it holds in each of these ways.
+calling.py says which names an item has in this way, and which it perhaps has. What is negated holds only if it holds in each of these
+ways.
 
 A component may have several names. A verdict is TRUE if one of them makes it so, and FALSE only if all do. negations.py has the rule for
 negated tests.
