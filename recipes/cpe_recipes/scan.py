@@ -38,8 +38,8 @@ What is written:
 - --fail-on: the status is 3 if a verdict fits one of these gates (gates.py, gating.py). --since is the kept result for the term `new`.
 
 cases.py chooses which statements are evaluated for which machine. cpe evaluates them in one run. If cpe can't take all of them at once, it
-evaluates them in portions, with the same verdicts (portions.py). With portions, and with a store, the advisories that can't concern any of
-the machines are FALSE without being evaluated (concern.py), unless --all asks for each of them.
+evaluates them in portions, with the same verdicts (portions.py). In this case, and always with a store, advisories that can't concern any
+of the machines are FALSE without being evaluated (concern.py), unless --all asks for each of them.
 
 A statement holds for a machine if it holds of the names as written, or of those to which the dictionary leads them, of items and of facts.
 calling.py says which names an item has in this way, and which it perhaps has. What is negated holds only if it holds in each of these
