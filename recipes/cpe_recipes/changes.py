@@ -12,9 +12,9 @@ there, or has no items there; the advisory isn't analysed there, is rejected, wa
 could be another verdict, since pages of the dictionary or of the match feed are missing. After an AFTER that a user settled the line has
 the user's reason.
 
-A verdict that is gone without a new one isn't mended. So the status is 1, with a report, if a machine has no items any more, or if an
-advisory was left out or isn't in the feeds. It isn't 1 if an advisory isn't analysed or is rejected. Verdicts of one inventory have no
-MACHINE. The status is 2, and nothing is written, if one of the two files isn't whole.
+A verdict that changes to `none` doesn't show that the machine was mended. So the status is 1, with a report, if a machine has no items any
+more, or if an advisory was left out or isn't in the feeds. It isn't 1 if an advisory isn't analysed or is rejected. Verdicts of one
+inventory have no MACHINE. The status is 2, and nothing is written, if one of the two files isn't whole.
 """
 from __future__ import annotations
 

@@ -6,8 +6,8 @@
 is written from the last notes of its entry. An entry with a deprecation that no note has is left out; no session leaves such an entry. An
 entry is left out too if it has more notes than the line of its record can hold.
 
-If the file is no snapshot, nothing is written, and the status is 2. Whether the rows are lawful isn't checked here. `cpe` refuses the
-records of unlawful rows, and `cpe load` refuses the snapshot.
+If the file is no snapshot, nothing is written, and the status is 2. Whether the rows keep all rules isn't checked here. If they don't,
+`cpe` refuses their records, and `cpe load` refuses the snapshot.
 """
 from __future__ import annotations
 

@@ -1,4 +1,4 @@
-"""A word that keeps no state, over the processors of one machine: sh lines.sh WORD.. < LINES.
+"""Runs a word of cpe that keeps no state on all processors of a machine: sh lines.sh WORD.. < LINES.
 
 WORD.. is unbind, bind fs, bind uri or compare. It writes what `cpe WORD..` writes, with the same numbers of refused lines, and ends with
 its status. GNU parallel runs the workers. The variable WORKERS is the number of workers at a time (else there are as many as processors),

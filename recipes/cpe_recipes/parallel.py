@@ -1,4 +1,4 @@
-"""An inventory of many machines over the processors of this one, with GNU parallel.
+"""Evaluates an inventory of many machines on all processors of this one, with GNU parallel.
 
     sh parallel.sh RECORDS MACHINES [--strict] [--hardware none] [--ranges FILE [--letters FILE] [--matches FILE..] | --decided FILE]
 
@@ -8,8 +8,8 @@
   are FALSE on each of them, and aren't written; a remark counts them.
 - RECORDS: entries, deprecations, statements and results of checks, as the recipes write them.
 - MACHINES: a line for each machine: its name, and the names of its items.
-- --ranges: the ranges of versions that `advisories.sh --ranges` wrote. Each is decided for each machine, as `decide.py` does it, and is
-  the result of the check that waits for it. --decided has what `decide.py` wrote before.
+- --ranges: the ranges of versions that `advisories.sh --ranges` wrote. Each range is decided for each machine, as `decide.py` does it, and
+  its check gets the result. --decided has what `decide.py` wrote before.
 
 A fleet decides as `scan.py` does: all statements are asked of the names of the items as they are and as the dictionary leads them,
 whatever the mode of the statement. What a list doesn't say is UNKNOWN. With --strict it is FALSE if an item says less than an advisory

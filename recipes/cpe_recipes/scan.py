@@ -41,7 +41,7 @@ cases.py chooses which statements are evaluated for which machine. cpe evaluates
 evaluates them in portions, with the same verdicts (portions.py). In this case, and always with a store, advisories that can't concern any
 of the machines are FALSE without being evaluated (concern.py), unless --all asks for each of them.
 
-A statement holds for a machine if it holds of the names as written, or of those to which the dictionary leads them, of items and of facts.
+A statement holds for a machine if it holds of the names of items and facts as written, or of those to which the dictionary leads them.
 calling.py says which names an item has in this way, and which it perhaps has. What is negated holds only if it holds in each of these
 ways.
 

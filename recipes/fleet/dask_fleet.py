@@ -1,5 +1,5 @@
 #!/usr/bin/python3
-"""An inventory of many machines over the workers of a Dask cluster.
+"""Evaluates an inventory of many machines on the workers of a Dask cluster.
 
     python3 dask_fleet.py RECORDS MACHINES [OPTION..] [--workers N] [--block N]     workers on this machine
     python3 dask_fleet.py RECORDS MACHINES [OPTION..] --scheduler tcp://..          those of a cluster elsewhere
