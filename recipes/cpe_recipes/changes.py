@@ -7,10 +7,10 @@ It writes a line for each verdict that differs between the two, unless it is FAL
     gone MACHINE ID BEFORE AFTER        it is FALSE now, or isn't there any more
     changed MACHINE ID BEFORE AFTER     it is another one
 
-BEFORE and AFTER are verdicts, or `none` if there is no verdict. After an AFTER that is `none` the line has the reason: the machine isn't
+BEFORE and AFTER are verdicts, or `none` if there is no verdict. If AFTER is `none`, the line ends with the reason: the machine isn't
 there, or has no items there; the advisory isn't analysed there, is rejected, was left out, or isn't in the feeds; or it is a FALSE that
-could be another verdict, since pages of the dictionary or of the match feed are missing. After an AFTER that a user settled the line has
-the user's reason.
+could be another verdict, since pages of the dictionary or of the match feed are missing. If a user settled AFTER, the line ends with the
+user's reason.
 
 A verdict that changes to `none` doesn't show that the machine was mended. So the status is 1, with a report, if a machine has no items any
 more, or if an advisory was left out or isn't in the feeds. It isn't 1 if an advisory isn't analysed or is rejected. Verdicts of one
