@@ -1,13 +1,13 @@
 #!/usr/bin/env python3
-"""A client of `cpe` over a pipe, for use in programs of your own; docs/PIPE.md says why it does what it does.
+"""A client of `cpe` over a pipe, for use in programs of your own; docs/PIPE.md has the reasons for what it does.
 
     with Client("resolve") as client:
         client.ask('{"do":"entry","name":"cpe:/a:gnu:gnutls:3.8.0"}')    # Answer(number=1, refusal=None, lines=[])
         for answer in client.ask_all(lines_of_a_feed): ..
 
-It serves all words that read lines. Under `save`, which answers none of them, `send` takes the lines, and `end` gives the snapshot.
-As a script it writes for each line its number, and with tabs between them the lines of its answer, and then what comes at the end of
-the input; it passes over empty lines: python3 pipe.py WORD.. < LINES.
+It serves all words that read lines. Under `save`, which answers no line, `send` takes the lines, and `end` returns the snapshot. As a
+script it writes for each line its number and the lines of its answer, with tabs between them. At the end it writes what `cpe` writes at
+the end of the input. It passes over empty lines: python3 pipe.py WORD.. < LINES.
 """
 import collections
 import contextlib

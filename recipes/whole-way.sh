@@ -1,7 +1,7 @@
 #!/bin/sh
-# The whole way, from what NVD and the makers of software lists publish to the advisories that concern this inventory:
-# sh whole-way.sh DICTIONARY ADVISORIES INVENTORY [MATCHES]. It is scan.py over one machine, whose ranges of versions are decided.
-# The status is 1 where something was left out, which is said, and 2 where there is no result.
+# The whole way, from NVD's feeds and a software list to the advisories that concern this machine:
+# sh whole-way.sh DICTIONARY ADVISORIES INVENTORY [MATCHES]. It is scan.py for one machine.
+# The status is 1 if something was left out, which is reported, and 2 if there is no result.
 case ${1-} in --help | -h) sed -n '2,4s/^# //p' "$0"; exit ;; esac
 case $# in
 3 | 4) ;;

@@ -82,7 +82,7 @@ makes_tables() {
     echo 'affected.sh: torn.out: no whole table of verdicts: there are 3 of 4 verdicts' > "$room/wanted.said"
     affected ', of a run that was torn off' 2 /dev/null "$room/wanted.said" "$room/torn.out"
     sed '$d' "$samples/machines.out" > "$room/torn.out"
-    echo 'affected.sh: torn.out: no whole table of verdicts: cpe evaluate, or a fleet, has not come to its end' > "$room/wanted.said"
+    echo 'affected.sh: torn.out: no whole table of verdicts: cpe evaluate, or a fleet, has not ended' > "$room/wanted.said"
     affected ', of a fleet that was torn off' 2 /dev/null "$room/wanted.said" "$room/torn.out"
     sed -n '/^verdicts /,$p' examples/inventory.out > "$room/unrefused.out"
     affected ', of a run without refused lines' 0 "$samples/table.out" /dev/null "$room/unrefused.out"
@@ -212,7 +212,7 @@ evaluates_ranges() {
     mv "$room/changed.out" "$room/ranged.out"
     redis='cpe:2.3:a:redislabs:redis:6.2.5:*:*:*:*:*:*:*'
     {
-        echo "remark not in the dictionary desk-1 $redis goes on as redis:redis"
+        echo "remark not in the dictionary desk-1 $redis now called redis:redis"
         echo "remark desk-1: $redis is not in the dictionary, and may be cpe:2.3:a:redis:redis:6.2.5:*:*:*:*:*:*:*"
     } >> "$room/ranged.said"
     sort -o "$room/ranged.said" "$room/ranged.said"

@@ -2,27 +2,26 @@
 
     sh advisories.sh [--ranges FILE] [--details FILE] [--partial] [--large] [FILE..] > records
 
-A statement has the id of its CVE, follows deprecations, and is TRUE where one of the configurations holds with a vulnerable
-product there.
+A statement has the id of its CVE, and follows deprecations. It is TRUE if one of the configurations holds, and has a vulnerable product on
+the machine.
 
-- A configuration has nodes, and a node has matches, and perhaps nodes as its `children`; `operator` and `negate` of each are those
-  of the test, and each match is a fact. Where the logic of a configuration could hold without any product that is marked as vulnerable, the vulnerable ones
-  are asked for beside it.
-- A range of versions is no name: it becomes the product in any version AND a check, whose key is NVD, cpeMatch and the id of
-  the match. So the statement is FALSE where the product isn't there and no other fact holds, and UNKNOWN where it is, until a
-  record `check` tells whether a version in the range is there. The ranges go into a file of their own, for decide.py.
-- An advisory without configurations isn't analysed yet, and has no statement; how many there are is remarked (unanalysed.py).
-- Of an advisory that comes more than once that counts which was modified last (latest.py). Where two tell the same time, and aren't the
-  same, what the later one in the files has beside the first is UNKNOWN, and said.
-- What can't be read in an advisory (a bad name, a bound that is none, a configuration of another form beside good ones) becomes
-  a check that stays UNKNOWN, so it hides nothing that stands beside it, and is said.
-- An advisory of more names than a line has room for becomes several statements, CVE-..#2 and so on, of which one is TRUE where
-  the whole would be: an OR of ids needs nothing but the table to be put together again, where an OR over checks would have to
-  be asked twice.
+- A configuration has nodes, and a node has matches, and perhaps nodes as its `children`. The test has the `operator` and `negate` of each,
+  and each match is a fact. If a configuration could hold without a product that is marked as vulnerable, the statement also asks for one
+  of its vulnerable products.
+- A range of versions is no name. It becomes the product in any version AND a check with the key NVD, cpeMatch and the id of the match. So
+  the statement is FALSE if the product isn't there and no other fact holds. It is UNKNOWN if the product is there, until a record `check`
+  gives the result: whether a version in the range is there. The ranges are written into a file of their own, for decide.py.
+- An advisory without configurations isn't analysed yet, and has no statement. A remark counts such advisories (unanalysed.py).
+- If an advisory is there several times, the one that was modified last counts (latest.py). If two have the same time and differ, what only
+  the later one in the files has is UNKNOWN, and reported.
+- What can't be read in an advisory (a bad name, a bad bound, a configuration of another form beside good ones) becomes a check that stays
+  UNKNOWN, and is reported. So it hides nothing else of the advisory.
+- An advisory of more names than a line can hold becomes several statements, CVE-..#2 and so on. One of them is TRUE if the whole would be.
+  (So the tables can join them by their ids; an OR over checks would have to be asked twice.)
 
---ranges is where the ranges go, and --details where scores and titles go, by id, for affected.sh. What is left out is said, and
-the status is 1. A feed in which there is no vulnerability at all is refused, and so is one of which pages are missing, as they say
-themselves; --partial lets it pass, and what is missing is said.
+--ranges names the file for the ranges. --details names the file for scores and titles, by id, which affected.sh reads. What is left out is
+reported, and the status is 1. A feed without any vulnerability is refused. So is a feed of which pages are missing by their own numbers;
+--partial accepts it, and what is missing is reported. --large accepts pages that unpack to any size (unpack.py).
 """
 from __future__ import annotations
 
@@ -71,7 +70,7 @@ def is_bound(text: str) -> bool:
 
 @dataclass(frozen=True)
 class Range:
-    """A range of versions of what a name covers, and the id of the check that stands for it."""
+    """A range of versions of what a name covers, and the id of the check that is in its place."""
 
     key: str
     criteria: str
@@ -153,7 +152,7 @@ class Node:
     def of(node: Json, depth: int = 0) -> Node:
         """The node; FormFault where it isn't of the published form."""
         if depth > MOST_NODES_DEEP:
-            raise FormFault("nodes that stand too deep in one another")
+            raise FormFault("nodes that are nested too deep")
         children = [Node.of(child, depth + 1) for child in members(node, "children")]
         given = members(node, "cpeMatch") if children else _filled(node, "cpeMatch", "a node without matches")
         return Node(_operator(node), _flag(node, "negate"), [Match.of(match) for match in given], children)
@@ -335,7 +334,7 @@ class _Converter:
         for other in others:
             self._at = other
             more, key = self._tests(other), f"{other.id} {other.source.place(other.number)}"
-            what = f"it isn't as {first.source.place(first.number)}, and neither tells to be later"
+            what = f"it isn't as {first.source.place(first.number)}, and neither says that it is later"
             if more:
                 tests.append({"op": "AND", "of": [{"op": "OR", "of": more}, _check(CONFIGURATION, key)]})
                 self._stand_in(other.id, what, key)
@@ -406,7 +405,7 @@ class _Converter:
 
     def _stand_in(self, id: str, what: str, key: str) -> None:
         self._put_stand_in(key, what)
-        self._leave_out(id, f"{what}: the check {quoted(key)} stands for it")
+        self._leave_out(id, f"{what}: the check {quoted(key)} is in its place")
 
     def _configuration(self, id: str, configuration: Configuration) -> Test:
         test = _logic(configuration, [self._node(id, node) for node in configuration.nodes])
@@ -449,7 +448,7 @@ class _Converter:
             if not self._is_decided:
                 bounds = match.range(key).words()
                 what = f"versions of {quoted(match.criteria)} {quoted(bounds)}"
-                self._said.remark(f"{what}: the check {quoted(key)} stands for them", id)
+                self._said.remark(f"{what}: the check {quoted(key)} is in their place", id)
 
     def _statements(self, id: str, tests: list[Test]) -> Iterator[Candidate]:
         """A statement, or several where it has more names than a line has room for."""

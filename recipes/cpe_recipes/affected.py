@@ -3,20 +3,21 @@
     sh affected.sh [--details FILE] [--suppress FILE] [--settled FILE] [--records FILE] [--ranges FILE] [--decided FILE]
         [--kev FILE] [--epss FILE] [FILE]
 
-It has the advisories that are TRUE, then those that are ERROR and UNKNOWN, machine by machine, and how many there are of each
-verdict. A machine without items is told as such.
+For each machine the table has the advisories that are TRUE, then those that are ERROR and UNKNOWN. At the end it counts the verdicts of
+each kind. A machine without items is reported.
 
-- --details: scores and titles by id, which `advisories.sh --details` wrote. What scores highest comes first.
-- --suppress: accepted ids, lines `ID MACHINE REASON`, with * for every machine. They are told below the table.
-- --settled: UNKNOWNs that a user settled, lines `MACHINE ID TRUE|FALSE REASON`, with * for every machine (settled.py).
-- --records: the records that were asked. What an UNKNOWN hangs on is told: the checks of its statement that have no result
-  there, nor in --decided, which `decide.py` wrote. With --ranges, which `advisories.sh --ranges` wrote, a range is told by its
-  product and bounds.
-- --kev, --epss: CISA's list of known exploited vulnerabilities, and EPSS (threats.py), which get columns. What is known to be exploited
-  comes first then, and of the same scores what has the highest EPSS.
+- --details: scores and titles by id, which `advisories.sh --details` wrote. The highest score is first.
+- --suppress: accepted advisories, lines `ID MACHINE REASON`, where * is every machine. They are written below the table.
+- --settled: UNKNOWNs that a user settled, lines `MACHINE ID TRUE|FALSE REASON`, where * is every machine (settled.py).
+- --records: the records that were evaluated. With them the table has what an UNKNOWN depends on: the checks of its statement that have no
+  result in the records or in the file of --decided, which `decide.py` wrote. With --ranges, which `advisories.sh --ranges` wrote, it has
+  the product and bounds of such a range.
+- --kev, --epss: CISA's list of known exploited vulnerabilities, and EPSS (threats.py). They get columns. The known exploited are first
+  then, and among equal scores the highest EPSS.
 
-Each option but these two may be given more than once. The status is 1 where lines of the records were refused, machines have no items, or a
-line of --suppress or --settled is none, and 2 where the verdicts aren't whole, since the run ended before its end. Nothing is written then.
+Each option except these two may be given several times. The status is 1 if lines of the records were refused, if machines have no items,
+or if a line of --suppress or --settled is wrong. It is 2, and nothing is written, if the verdicts aren't whole since their run was cut
+off.
 """
 from __future__ import annotations
 

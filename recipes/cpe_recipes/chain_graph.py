@@ -1,12 +1,12 @@
 """Where deprecations lead from names, as a graph in DOT: sh chain-graph.sh [--svg FILE] RECORDS NAME...
 
-RECORDS are those of `cpe resolve`, and each NAME is one in either binding. Each entry to which paths of successors lead stands in the
-graph once, with an arrow for each successor that tells the kind of the deprecation; names to which nothing more leads have a double
-edge, and removed ones a dashed one. With --svg the program `dot` of Graphviz draws the graph into that file, too.
+RECORDS are those of `cpe resolve`, and each NAME is in either binding. The graph has each entry to which successors lead, once, with an
+arrow for each of its successors, labelled with the kind of the deprecation. A name that leads nowhere has a double edge, and a removed
+name a dashed one. With --svg the program `dot` of Graphviz also draws the graph into that file.
 
     sh chain-graph.sh records.jsonl cpe:/a:mysql:mysql:5.1.73 | dot -Tsvg > chain.svg
 
-The status is 1 where records were refused, and 2 where a name is none.
+The status is 1 if records were refused, and 2 if a NAME is no name.
 """
 from __future__ import annotations
 

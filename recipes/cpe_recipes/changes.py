@@ -1,17 +1,20 @@
 """What changed between two sets of verdicts: sh changes.sh BEFORE AFTER. They are of `cpe evaluate`, of a fleet, or of
 `scan.py --json`.
 
-It writes a line for each verdict that isn't FALSE on one side at least, and isn't the same on both:
+It writes a line for each verdict that differs between the two, unless it is FALSE or missing in both:
 
     new MACHINE ID BEFORE AFTER         it was FALSE, or wasn't there
     gone MACHINE ID BEFORE AFTER        it is FALSE now, or isn't there any more
     changed MACHINE ID BEFORE AFTER     it is another one
 
-BEFORE and AFTER are truths, or `none` where there is no verdict, and behind an AFTER that is `none` stands why: the machine isn't there,
-or has no items there; the advisory isn't analysed there, is rejected, was left out, or isn't in the feeds; or there is a FALSE that could
-be another verdict, since pages of the dictionary or of the match feed are missing. Behind an AFTER that a user settled stands the reason.
-What is gone without a verdict isn't mended. It is said, and the status is 1, where a machine has no items any more, and where an advisory
-was left out or isn't in the feeds; not where it isn't analysed, or rejected. Verdicts of one inventory have no MACHINE. The status is 2, and nothing is written, where a side isn't whole.
+BEFORE and AFTER are verdicts, or `none` if there is no verdict. If AFTER is `none`, the line ends with the reason: the machine isn't
+there, or has no items there; the advisory isn't analysed there, is rejected, was left out, or isn't in the feeds; or it is a FALSE that
+could be another verdict, since pages of the dictionary or of the match feed are missing. If a user settled AFTER, the line ends with the
+user's reason.
+
+A verdict that changes to `none` doesn't show that the machine was mended. So the status is 1, with a report, if a machine has no items any
+more, or if an advisory was left out or isn't in the feeds. It isn't 1 if an advisory isn't analysed or is rejected. Verdicts of one
+inventory have no MACHINE. The status is 2, and nothing is written, if one of the two files isn't whole.
 """
 from __future__ import annotations
 

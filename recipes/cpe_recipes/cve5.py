@@ -126,7 +126,7 @@ def _versions(affected: Json, name: str) -> Iterator[tuple[Mapping[str, str], st
         status = text_at(entry, "status")
         if status == "affected":
             bounds, doubt = _bounds(entry)
-            yield bounds, doubt or ("" if is_first else "versions of another status stand before it")
+            yield bounds, doubt or ("" if is_first else "versions of another status are before it")
         else:
             is_first = False
             if status != "unaffected":
@@ -151,13 +151,13 @@ def _bounds(entry: Json) -> tuple[Mapping[str, str], str]:
         if version in _ALL:
             return {}, ""
         if not _is_version(version):
-            return {}, f"its versions are told as {version or 'nothing'}"
+            return {}, f"its versions are given as {version or 'nothing'}"
         return {"versionStartIncluding": version, "versionEndIncluding": version}, ""
     end = before if before is not None else to or ""
     if type not in _ORDERED:
         return {}, f"no order is stated of its versions from {version} to {end} ({type or 'no versionType'})"
     if not (version in _BEGINNING or _is_version(version)) or not (end == "*" or _is_version(end)):
-        return {}, f"its versions are told as {version} to {end}"
+        return {}, f"its versions are given as {version} to {end}"
     bounds = {} if version in _BEGINNING else {"versionStartIncluding": version}
     if end != "*":
         bounds["versionEndExcluding" if before is not None else "versionEndIncluding"] = end

@@ -1,22 +1,22 @@
-"""Which ranges of versions have a version on which machine: what the checks wait for that advisories.py puts in their place.
+"""Which ranges of versions have a version of which machine: the results of the checks that advisories.py writes for ranges.
 
-For each range and machine, where the name of the range covers an item of the machine or an end that the item leads to:
+A range is decided for a machine if the name of the range covers an item of the machine, or a name to which the dictionary leads the item.
 
-1. TRUE where the match feed's own list for that match has the item or an end of it;
-2. else TRUE where the version of some end is in the range, by all orders that it may have, and FALSE where that of none is;
-3. where not all orders lead to the same (versions.py), there is no answer, and it is said: the check stays UNKNOWN.
+1. It is TRUE if the match feed's own list for that match has one of these names.
+2. Else it is TRUE if one of their versions is in the range by all orders that the version may have, and FALSE if none is by any.
+3. If the orders lead to different results, there is no result, and that is reported: the check stays UNKNOWN (versions.py).
 
-Which order a version has is told by the kind of the component, if its list says it. The order of `cpe advise` is one of those that are
-possible where nothing is said, and what it makes of a range is asked of cpe.
+The kind of the component, if its list has it, decides which order a version has. If there is no kind, the order of `cpe advise` is one of
+the possible ones, and cpe is asked for its result.
 
-An end that is known in part, since its name has a pattern, may be covered by the name of the range. Then the answer is FALSE where
-all versions that its pattern begins with are outside, and else there is none.
+A name with a pattern is known in part, and the name of the range may cover it. Then the result is FALSE if all versions that the pattern
+begins are outside the range. Otherwise there is no result.
 
     python3 decide.py --ranges FILE.. --records FILE.. --machines FILE [--names FILE] [--matches FILE..] [--letters FILE]
 
-The ranges are those of `advisories.sh --ranges`, the records have the entries and deprecations by which names lead on, the
-machines are a line each: a name and names of items. For each check that it decides on a machine, it writes a line: machine, id of the
-check, TRUE or FALSE, separated by tabs.
+The ranges are those of `advisories.sh --ranges`. The records have the entries and deprecations of a dictionary. The file of machines has a
+line for each: its name, and the names of its items. For each check that is decided on a machine a line is written: the machine, the id of
+the check, and TRUE or FALSE, separated by tabs.
 """
 from __future__ import annotations
 

@@ -1,18 +1,18 @@
 """From NVD's API 2.0 to a dictionary: the JSON of /rest/json/cpes/2.0 (products) or /rest/json/cpematch/2.0 (matchStrings)
-to records `entry` and `deprecate`. All entries come before all deprecations.
+to records `entry` and `deprecate`. All entries are written before all deprecations.
 
     sh dictionary.sh [--partial] [--large] [FILE..] > records
 
-- A product is an entry with its English title, and the day on which it was created as its original record. The names that
-  a match string matches are entries without title. A name that comes again is there already, and nothing is said. Of a product
-  that comes again with another `lastModified` the later counts, whichever comes first.
-- The successors of a deprecated product are those of its own `deprecatedBy` and the products that say that they deprecate
-  it. The API tells no kind of a deprecation: with no successor it is NAME_REMOVAL, with one NAME_CORRECTION, with several
-  ADDITIONAL_INFORMATION. It tells no date either: that of the last change of the product is taken.
-- A pattern with its range of versions is no name of a dictionary: of a match string only its matches are read.
+- A product becomes an entry with its English title. The day on which it was created is its original record. The names that a match string
+  matches become entries without a title. A name is written once, and its repetitions are not reported. If a product is there several
+  times, the one with the latest `lastModified` counts, whichever is first.
+- The successors of a deprecated product are those of its own `deprecatedBy`, and the products that say that they deprecate it. The API
+  gives no kind of a deprecation: without a successor the recipe writes NAME_REMOVAL, with one NAME_CORRECTION, with several
+  ADDITIONAL_INFORMATION. The API gives no date either: the recipe writes that of the last change of the product.
+- A pattern with its range of versions is no name of a dictionary. So of a match string only its matches are read.
 
-What is left out is said, and the status is 1. A feed in which there is no record at all is refused, and so is one of which pages are
-missing, as they say themselves; --partial lets it pass, and what is missing is said. --large lets pages unpack to as much as they do (unpack.py).
+What is left out is reported, and the status is 1. A feed without any record is refused. So is a feed of which pages are missing by their
+own numbers; --partial accepts it, and what is missing is reported. --large accepts pages that unpack to any size (unpack.py).
 """
 from __future__ import annotations
 

@@ -92,7 +92,7 @@ def _probabilities(lines: Sequence[str], behind: int, name: str, said: Said) -> 
         if id in found:
             if found[id] != (epss, percentile):
                 raise FeedFault(f"line {number} has {id} again, with other numbers")
-            said.remark(f"{name}: {id} comes twice, with the same numbers")
+            said.remark(f"{name}: {id} is there twice, with the same numbers")
         found[id] = Probability(epss, percentile)
     return found
 

@@ -138,7 +138,7 @@ def _note_state(feed: str, number: int, line: str, results: set[str]) -> None:
         return
     word = record.get("do") if isinstance(record, dict) else None
     if word == "item":
-        raise Fatal(f"{feed} line {number}: an item stands among the records; items belong to machines")
+        raise Fatal(f"{feed} line {number}: an item is among the records; items belong to machines")
     if word in ("check", "drop-check") and (record.get("system"), record.get("href")) == ("NVD", "cpeMatch"):
         key = record.get("id")
         if isinstance(key, str):
@@ -338,6 +338,6 @@ def say_told(said: Said, machine: str, has_items: bool, left_out: list[tuple[str
 
 
 def say_missing(said: Said, machines: list[Asked], why: str) -> None:
-    """Machines whose worker came to no end."""
+    """Machines whose worker did not end."""
     names = machines[0].name if len(machines) == 1 else f"{machines[0].name} to {machines[-1].name}"
     said.left_out(names, f"{len(machines)} machines, {why}" if len(machines) > 1 else why)

@@ -1,14 +1,13 @@
-"""The records of a snapshot that `cpe save` wrote: sh from-snapshot.sh SNAPSHOT. Records that come after them go on where the
-saved session ended:
+"""The records of a snapshot that `cpe save` wrote: sh from-snapshot.sh SNAPSHOT. Records after them continue the saved session:
 
     { sh from-snapshot.sh inventory.snapshot; cat new.jsonl; } | cpe watch
 
-`cpe save` makes the same snapshot of them. Deprecations come after all entries, those of successors first. A deprecation is written
-from the last notes of its entry. An entry with a deprecation that no note has is left out; no session leaves one. An entry is left out
-too if it has more notes than the line of its record has room for.
+`cpe save` makes the same snapshot of these records. Deprecations are written after all entries, those of successors first. A deprecation
+is written from the last notes of its entry. An entry with a deprecation that no note has is left out; no session leaves such an entry. An
+entry is left out too if it has more notes than the line of its record can hold.
 
-If the file is no snapshot, nothing is written, and the status is 2. Whether its rows are lawful isn't checked here. `cpe` refuses the
-records of rows that aren't, and `cpe load` refuses the snapshot.
+If the file is no snapshot, nothing is written, and the status is 2. Whether the rows keep all rules isn't checked here. If they don't,
+`cpe` refuses their records, and `cpe load` refuses the snapshot.
 """
 from __future__ import annotations
 
@@ -169,7 +168,7 @@ def records(rows: Rows, said: Said) -> Iterator[Row]:
     cuts = [_first_change(row) for row in rows.entries]
     for row, cut in zip(rows.entries, cuts):
         if cut is None:
-            said.left_out(row["name"], "it is deprecated, and no note tells so")
+            said.left_out(row["name"], "it is deprecated, and no note says so")
             continue
         provenance = {"submitter": row["submitter"], "authority": row["authority"], "changes": row["changes"][:cut]}
         yield {"do": "entry", "name": row["name"], "title": row["title"], "provenance": provenance}

@@ -1,23 +1,22 @@
 """From software lists to an inventory: lists of CycloneDX, SPDX, Syft, Trivy and npm as JSON, plain lists, and what package managers
-write of what is installed, to records `item`.
+write of installed packages, to records `item`.
 
     sh inventory.sh [--names FILE] [FILE..] > records
     sh inventory.sh --machines FILE.. > machines.txt
 
-- Of a component all names are taken that its list gives for it. lists/ has a module for each form, which says what it reads.
-- A plain list: a name in each line, in either binding, or a package URL; after a # that begins a line or stands after a space is a
-  comment.
-- A name that comes again, in whatever binding and letter case, is one item, and nothing is said.
-- A package URL gets the names that names.txt has for it, and those of the table of --names (names_table.py). With --machines it stays as
-  it is, and who reads the lines looks for its names, in the dictionary too (naming.py).
+- All names that a list gives for a component are read. lists/ has a module for each form, which says what it reads.
+- A line of a plain list is a name in either binding, or a package URL. A # at the beginning of a line, or after a space, begins a comment.
+- A name that is there again, in whatever binding and letter case, is one item, and its repetitions are not reported.
+- A package URL gets the names that names.txt and the table of --names have for it (names_table.py). With --machines it is written as it
+  is, and the recipe that reads the lines looks for its names, in the dictionary too (naming.py).
 
-What has no name, or none that can be an item, is said, and so is how many texts look like names and stand where none is read.
-Lists of another form are named and refused, and so is what has no item: an inventory of which nothing was read would look as if
-nothing were affected.
+A component without a name, or without a name that can be an item, is reported. So is the number of texts that look like names at places
+where none is read. A list of another form is refused, with its form. A list without any item is refused too, since an inventory of which
+nothing was read would look as if nothing were affected.
 
-The records have all names of a component side by side. With --machines each list is that of a machine, which is called as its file
-is, without its endings. It writes a line for each, as components.py says, which keeps the names of a component together. A machine
-without items has its line too, and is said.
+The records have all names of a component side by side. With --machines each list is that of a machine, which gets the name of its file
+without endings. A machine becomes a line, which keeps the names of a component together (components.py). A machine without items has its
+line too, and is reported.
 """
 from __future__ import annotations
 

@@ -57,7 +57,7 @@ def read_kev(path: str, said: Said) -> Kev:
         for place, row in rows:
             id, exploited = _row(place, row)
             if found.setdefault(id, exploited) is not exploited:
-                said.remark(f"{name}: {id} comes twice, and its first {place.split()[0]} counts")
+                said.remark(f"{name}: {id} is there twice, and its first {place.split()[0]} counts")
     except FeedFault as fault:
         raise Fatal(f"{name}: it isn't CISA's list of known exploited vulnerabilities: {fault}") from fault
     if not found:

@@ -69,8 +69,8 @@ class Latest:
 
 
 def told(count: int, one: str, more: str) -> str:
-    """That so many come more than once, in words."""
-    return f"{count:,} {f'{one} comes' if count == 1 else f'{more} come'} more than once: the last modified counts"
+    """The sentence that this many records are there more than once."""
+    return f"{count:,} {f'{one} is' if count == 1 else f'{more} are'} there more than once: the last modified counts"
 
 
 def advisories(pages: Iterable[Page], said: Said) -> list[Page]:

@@ -1,9 +1,9 @@
-"""A word that keeps no state, over the processors of one machine: sh lines.sh WORD.. < LINES.
+"""Runs a word of cpe that keeps no state on all processors of a machine: sh lines.sh WORD.. < LINES.
 
-WORD.. is unbind, bind fs, bind uri or compare. It writes what `cpe WORD..` writes, with the same numbers of refused lines, and
-ends with its status. GNU parallel runs the workers; WORKERS is how many there are at a time (else as many as processors), PIECE
-how many lines each takes. A piece whose worker dies is done again, up to three times; where it dies each time the others still
-come out, that is said, and the status is 5.
+WORD.. is unbind, bind fs, bind uri or compare. It writes what `cpe WORD..` writes, with the same numbers of refused lines, and ends with
+its status. GNU parallel runs the workers. The variable WORKERS is the number of workers at a time (else there are as many as processors),
+and PIECE the number of lines that each takes. If a worker dies, its piece is done again, up to three times. If it dies each time, the
+other pieces are still written, the fault is reported, and the status is 5.
 """
 from __future__ import annotations
 
@@ -36,7 +36,7 @@ def run(words: Sequence[str]) -> int:
         is_refused = False
         for number, piece in enumerate(pieces):
             if not workers.is_done(piece):
-                said.left_out(f"lines {number * most + 1} to {(number + 1) * most}", "their worker came to no end")
+                said.left_out(f"lines {number * most + 1} to {(number + 1) * most}", "their worker did not end")
             elif Path(f"{piece}.refused").exists():
                 is_refused = True
                 write_all(1, _renumbered(Path(f"{piece}.out").read_bytes(), number * most), "the output")

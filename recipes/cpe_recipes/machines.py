@@ -42,7 +42,7 @@ def _machine(line: bytes, where: str) -> Machine | None:
         try:
             values = list(values_of(line, is_strict=True))
             if len(values) != 1:
-                raise FormFault("something stands behind it")
+                raise FormFault("something follows it")
             return machine_of(values[0])
         except (FeedFault, FormFault) as fault:
             raise Fatal(f"{where}: no machine: {fault}") from fault
@@ -103,4 +103,4 @@ def _put(machines: dict[str, Machine], machine: Machine, said: Said) -> None:
     known = machines.setdefault(machine.name, machine)
     if known is not machine:
         known.add(machine)
-        said.remark(f"{machine.name} comes more than once, and has the items of each")
+        said.remark(f"{machine.name} is there more than once, and has the items of each")

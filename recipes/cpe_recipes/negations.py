@@ -137,5 +137,5 @@ def has_hardware(words: Words) -> bool:
     """Whether there is hardware to ask for, by the words of a recipe."""
     said = words.one("--hardware")
     if said not in (None, "none"):
-        raise Fatal(f"--hardware is {said}, and none alone can be said of it")
+        raise Fatal(f"--hardware is {said}, and it can only be none")
     return said is None

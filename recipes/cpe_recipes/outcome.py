@@ -184,7 +184,7 @@ def tell_items(
             if lead.is_removed():
                 said.remark(f"under a removed name {name} {lead.name}")
             elif lead.name in unlisted and goes_on:
-                said.remark(f"not in the dictionary {name} {lead.name} goes on as {' '.join(map(':'.join, goes_on))}")
+                said.remark(f"not in the dictionary {name} {lead.name} now called {' '.join(map(':'.join, goes_on))}")
             elif lead.name in firsts:
                 strange.add(lead.name)
                 where.add(name)

@@ -18,8 +18,8 @@ MOST_OPEN = 300
 MOST_MISSING = 12
 _MEANINGS = {
     "TRUE": "the machine is affected",
-    "ERROR": "a check came to no result",
-    "UNKNOWN": "the feeds and lists don't tell",
+    "ERROR": "a check has no result",
+    "UNKNOWN": "the feeds and lists don't say",
     ACCEPTED: "someone accepted it, with a reason",
     SETTLED: "someone settled it as FALSE, with a reason",
     "FALSE": "not affected; not listed here",
@@ -81,7 +81,7 @@ def _machine_count(number: int) -> str:
 def _unanalysed(scanned: Scanned) -> str:
     """How many advisories have no verdict, in words."""
     number = scanned.unanalysed
-    return f" {_advisory_count(number)} {'is' if number == 1 else 'are'} not analysed yet, and told of no machine." if number else ""
+    return f" {_advisory_count(number)} {'is' if number == 1 else 'are'} not analysed yet, without a verdict." if number else ""
 
 
 def _changed(changed: Sequence[str] | None) -> Iterator[str]:
@@ -265,8 +265,8 @@ def _legend() -> str:
     lines = "".join(f"<dt>{group}<dd>{_MEANINGS[group]}" for group in (*GROUPS, "FALSE"))
     return (
         f'<footer><h2>How to read it</h2><dl>{lines}</dl>\n'
-        "<p>Beside a machine stands what its verdict hangs on, or which items make it TRUE, where the scan tells it; "
-        "<code>scan.py --why</code> tells the items.</p>\n"
-        "<p>Perhaps meant: an item says less than an advisory asks for, which is UNKNOWN there, or FALSE with <code>--strict</code>; "
+        "<p>Beside a machine is what its verdict depends on, or which items make it TRUE, if the scan has that; "
+        "<code>scan.py --why</code> adds the items.</p>\n"
+        "<p>Perhaps meant: an item says less than an advisory asks for, so the verdict is UNKNOWN, or FALSE with <code>--strict</code>; "
         "the JSON lists them. Not in the dictionary: <code>unlisted.sh</code> and the JSON list them.</p></footer>\n"
     )

@@ -1,4 +1,4 @@
-"""An inventory of many machines over the processors of this one, with GNU parallel.
+"""Evaluates an inventory of many machines on all processors of this one, with GNU parallel.
 
     sh parallel.sh RECORDS MACHINES [--strict] [--hardware none] [--ranges FILE [--letters FILE] [--matches FILE..] | --decided FILE]
 
@@ -7,22 +7,23 @@
 - --store: in place of RECORDS, ranges and matches, a folder in which store.py keeps feeds. Advisories that name no product of the machines
   are FALSE on each of them, and aren't written; a remark counts them.
 - RECORDS: entries, deprecations, statements and results of checks, as the recipes write them.
-- MACHINES: a line a machine: its name, and after it the names of its items.
-- --ranges: the ranges of versions that `advisories.sh --ranges` wrote. Each is decided for each machine, as `decide.py` does,
-  and the statements that wait for it get the answer. --decided has what `decide.py` wrote before.
+- MACHINES: a line for each machine: its name, and the names of its items.
+- --ranges: the ranges of versions that `advisories.sh --ranges` wrote. Each range is decided for each machine, as `decide.py` does it, and
+  its check gets the result. --decided has what `decide.py` wrote before.
 
-What is asked of a machine is what `scan.py` asks: all statements over the names of its items as they stand and as they lead on,
-whatever their mode says, and what a list doesn't say is UNKNOWN; with --strict an item that says less than an advisory asks for isn't
-what that names. Which items the dictionary doesn't lead on is remarked.
+A fleet decides as `scan.py` does: all statements are asked of the names of the items as they are and as the dictionary leads them,
+whatever the mode of the statement. What a list doesn't say is UNKNOWN. With --strict it is FALSE if an item says less than an advisory
+asks for. Remarks name the items that have no entry, or only a removed one.
 
-A fleet writes truths alone, so it has no gates, and no forms but its own. `affected.sh` and `report.py` take --kev and --epss for what it
-wrote; --fail-on, --since and --format are of `scan.py`.
+A fleet writes only verdicts, so it has no gates and no other forms. `affected.sh` and `report.py` take --kev and --epss for what it wrote;
+--fail-on, --since and --format are of `scan.py`.
 
-It writes a line `MACHINE STATEMENT TRUTH` for each, in the order of the machines and of the statements, and `MACHINE no items`
-for a machine without items, of which nothing is known. The last line, `machines COUNT`, stands where every machine was told.
+It writes a line `MACHINE STATEMENT TRUTH` for each verdict, in the order of the machines and of the statements, and `MACHINE no items` for
+a machine without items, of which nothing is known. The last line, `machines COUNT`, is written if every machine was.
 
-Each worker reads the records once. WORKERS is how many there are (else as many as processors). A worker that dies begins its
-machines anew, up to three times. What is refused is said, and the status is 1; it is 5 where machines are missing.
+Each worker reads the records once. The variable WORKERS is the number of workers (else there are as many as processors). If a worker dies,
+its machines are done again from the start, up to three times. What is refused is reported, and the status is 1. The status is 5 if
+machines are missing.
 """
 from __future__ import annotations
 
@@ -60,7 +61,7 @@ def _gather(pieces: dict[Path, list[Asked]], said: Said) -> int:
     missing = [piece for piece in pieces if not workers.is_done(piece)]
     for piece, machines in pieces.items():
         if piece in missing:
-            fleet.say_missing(said, machines, "since their worker came to no end")
+            fleet.say_missing(said, machines, "since their worker did not end")
             continue
         for line in text_lines(Path(f"{piece}.said").read_text()):
             fleet.say_told(said, *json.loads(line))

@@ -1,19 +1,19 @@
-"""Which items perhaps are what an advisory names, though they know less than it asks for.
+"""Which items perhaps are what an advisory names, though they say less than it asks for.
 
     sh perhaps.sh RECORDS MACHINES [--names FILE] [--ranges FILE [--letters FILE]]
 
-RECORDS are those of a dictionary and of advisories, and MACHINES a line a machine: its name, and after it the names of its
-items. It writes, for each fact of a statement and each item of the same vendor and product whose name covers that of the fact
-(its relation is SUBSET by `cpe compare`),
+RECORDS are those of a dictionary and of advisories. MACHINES has a line for each machine: its name, and the names of its items. The recipe
+looks at each fact of a statement and each item of the same vendor and product. If the name of the item covers that of the fact (its
+relation is SUBSET by `cpe compare`), it writes
 
     perhaps MACHINE ID ITEM FACT
 
-By NIST IR 7696 such a fact is FALSE: `log4j:2.0` in any update isn't known to be `log4j:2.0` without one, nor `log4j` in any
-version to be 2.0. Names are compared where they lead to by the dictionary; those of a statement in mode plain as they stand.
+By NIST IR 7696 such a fact is FALSE: `log4j:2.0` in any update isn't known to be `log4j:2.0` without an update, and `log4j` in any version
+isn't known to be 2.0. The names to which the dictionary leads are compared, or the names as they are if the statement is in mode plain.
 
-A range has any version in its fact, so an item with a version knows more there, and neither covers the other where it knows less
-elsewhere, as of a plugin without its platform. With --ranges, which `advisories.sh --ranges` wrote, such an item is compared
-in its version, and listed unless that is surely outside; --letters is that of `decide.py`.
+The fact of a range has no version, so an item with a version says more in this attribute. If it says less in another attribute, such as a
+plugin without its platform, neither name covers the other. With --ranges, which `advisories.sh --ranges` wrote, such an item is compared
+by its version, and listed unless the version is surely outside the range. --letters is that of `decide.py`.
 """
 from __future__ import annotations
 

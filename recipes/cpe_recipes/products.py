@@ -2,18 +2,20 @@
 
     sh products.sh --machines FILE [--records FILE] [--matches FILE].. [--names FILE] [--partial] [--large] [FILE..] > page
 
-`cpe` takes 100,000 statements; NVD has more advisories. This cuts its feeds (the JSON of /rest/json/cves/2.0) down to the
-advisories that could be other than FALSE on some machine, as one page of the same form, for `advisories.sh` or `scan.py`. An
-advisory goes on where a vulnerable match of it, or any match beside a vulnerable operating system, firmware or hardware (concern.py),
+`cpe` takes 100,000 statements, and NVD has more advisories. This recipe cuts NVD's feeds (the JSON of /rest/json/cves/2.0) to the
+advisories that could be other than FALSE on a machine. It writes them as one page of the same form, for `advisories.sh` or `scan.py`.
 
-- has a vendor and product that an item of a machine has, or leads to by the dictionary of --records, or may go on as there; or
-- has a vendor or product that isn't plain, or a name that is none; or, if an item has a pattern in its vendor, the product of that, and
-  if it has one in its product, the vendor of that;
+It looks at the vulnerable matches of an advisory, and at all its matches if it has a vulnerable operating system, firmware or hardware
+(concern.py). An advisory is kept if one of them
 
-and where a match of it lists such an item by the match feed (--matches), since the item has the name of the match too; and where there
-is something in it that `advisories.sh` has to tell, such as that it isn't analysed. The others name products that
-aren't here: they are FALSE on every machine, and how many they are is remarked. A feed of which pages are missing, as they say
-themselves, is refused; --partial lets it pass, and what is missing is said.
+- has a vendor and product that an item of a machine has, or to which the dictionary of --records leads the item, or may lead it; or
+- has a vendor or product with a special, or is no name; or
+- has the product of an item whose vendor is a pattern, or the vendor of an item whose product is a pattern.
+
+An advisory is kept too if the match feed (--matches) lists such an item for one of its matches, since the item has the name of the match
+too; or if `advisories.sh` has to report something of it, such as that it isn't analysed. All others name products that the machines don't
+have: they are FALSE on every machine, and a remark counts them. A feed of which pages are missing by their own numbers is refused;
+--partial accepts it, and what is missing is reported. --large accepts pages that unpack to any size (unpack.py).
 """
 from __future__ import annotations
 

@@ -116,7 +116,7 @@ def _qualifiers(text: str) -> Iterator[tuple[str, str]]:
     for one in filter(None, text.split("&")):
         key, equals, value = one.partition("=")
         _needs(equals == "=" and _KEY.fullmatch(key) is not None, "a qualifier isn't a key and a value")
-        _needs(key.lower() not in keys, f"the qualifier {key.lower()} comes twice")
+        _needs(key.lower() not in keys, f"the qualifier {key.lower()} is there twice")
         keys.add(key.lower())
         if value:
             yield key.lower(), unquote(value)

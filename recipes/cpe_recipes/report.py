@@ -3,19 +3,19 @@
     python3 report.py [--title TEXT] [--before FILE] [--details FILE] [--suppress FILE] [--settled FILE] [--records FILE]
         [--ranges FILE] [--decided FILE] [--kev FILE] [--epss FILE] [FILE] > page.html
 
-It is one file of HTML without outside parts: it opens from a disk, on a telephone too, in light and in dark, and loads nothing.
-At its top is what was left out, and how many rows there are of each verdict. Then follow the advisories: known exploited ones first if the
-verdicts have that, and then by their scores. Each has the machines on which it isn't FALSE, and what that depends on if it is known. The
-last part are the machines with their counts. The filter looks at texts, machines and verdicts; without scripts it is all that is missing.
-It is in the address too, as `page.html#q=openssl&machine=web-1&truth=UNKNOWN`.
+It is one file of HTML without outside parts: it opens from a disk, on a telephone too, in light and in dark, and loads nothing. At its top
+is what was left out, and how many rows there are of each verdict. Then follow the advisories: the known exploited first if the verdicts
+have that, and then the highest score. Each has the machines on which it isn't FALSE, and what the verdict depends on if that is known. The
+last part has the machines with their counts. A filter selects rows by texts, machines and verdicts; without scripts only the filter is
+missing. It is part of the address, as in `page.html#q=openssl&machine=web-1&truth=UNKNOWN`.
 
-- --title: what stands above the page, such as whose machines these are and the day.
-- --before: verdicts of an earlier day, in the same form. What changed since stands on the page as `changes.sh` writes it, with the reason
-  where a verdict is `none` now. It needs a FILE.
-- the others: those of `affected.sh`, for verdicts of a fleet or of `cpe evaluate`. What `scan.py` wrote has all that they tell.
+- --title: the title of the page, such as whose machines these are and the day.
+- --before: verdicts of an earlier day, in the same form. The page then has what changed since, as `changes.sh` writes it, with the reason
+  if a verdict is `none` now. It needs a FILE.
+- the others: those of `affected.sh`, for verdicts of a fleet or of `cpe evaluate`. What `scan.py` wrote has all that already.
 
-The status is 1 where something was left out or a machine has no items, which is said too, and 2 where the table isn't whole:
-then nothing was written, but for what went into a full disk.
+The status is 1 if something was left out or a machine has no items, which is reported too. It is 2 if the table isn't whole: then nothing
+was written, except what fits on a full disk.
 """
 from __future__ import annotations
 
@@ -71,7 +71,7 @@ def _scanned(read: Words) -> Scanned:
         return _of_fleet(verdicts_of(data, feed), read)
     given = next((option for option in affected.OPTIONS if read.many(option)), None)
     if given:
-        raise Fatal(f"{given} is for verdicts of a fleet: {feed} has all that it tells")
+        raise Fatal(f"{given} is for verdicts of a fleet: {feed} has all of that already")
     return scanned_of(data, feed)
 
 

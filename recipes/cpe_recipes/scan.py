@@ -1,4 +1,4 @@
-"""The whole way, from feeds and what machines have to the advisories that concern each machine.
+"""The whole way, from feeds and software lists to the advisories that concern each machine.
 
     python3 scan.py --store FOLDER | --dictionary FILE.. --advisories FILE.. [--matches FILE..] | --records FILE.. --advisories FILE.. [..]
         --machines FILE | --lists FILE.. [--names FILE] [--suppress FILE] [--settled FILE] [--letters FILE] [--partial] [--large]
@@ -10,45 +10,48 @@ What is read:
 - --dictionary, --advisories, --matches: pages of NVD's API 2.0, or its feeds, plain, packed or in archives. Advisories may be CVE records
   of format 5 too (cve5.py).
 - --records: in place of --dictionary, what dictionary.sh wrote of it before.
-- --store: in place of all of these, a folder in which store.py keeps them. Of it is read what concerns the machines, and nothing else.
-- --lists: software lists, each a machine (lists/ has the forms: CycloneDX, SPDX, Syft's, Trivy's and plain ones, package URLs, and what
-  package managers write). --machines: in place of --lists, a line for each machine, as inventory.sh --machines writes it.
-- --partial: pages of a feed may be missing. What is missing is reported, and each FALSE that may be another verdict by it is marked.
+- --store: in place of all of these, a folder in which store.py keeps them. The scan reads only what concerns the machines.
+- --lists: software lists, one for each machine (lists/ has the forms: CycloneDX, SPDX, Syft's, Trivy's and plain ones, package URLs, and
+  the output of package managers). --machines: in place of --lists, a line for each machine, as inventory.sh --machines writes it.
+- --partial: pages of a feed may be missing. What is missing is reported, and each FALSE that may be another verdict for this reason is
+  marked.
 - --large: a page may unpack to any size; unpack.py has the limits without it.
 
-What is known beside that:
+What you know beside that:
 
-- --names: tables of what packages are called (names_table.py), which count before the one that comes along, names.txt.
+- --names: tables of what packages are called (names_table.py), which count before names.txt.
 - --letters: the products whose letters in versions count upward, in place of letters.txt.
 - --platform NAME: the operating system of the machines whose lists name none; platforms.py says what is FALSE without it.
-- --hardware none: there is no hardware to ask for, as in containers; without it what a list doesn't say of it is UNKNOWN.
+- --hardware none: there is no hardware to ask for, as in containers. Without it a verdict is UNKNOWN if it depends on hardware that a list
+  doesn't name.
 - --suppress: accepted advisories, lines `ID MACHINE REASON`, where * is every machine. They are written below the table.
 - --settled: UNKNOWNs that a user settled, lines `MACHINE ID TRUE|FALSE REASON`, where * is every machine (settled.py).
 - --kev, --epss: CISA's list of known exploited vulnerabilities, and EPSS (threats.py).
 
 What is written:
 
-- --all: the verdicts that are FALSE too, and below the table what isn't analysed.
-- --strict: an item that says less than an advisory asks for isn't what that names, so its verdict is FALSE.
-- --format: table, json, csv, sarif, cyclonedx-vex or openvex; formats/ has how each writes a result. --json is --format json, of which
-  report.py makes a page. --time is when the result was made.
-- --why: the items that make a verdict TRUE (`decidedBy`), in all forms but the table; deciding.py says how, and what it takes.
-- --fail-on: the status is 3 if a verdict fits one of these gates (gates.py, gating.py); --since is the kept result for the term `new`.
+- --all: the verdicts that are FALSE too, and below the table the advisories that aren't analysed.
+- --strict: a verdict is FALSE if it would be UNKNOWN only because an item says less than an advisory asks for.
+- --format: table, json, csv, sarif, cyclonedx-vex or openvex (formats/ has how each writes a result). --json is --format json, of which
+  report.py makes a page. --time is the time at which the result was made.
+- --why: the items that make a verdict TRUE (`decidedBy`), in all forms except the table (deciding.py).
+- --fail-on: the status is 3 if a verdict fits one of these gates (gates.py, gating.py). --since is the kept result for the term `new`.
 
-cases.py chooses which statements are evaluated for which machine. cpe evaluates them in one run. If they are more than it takes at once,
-it evaluates them in portions, with the same verdicts (portions.py). Then, and with a store, the advisories that can't concern any of the
-machines are FALSE without being evaluated (concern.py), unless --all asks for each of them.
+cases.py chooses which statements are evaluated for which machine. cpe evaluates them in one run. If cpe can't take all of them at once, it
+evaluates them in portions, with the same verdicts (portions.py). In this case, and always with a store, advisories that can't concern any
+of the machines are FALSE without being evaluated (concern.py), unless --all asks for each of them.
 
-A statement holds for a machine if it holds of the names as written or as the dictionary leads them on, on either side. calling.py says
-which names an item has so, and which it perhaps has. If something is negated it holds only if it does so in each way.
+A statement holds for a machine if it holds of the names of items and facts as written, or of those to which the dictionary leads them.
+calling.py says which names an item has in this way, and which it perhaps has. What is negated holds only if it holds in each of these
+ways.
 
-A component may have several names. One that makes a verdict TRUE is enough, and it is FALSE only if all do; negations.py says what it
-is if a test is negated.
+A component may have several names. A verdict is TRUE if one of them makes it so, and FALSE only if all do. negations.py has the rule for
+negated tests.
 
-What a list doesn't say is UNKNOWN. An item that is known in part may be what a fact names, since its name has a pattern. So may one that
-says less than the fact, such as a plugin without its platform. reasons.py writes what isn't said beside such a verdict. Verdicts that
-depend on an item that says less are counted apart, as `perhaps`. With --strict these verdicts are FALSE, as NIST IR 7696 has it, but are
-still counted. If a range has none of all that an item may be, the item is FALSE in it; decide.py says when.
+What a list doesn't say is UNKNOWN. A fact may mean an item that is known in part, since its name has a pattern. It may also mean an item
+that says less than the fact, such as a plugin without its platform. reasons.py writes what isn't said beside such a verdict. Verdicts that
+depend on an item that says less are counted apart, as `perhaps`. With --strict these verdicts are FALSE, as NIST IR 7696 has it, but still
+counted. If no version that an item may have is in a range, the range is FALSE for the item (decide.py).
 
 The status is 0 if every verdict is there and nothing was left out, and 1 if something was, which is reported. It is 2 if there is no
 result: then nothing was written except why. It is 3 if a verdict fits a gate, whether or not something was left out.

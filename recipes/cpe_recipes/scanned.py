@@ -162,7 +162,7 @@ class _Reader:
         for where, row in self._list(value, "machines", "the table"):
             machine = self._machine(row, where)
             if machine.name in machines:
-                raise self._fault(where, f"comes twice: {machine.name}")
+                raise self._fault(where, f"is there twice: {machine.name}")
             machines[machine.name] = machine
         if len(self._advisories) > asked:
             raise self._fault("the table", f"has {len(self._advisories)} advisories, where {asked} were asked for")
@@ -185,7 +185,7 @@ class _Reader:
             for place, one in self._list(row, "verdicts", where):
                 id = self._verdict(one, machine, place)
                 if id in seen:
-                    raise self._fault(place, f"comes twice: {id}")
+                    raise self._fault(place, f"is there twice: {id}")
                 seen.add(id)
         elif machine.items:
             raise self._fault(where, "has no verdicts")

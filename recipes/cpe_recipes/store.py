@@ -6,21 +6,23 @@
     python3 store.py changes --store FOLDER [--since TIME]
     python3 store.py forget --store FOLDER FILES..
 
-- add: adds pages of NVD's API 2.0 or its feeds, of products, advisories and matches, and CVE records of format 5, plain, packed or in
-  archives. A folder that isn't there is made. If a record is there more than once, the one that was modified last counts. So pages of
-  changes replace what they have, older ones change nothing, and a page that is there already is passed over. Each page is added whole or
-  not at all. If a run was stopped or killed, or the disk was full, run it again with the same pages: until then each scan reports it as
-  left out, as it does with what could not be read, until a good one comes. Without pages it works out what a stopped one had not.
-- status: how much is in the store, when it was last added to, which pages of a feed are missing, which runs that add have not ended, and
-  what could not be read.
-- check: reads all of it again, and compares what is derived of it with that, and the records of each page with a sum of those that were
-  added.
-- changes: what the scans from it found otherwise than those before, by their feeds and lists alone: lines as changes.sh writes them, each
-  with the time of its scan before it; with --since those of that time and later ones. A scan with --all finds none.
-- forget: of files that could not be read, or not be added to their end, and won't come any more, no scan says so after this.
+- add: adds pages of NVD's API 2.0 or its feeds (products, advisories, matches), and CVE records of format 5, plain, packed or in archives.
+  If the folder isn't there, it is made. If a record is there several times, the one that was modified last counts. So pages of changes
+  replace older records, older pages change nothing, and a page that is there already is passed over. Each page is added whole or not at
+  all. If a run was stopped or killed, or the disk was full, run it again with the same pages. Until then each scan reports them as left
+  out. A scan also reports what could not be read, until a good page is added. Without pages, add finishes the work that a stopped run
+  left.
+- status: writes how much is in the store, when something was last added, which pages of a feed are missing, which runs of add have not
+  ended, and what could not be read.
+- check: reads the whole store again. It compares what was derived of the pages with the pages, and the records of each page with a
+  checksum of those that were added.
+- changes: writes which verdicts differ from those of the scan before, by their feeds and lists alone, as changes.sh does, each with the
+  time of its scan. --since leaves out earlier ones. A scan with --all finds no changes.
+- forget: after this no scan reports these files, which could not be read or not be added to their end, and which you can't add again.
 
-`scan.py --store FOLDER` scans from it (kept.py, adding.py and stored.py say how). The status is 0 if all was added, or nothing is missing or
-wrong; 1 if something was left out, is missing or wrong, which is reported; 2 if there is no store, or it can't be read or written.
+`scan.py --store FOLDER` scans from it (kept.py, adding.py and stored.py say how). The status is 0 if all was added, or if nothing is
+missing or wrong. It is 1 if something was left out, is missing or wrong, which is reported. It is 2 if there is no store, or it can't be
+read or written.
 """
 from __future__ import annotations
 

@@ -3,19 +3,20 @@
     sh unlisted.sh RECORDS MACHINES [--names FILE]
     sh unlisted.sh --store FOLDER | --dictionary FILE.. | --records FILE.. --machines FILE | --lists FILE.. [--names FILE] [--partial] [--large]
 
-RECORDS are those of a dictionary, and MACHINES a line a machine: its name, and after it the names of its items. The options are those
-of scan.py. It writes
+RECORDS are those of a dictionary. MACHINES has a line for each machine: its name, and the names of its items. The options are those of
+scan.py. The recipe writes
 
-    not in the dictionary MACHINE NAME [goes on as VENDOR:PRODUCT..]
+    not in the dictionary MACHINE NAME [now called VENDOR:PRODUCT..]
     under a removed name MACHINE NAME
     perhaps MACHINE PACKAGE names.txt: LINE [| LINE..]
     no candidate MACHINE PACKAGE
 
-Each LINE, put into a table for --names, settles which product a package is that only the dictionary names (naming.py).
+Put LINE into a table for --names to settle which product a package is, if only the dictionary names it (naming.py).
 
-An item that no entry has leads nowhere, so no advisory that calls its product otherwise finds it. Where entries of its product
-are deprecated, and lead to other products, these are told. Of a component with several names it is enough that an entry has one of
-them. An item under a removed name has no ends, so an advisory finds it as it stands alone. What is no item is said, and the status is 1.
+The dictionary leads an item without an entry nowhere, so no advisory finds it that calls its product by another name. If entries of its
+product are deprecated and lead to other products, these are written after `now called`. Of a component with several names it is enough that
+one of them has an entry. An item under a removed name leads nowhere, so an advisory finds it only by this name. What can't be an item is
+reported, and the status is 1.
 """
 from __future__ import annotations
 
@@ -145,7 +146,7 @@ def supposed_names(lead: Lead, successors: Mapping[Product, Sequence[Product]]) 
 def goes_on(lead: Lead, successors: Mapping[Product, Sequence[Product]]) -> str:
     """The vendors and products under which that of a name goes on, in words; empty where there are none."""
     found = successors.get(names.product_of(lead.name))
-    return f" goes on as {' '.join(map(':'.join, found))}" if found else ""
+    return f" now called {' '.join(map(':'.join, found))}" if found else ""
 
 
 def unlisted(machines: Iterable[Machine], leads: Leads, successors: Mapping[Product, Sequence[Product]]) -> Iterator[str]:

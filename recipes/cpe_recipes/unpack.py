@@ -87,7 +87,7 @@ class Unpacked:
     def _of(self, file: IO[bytes], size: int, total: _Counted, depth: int) -> Iterator[tuple[str, bytes]]:
         front = _front(file)
         if depth > _DEEPEST:
-            raise FeedFault("archives stand in it too deep")
+            raise FeedFault("archives are nested in it too deep")
         if front.startswith(_ZIPS):
             yield from self._of_zip(file, total, depth)
         elif front.startswith(_GZIP):

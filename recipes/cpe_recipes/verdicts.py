@@ -201,7 +201,7 @@ def _scan(values: Sequence[Json]) -> Verdicts:
 def _with_reasons(verdicts: Verdicts, value: Json) -> Verdicts:
     """Puts why advisories of a scan have no verdicts, and why what is FALSE could be another one."""
     if not isinstance(value.get("asked"), list):
-        verdicts.asked_of = "which advisories were asked for isn't told there"
+        verdicts.asked_of = "which advisories were asked for isn't said there"
     else:
         verdicts.asked_of = "it isn't in the feeds"
     for one in members(value, "leftOut"):
@@ -227,7 +227,7 @@ def _table(lines: list[str]) -> Verdicts:
     """The table at the end of what `cpe evaluate` writes; above it stand answers to questions, and what was refused."""
     place = next((place for place, line in enumerate(lines) if _count(line, "verdicts") is not None), None)
     if place is None:
-        raise ValueError("cpe evaluate, or a fleet, has not come to its end")
+        raise ValueError("cpe evaluate, or a fleet, has not ended")
     rows = [_verdict(line.removeprefix("verdict ")) for line in lines[place + 1 :]]
     wanted = _count(lines[place], "verdicts")
     if len(rows) != wanted:
@@ -283,5 +283,5 @@ class _Fleet:
 
     def _put(self, machine: Machine) -> None:
         if machine.name in self._machines:
-            raise ValueError(f"{machine.name} comes twice")
+            raise ValueError(f"{machine.name} is there twice")
         self._machines[machine.name] = machine

@@ -339,13 +339,13 @@ def _judged(kind: str, spans: Sequence[Span], said: Said) -> Iterator[Missing]:
         return
     distinct = _distinct(spans)
     if distinct < total and times == 1:
-        yield Missing(kind, files, total, distinct, "others come twice in their place")
+        yield Missing(kind, files, total, distinct, "others are there twice in their place")
         return
     if least < total:
         said.remark(f"{files}: the feed grew from {least:,} to {total:,} {CALLED[kind]} while it was fetched")
     twice = sum(span.count for span in spans) - total * times
     if twice > 0:
-        said.remark(f"{files}: pages overlap, {twice:,} {CALLED[kind]} come twice")
+        said.remark(f"{files}: pages overlap, {twice:,} {CALLED[kind]} are there twice")
 
 
 def _ranges(gaps: Sequence[tuple[int, int]]) -> str:

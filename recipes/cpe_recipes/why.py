@@ -5,10 +5,10 @@
         TRUE, since item cpe:2.3:a:mysql:mysql:5.1:.. leads to cpe:2.3:a:oracle:mysql:5.1:.. (NAME_CORRECTION), which the fact .. covers
         ..
 
---records names the records that were explained: what a certificate leaves open comes from them, as the operator of a test, the
-fact that no item meets, the check, and the kinds of deprecations. `cpe` reads them. Lines that are no certificates, as the answers
-before them, are passed over; nothing is tested here, which `cpe check` does. The status is 1 where a line has the word `proof` and no
-certificate's form, and 2 where there is no certificate at all.
+--records names the records that were explained. They have what a certificate doesn't have: the operator of a test, the fact that covers no
+item, the check, and the kinds of deprecations. `cpe` reads them. Lines that are no certificates, such as the answers before them, are
+passed over. Certificates are not tested here; `cpe check` does that. The status is 1 if a line has the word `proof` and isn't of the form
+of a certificate, and 2 if there is no certificate at all.
 """
 from __future__ import annotations
 

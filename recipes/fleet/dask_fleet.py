@@ -1,12 +1,12 @@
 #!/usr/bin/python3
-"""An inventory of many machines over the workers of a Dask cluster.
+"""Evaluates an inventory of many machines on the workers of a Dask cluster.
 
     python3 dask_fleet.py RECORDS MACHINES [OPTION..] [--workers N] [--block N]     workers on this machine
     python3 dask_fleet.py RECORDS MACHINES [OPTION..] --scheduler tcp://..          those of a cluster elsewhere
 
-The input, the other options, the output and the status are those of parallel.sh. The records go to the workers by themselves,
-and `cpe` must be on their path (or be given with --cpe). Each worker reads the records once, and then takes machine after
-machine. Machines whose worker dies go to another one.
+The input, the other options, the output and the status are those of parallel.sh. The records are sent to the workers. `cpe` must be on the
+path of each worker (or be given with --cpe). Each worker reads the records once, and then takes machine after machine. If a worker dies,
+another one does its machines.
 """
 from __future__ import annotations
 
@@ -81,7 +81,7 @@ def ask_all(client: Client, program: str, asked: fleet.Fleet, most: int, heard: 
         try:
             told = future.result()
         except Exception as fault:  # noqa: BLE001 (whatever a worker raised, or that it died)
-            fleet.say_missing(heard, block, f"since their worker came to no end: {fault!r}")
+            fleet.say_missing(heard, block, f"since their worker did not end: {fault!r}")
             is_missing = True
             continue
         for one in told:

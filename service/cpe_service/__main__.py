@@ -6,7 +6,7 @@
     python3 -m cpe_service backup FILE --data DIR
     python3 -m cpe_service take FOLDER --data DIR
 
-It listens on this machine alone, and on another address only if the data folder has a file of tokens. `token` adds one, and prints it
+It listens on this machine alone, and on another address only if the data folder has a file of tokens. `token` adds a token, and prints it
 once. `backup` copies the database while the service runs. `take` takes feeds from a folder. With `--samples` the service begins with
 the samples of the recipes. docs/SERVICE.md has all of it.
 """
@@ -110,7 +110,7 @@ def _options() -> argparse.ArgumentParser:
     ):
         parser.add_argument(f"--{name}", type=int, default=getattr(Settings, name.replace("-", "_")), metavar="N", help=what)
     parser.add_argument("--samples", action="store_true", help="begins with the samples of the recipes, if there is no machine yet")
-    parser.add_argument("--read", action="store_true", help="of token: it may read alone")
+    parser.add_argument("--read", action="store_true", help="of token: it may only read")
     return parser
 
 

@@ -204,7 +204,7 @@ class Service:
         if client is None:
             raise Problem(401, "a token is needed: Authorization: Bearer TOKEN", {"WWW-Authenticate": 'Basic realm="cpe", charset="UTF-8"'})
         if is_writing and not client.may_write:
-            raise Problem(403, f"the token of {client.name} may read alone")
+            raise Problem(403, f"the token of {client.name} may only read")
         return client
 
     def _check_origin(self, request: Request) -> None:

@@ -10,7 +10,7 @@ from .queries import KINDS
 _TIME = r"[0-9]{1,12}(\.[0-9]{1,6})?|[0-9]{4}-[0-9]{2}-[0-9]{2}(T[0-9]{2}:[0-9]{2}(:[0-9]{2}(\.[0-9]{1,6})?)?(Z|[+-][0-9]{2}:[0-9]{2})?)?"
 
 MACHINE = Parameter(
-    "machine", "the name of a machine: letters, digits and _.@+:~-, of which . and - and the others come after a letter, a digit or _",
+    "machine", "the name of a machine: letters, digits and _.@+:~-, the first of them a letter, a digit or _",
     r"[A-Za-z0-9_][A-Za-z0-9_.@+:~-]*", 200, in_path=True,
 )
 ADVISORY = Parameter("advisory", "the id of an advisory", r"[^\x00-\x1f\x7f]+", 300, in_path=True)
@@ -27,7 +27,7 @@ OF_ADVISORY = Parameter("advisory", "the id of an advisory")
 WORDS = Parameter("q", "the words to search for")
 CPE = Parameter("cpe", "a CPE name", r"[^\x00-\x1f\x7f]+", 2_000, None)
 WITH = Parameter("with", "another CPE name, to compare", r"[^\x00-\x1f\x7f]*", 2_000)
-FEED = Parameter("feed", "a name for the fetch, another one for each, if pages of it arrive one by one", r"[A-Za-z0-9_.-]*", 100)
+FEED = Parameter("feed", "a name for the fetch, a new one for each, if its pages are sent one by one", r"[A-Za-z0-9_.-]*", 100)
 NUMBER = Parameter("number", "the number of a feed", "[0-9]{1,18}", 18, in_path=True)
 IS_WHOLE = Parameter("whole", "true if the feed replaces all of its kind", "true|false", 5, "false")
 
@@ -53,9 +53,9 @@ ROUTES = (
     Route("GET", "/machines", "machines", "lists the machines", (Q, KIND, LIMIT, OFFSET)),
     Route("PUT", "/machines/{machine}", "put_machine", "keeps the software list of a machine, and judges it", (MACHINE,), "a software list"),
     Route("DELETE", "/machines/{machine}", "delete_machine", "removes a machine", (MACHINE,)),
-    Route("GET", "/machines/{machine}", "machine", "has the verdicts of a machine, each with what it hangs on", (MACHINE, Q, KIND, LIMIT, OFFSET)),
+    Route("GET", "/machines/{machine}", "machine", "shows the verdicts of a machine, each with what it depends on", (MACHINE, Q, KIND, LIMIT, OFFSET)),
     Route("GET", "/advisories", "advisories", "lists the advisories with a verdict that isn't FALSE", (Q, KIND, LIMIT, OFFSET)),
-    Route("GET", "/advisories/{advisory}", "advisory", "has the machines of an advisory, and since when", (ADVISORY, KIND, LIMIT, OFFSET)),
+    Route("GET", "/advisories/{advisory}", "advisory", "shows the machines of an advisory, and since when", (ADVISORY, KIND, LIMIT, OFFSET)),
     Route("GET", "/changes", "changes", "lists the changes of verdicts", (SINCE, UNTIL, AFTER, OF_MACHINE, OF_ADVISORY, LIMIT)),
     Route("GET", "/names", "names", "searches the dictionary by words, best first", (WORDS, LIMIT, OFFSET)),
     Route("GET", "/name", "name", "has a name in all forms, where it leads, and its relation to another", (CPE, WITH)),

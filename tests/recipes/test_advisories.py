@@ -82,7 +82,7 @@ class Logic(unittest.TestCase):
             ({"operator": "AND", "children": "x"}, "not of the published form"),
             ({"operator": "AND", "children": [{"operator": "OR", "cpeMatch": []}]}, "a node without matches"),
             ({"operator": "AND", "children": []}, "not of the published form"),
-            (deep, "nodes that stand too deep in one another"),
+            (deep, "nodes that are nested too deep"),
         ):
             self.assertEqual(outcome(cve({"nodes": [bad]})), ([], [reason]))
 
@@ -119,7 +119,7 @@ class Ranges(unittest.TestCase):
         self.assertEqual(found.ranges, {"KEY": Range("KEY", name("a"), "1.0", "2.0", False, True)})
         self.assertEqual(said.told, [])
         _, said = converted(cve({"nodes": [node(ranged)]}), is_decided=False)
-        self.assertEqual(said.told, [f"remark CVE-2024-99999: versions of {name('a')} from 1.0, before 2.0: the check KEY stands for them"])
+        self.assertEqual(said.told, [f"remark CVE-2024-99999: versions of {name('a')} from 1.0, before 2.0: the check KEY is in their place"])
 
     def test_records_of_the_word_advise_and_back(self):
         for bounds in itertools.product((None, "1.0"), (None, "2.0"), (False, True), (False, True)):
@@ -161,7 +161,7 @@ class Faults(unittest.TestCase):
         bad = {"vulnerable": True, "criteria": "cpe:2.3:a:bad", "matchCriteriaId": "KEY"}
         tests, left = outcome(cve({"nodes": [node(match("a", "1"), bad)]}))
         self.assertEqual(tests[0]["of"][0]["of"][0]["of"], [fact("a", "1"), check("KEY")])
-        self.assertEqual(left, ["name name 9: cpe:2.3:a:bad: the check KEY stands for it"])
+        self.assertEqual(left, ["name name 9: cpe:2.3:a:bad: the check KEY is in its place"])
         tests, _ = outcome(cve({"nodes": [node(match("a", "1"), {"vulnerable": True})]}))
         self.assertEqual(tests[0]["of"][0]["of"][0]["of"][1], check("a match without a name"))
 
@@ -177,7 +177,7 @@ class Faults(unittest.TestCase):
             with self.subTest(reason):
                 tests, left = outcome(cve(configuration, good))
                 self.assertEqual(tests[0]["of"][0], check("CVE-2024-99999 1", "configuration"))
-                self.assertEqual(left, [f"configuration 1, {reason}: the check CVE-2024-99999 1 stands for it"])
+                self.assertEqual(left, [f"configuration 1, {reason}: the check CVE-2024-99999 1 is in its place"])
                 self.assertEqual(outcome(cve(configuration)), ([], [reason]))
 
     def test_odd_values_leave_out_the_advisory_alone(self):
@@ -250,7 +250,7 @@ class Parts(unittest.TestCase):
         names = [match(f"product_{k}", "1") for k in range(2000)]
         long = {"operator": "AND", "nodes": [node(match("a", "1")), node(*names, negate=True)]}
         found, _ = converted(cve(long, {"nodes": [node(match("b", "1"))]}))
-        self.assertEqual(found.candidates[0].reason, "logic that is longer than a line, and can't be taken apart: the check CVE-2024-99999 #1 stands for it")
+        self.assertEqual(found.candidates[0].reason, "logic that is longer than a line, and can't be taken apart: the check CVE-2024-99999 #1 is in its place")
         self.assertEqual(json.loads(found.candidates[1].record)["test"], {"op": "OR", "of": [check("CVE-2024-99999 #1", "configuration")]})
         self.assertIn(fact("b", "1"), json.loads(found.candidates[2].record)["test"]["of"][0]["of"][0]["of"])
 

@@ -69,16 +69,16 @@ class Records(unittest.TestCase):
         changed = version("2.0", lessThan="3.0", versionType="semver", changes=[{"at": "2.5", "status": "unaffected"}])
         self.assertEqual(self.matches(affected(changed)), ["its status changes within the versions from 2.0"])
         behind = affected(version("2.2", "unaffected"), version("2.0", lessThan="3.0", versionType="semver"))
-        self.assertEqual(self.matches(behind), ["versions of another status stand before it"])
+        self.assertEqual(self.matches(behind), ["versions of another status are before it"])
         self.assertEqual(self.matches(affected(version("1.0"), platforms=["Windows"])), ["it is affected on Windows"])
 
     def test_words_are_no_versions(self):
         for text in ("< 2.0", "<2.0", ">=1,<2", "before 2.0", "1.x", "1.0-1.5", "n/a", "unspecified", "", "1.*", "ü1"):
-            told = f"its versions are told as {text or 'nothing'}"
+            told = f"its versions are given as {text or 'nothing'}"
             self.assertEqual(self.matches(affected(version(text))), [told])
             if text != "":
                 told = self.matches(affected(version("1.0", lessThan=text, versionType="semver")))
-                self.assertEqual(told, [f"its versions are told as 1.0 to {text}"])
+                self.assertEqual(told, [f"its versions are given as 1.0 to {text}"])
         for text in ("1.0", "v1.0", "1.0-rc.1", "1:2.0-3", "2.0~b1", "r12"):
             self.assertEqual(self.matches(affected(version(text))), [f"from {text} to {text}"])
 

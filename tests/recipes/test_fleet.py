@@ -131,7 +131,7 @@ class Records(RecipeCase):
         self.assertEqual(self.fatal([]), "records: no statements in it")
         self.assertEqual(
             self.fatal([*STATEMENTS, {"do": "item", "name": OPENSSL}]),
-            "records line 3: an item stands among the records; items belong to machines",
+            "records line 3: an item is among the records; items belong to machines",
         )
 
     def test_results_among_the_records(self):
@@ -218,7 +218,7 @@ class Parallel(RecipeCase):
             [
                 f"left out c: {name} in {name} from 1.1.1, before 1.1.1u: its version isn't known",
                 f"remark d: {unlisted} is not in the dictionary, and may be {fs('openssl', 'openssl', '1.1.1s')}",
-                f"remark not in the dictionary d {unlisted} goes on as openssl:openssl",
+                f"remark not in the dictionary d {unlisted} now called openssl:openssl",
                 f"remark under a removed name f {gone}",
             ],
         )
@@ -239,7 +239,7 @@ class Parallel(RecipeCase):
         bad.chmod(0o755)
         status, lines, said = self.fleet("a cpe:/a:no:good\nb cpe:/a:no:good\n", program=str(bad))
         self.assertEqual((status, lines), (5, []))
-        self.assertIn("left out a to b: 2 machines, since their worker came to no end", said)
+        self.assertIn("left out a to b: 2 machines, since their worker did not end", said)
 
     def test_no_room_is_said_and_nothing_is_written(self):
         for prefix in ("ulimit -f 0;", "exec > /dev/full;"):

@@ -83,7 +83,7 @@ class Kev(RecipeCase):
         twice = self.sample(count=4, vulnerabilities=[*rows, {**rows[0], "dateAdded": "2025-01-01"}])
         found = read_kev(self.file("kev", twice), self.said)
         self.assertEqual(found.found["CVE-2024-98010"].added, "2024-04-11")
-        self.assertEqual(self.said.told, ["remark kev: CVE-2024-98010 comes twice, and its first vulnerability counts"])
+        self.assertEqual(self.said.told, ["remark kev: CVE-2024-98010 is there twice, and its first vulnerability counts"])
 
 
 class Epss(RecipeCase):
@@ -126,7 +126,7 @@ class Epss(RecipeCase):
     def test_an_id_that_comes_twice(self):
         same = f"{HEAD}CVE-2024-0001,0.5,0.6\nCVE-2024-0001,0.5,0.6\n"
         self.assertEqual(len(read_epss(self.file("epss", same), self.said).found), 1)
-        self.assertEqual(self.said.told, ["remark epss: CVE-2024-0001 comes twice, with the same numbers"])
+        self.assertEqual(self.said.told, ["remark epss: CVE-2024-0001 is there twice, with the same numbers"])
         self.refused(f"{HEAD}CVE-2024-0001,0.5,0.6\nCVE-2024-0001,0.4,0.6\n", "line 4 has CVE-2024-0001 again, with other numbers")
 
     def test_a_file_of_no_day_is_said(self):

@@ -43,7 +43,7 @@ class Advisories(unittest.TestCase):
         files = [cve("old", OLD)], [cve("new", NEW)], [cve("older", "2023-12-31T23:59:59.999")]
         for order in itertools.permutations(files):
             self.assertEqual(self.converted(*order), [name("new")])
-            self.assertEqual((self.said.told, self.left), (["remark 1 advisory comes more than once: the last modified counts"], []))
+            self.assertEqual((self.said.told, self.left), (["remark 1 advisory is there more than once: the last modified counts"], []))
 
     def test_a_time_is_later_than_none_and_zones_are_minded(self):
         for other in (None, "yesterday", 7, "0001-01-01T00:00:00+23:00"):
@@ -70,8 +70,8 @@ class Advisories(unittest.TestCase):
         key = f"{ID} vulnerability 2 of 1.json"
         guard = {"check": {"system": "NVD", "href": "configuration", "id": key}}
         self.assertEqual(self.tests[0]["of"][1]["of"][1], guard)
-        what = "it isn't as vulnerability 1 of 1.json, and neither tells to be later"
-        self.assertEqual(self.left, [f"{what}: the check {key} stands for it"])
+        what = "it isn't as vulnerability 1 of 1.json, and neither says that it is later"
+        self.assertEqual(self.left, [f"{what}: the check {key} is in its place"])
         self.assertEqual(self.found.stand_ins, {key: what})
         self.assertEqual(self.converted([cve("a")], [{"cve": {"id": ID, "configurations": 7}}]), [name("a")])
         self.assertEqual(len(self.left), 2)
@@ -113,7 +113,7 @@ class Products(RecipeCase):
         for feeds in itertools.permutations(([kept], [back])):
             self.said.told.clear()
             self.assertEqual([one["do"] for one in self.records(*feeds)], ["entry"])
-            self.assertEqual(self.said.told, ["remark 1 product comes more than once: the last modified counts"])
+            self.assertEqual(self.said.told, ["remark 1 product is there more than once: the last modified counts"])
 
     def test_one_time_told_twice(self):
         self.assertEqual(len(self.records([self.product(OLD)], [self.product(OLD)])), 1)

@@ -57,8 +57,8 @@ class Unlisted(RecipeCase):
         self.assertEqual(
             lines,
             [
-                "not in the dictionary m cpe:/a:RedisLabs:Redis:7 goes on as redis:redis",
-                f"not in the dictionary m {fs('v', 'p', '3')} goes on as v:q",
+                "not in the dictionary m cpe:/a:RedisLabs:Redis:7 now called redis:redis",
+                f"not in the dictionary m {fs('v', 'p', '3')} now called v:q",
                 f"not in the dictionary m {fs('x', 'y')}",
                 f"under a removed name n {GONE}",
             ],

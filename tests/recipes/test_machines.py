@@ -37,7 +37,7 @@ class Machines(unittest.TestCase):
     def test_a_name_that_comes_again_is_the_same_machine(self):
         path = self.file("machines.txt", b"a cpe:/a:v:p\nb\na cpe:/a:v:q\n")
         self.assertEqual(read_machines(path, self.said), [Machine("a", ["cpe:/a:v:p", "cpe:/a:v:q"]), Machine("b")])
-        self.assertEqual(self.said.told, ["remark a comes more than once, and has the items of each"])
+        self.assertEqual(self.said.told, ["remark a is there more than once, and has the items of each"])
 
     def test_no_machine_is_fatal(self):
         for path in (self.file("empty.txt", b""), self.file("spaces.txt", b" \r\n\t\n"), str(self.folder / "none.txt")):
@@ -71,7 +71,7 @@ class Machines(unittest.TestCase):
         lines = [Machine("a", ["cpe:/a:v:p"]), Machine("a", ["cpe:/a:v:q"], debian), Machine("a", ["cpe:/a:v:r"], other), Machine("a", (), debian)]
         path = self.file("machines.txt", "".join(f"{one.line()}\n" for one in lines).encode())
         self.assertEqual(read_machines(path, self.said), [Machine("a", ["cpe:/a:v:p", "cpe:/a:v:q", other, "cpe:/a:v:r"], debian)])
-        remark, nameless = "remark a comes more than once, and has the items of each", "left out a alpine 3: no CPE name"
+        remark, nameless = "remark a is there more than once, and has the items of each", "left out a alpine 3: no CPE name"
         self.assertEqual(self.said.told, [remark, remark, remark, nameless])
 
     def test_objects_that_are_no_machine(self):

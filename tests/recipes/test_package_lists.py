@@ -77,7 +77,7 @@ class Purls(unittest.TestCase):
             "pkg:npm/a@1%2": "no two digits",
             "pkg:npm/a b": "a space",
             "pkg:npm/a?x": "a key and a value",
-            "pkg:npm/a?x=1&X=2": "comes twice",
+            "pkg:npm/a?x=1&X=2": "is there twice",
         }.items():
             with self.assertRaises(PurlFault) as caught:
                 parsed(text)

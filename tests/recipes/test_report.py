@@ -120,7 +120,7 @@ class Fleets(RecipeCase):
     def test_what_scan_wrote_has_all_that_the_options_tell(self):
         status, text, said = self.report(json.dumps(table(machine("m"))), "--details", self.file("details", ""))
         self.assertEqual((status, text), (2, ""))
-        self.assertEqual(said, ["report.py: --details is for verdicts of a fleet: standard input has all that it tells"])
+        self.assertEqual(said, ["report.py: --details is for verdicts of a fleet: standard input has all of that already"])
 
 
 class LeftOut(ReportCase):
@@ -226,7 +226,7 @@ class Refused(ReportCase):
         self.refuses({**table(), "machines": {}}, f"{form}the table has a member machines that is no list")
         self.refuses(table(7), f"{form}machine 1 is no object")
         self.refuses(table(machine("")), f"{form}machine 1 has an empty name")
-        self.refuses(table(machine("m"), machine("m")), f"{form}machine 2 comes twice: m")
+        self.refuses(table(machine("m"), machine("m")), f"{form}machine 2 is there twice: m")
         for more, words in (
             ({"title": 7}, "has a member title that is no text"),
             ({"hangsOn": "x"}, "has a member hangsOn that is no list"),
@@ -236,7 +236,7 @@ class Refused(ReportCase):
         ):
             text = json.dumps(table(machine("m", {**verdict("A", "TRUE"), **more}))).replace("Infinity", "1e999")
             self.refuses(text, f"{form}verdict 1 of machine 1 {words}")
-        self.refuses(table(machine("m", verdict("A", "TRUE"), verdict("A", "TRUE"))), f"{form}verdict 2 of machine 1 comes twice: A")
+        self.refuses(table(machine("m", verdict("A", "TRUE"), verdict("A", "TRUE"))), f"{form}verdict 2 of machine 1 is there twice: A")
         self.refuses(table(machine("m", verdict("A", "TRUE")), asked=0), f"{form}the table has 1 advisories, where 0 were asked for")
 
     def test_nothing_is_written_of_what_is_no_table(self):

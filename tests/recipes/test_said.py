@@ -68,9 +68,9 @@ class Lines(unittest.TestCase):
 
     def test_what_a_message_quotes_is_cut_at_200_bytes(self):
         here = said.Said(self.file.fileno())
-        here.left_out("C" * 300, f"name name 9: {'n' * 201}: the check {'k' * 200} stands for it", "product 1 of it.json")
+        here.left_out("C" * 300, f"name name 9: {'n' * 201}: the check {'k' * 200} is in its place", "product 1 of it.json")
         here.remark("ü" * 101, "CVE-1")
-        wanted = f"left out {'C' * 200}..., product 1 of it.json: name name 9: {'n' * 200}...: the check {'k' * 200} stands for it\n"
+        wanted = f"left out {'C' * 200}..., product 1 of it.json: name name 9: {'n' * 200}...: the check {'k' * 200} is in its place\n"
         self.assertEqual(self.told(), f"{wanted}remark CVE-1: {'ü' * 100}...\n")
 
     def test_a_quotation_is_cut_between_characters(self):

@@ -230,7 +230,7 @@ class Verdicts(unittest.TestCase):
         self.assertEqual(Hanging(known, found).on("CVE-1", "not"), [why])
         said = Heard()
         made.tell_items(found, said, "sh unlisted.sh")
-        self.assertEqual(said.told, [f"remark not in the dictionary {it.machine.name} {it.leads[0].name} goes on as redis:redis" for it in found[1:]])
+        self.assertEqual(said.told, [f"remark not in the dictionary {it.machine.name} {it.leads[0].name} now called redis:redis" for it in found[1:]])
 
     def test_what_a_dictionary_or_a_name_hides_is_told(self):
         gone = name("v", "gone", "1.0")

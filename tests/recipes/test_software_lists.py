@@ -39,8 +39,8 @@ def packages(*some, kind="debian"):
 
 def unread(count, where):
     if count == 1:
-        return f"1 text that begins with cpe: or pkg: stands where none is read, at {where}"
-    return f"{count} texts that begin with cpe: or pkg: stand where none is read, the first at {where}"
+        return f"1 text that begins with cpe: or pkg: is where none is read, at {where}"
+    return f"{count} texts that begin with cpe: or pkg: are where none is read, the first at {where}"
 
 
 class ListCase(RecipeCase):

@@ -43,7 +43,7 @@ class Changes(ReportCase):
 
     def test_false_needs_a_scan_that_tells_what_was_asked_for(self):
         status, lines, _ = self.changes(scan(SHOWN[:2]), scan([], asked=None))
-        why = "which advisories were asked for isn't told there"
+        why = "which advisories were asked for isn't said there"
         self.assertEqual((status, lines), (1, [f"gone m {one['id']} TRUE none {why}" for one in SHOWN[:2]]))
         rows = [{"id": "kept", "verdict": "FALSE"}]
         self.assertEqual(self.changes(scan(SHOWN[:1]), scan(rows, asked=None))[1], ["gone m kept TRUE FALSE"])
@@ -66,9 +66,9 @@ class Changes(ReportCase):
 
 class Pages(ReportCase):
     def test_the_page_counts_what_is_not_analysed(self):
-        self.assertIn("1 advisory is not analysed yet, and told of no machine.", self.page(AFTER))
+        self.assertIn("1 advisory is not analysed yet, without a verdict.", self.page(AFTER))
         many = scan([], notAnalysed={"Received": ["a"] * 90_000, "Deferred": ["b"] * 57})
-        self.assertIn("90,057 advisories are not analysed yet, and told of no machine.", self.page(many))
+        self.assertIn("90,057 advisories are not analysed yet, without a verdict.", self.page(many))
         self.assertNotIn("not analysed", self.page(BEFORE))
         self.assertEqual(self.report({**AFTER, "notAnalysed": 7})[0], 2)
 

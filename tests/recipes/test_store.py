@@ -305,7 +305,7 @@ class Stores(RecipeCase):
         # (and of two of the same time isn't known which)
         _, said = self.add(page("vulnerabilities", cve(2, match(ELSEWHERE), modified=later)))
         self.assertEqual(self.verdicts(status=1)[0], {"2": "TRUE"})
-        self.assertIn("neither tells to be later", str(self.verdicts(status=1)[1]["leftOut"]))
+        self.assertIn("neither says that it is later", str(self.verdicts(status=1)[1]["leftOut"]))
 
     def test_pages_of_the_same_name(self):
         self.filled()

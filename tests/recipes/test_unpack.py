@@ -61,7 +61,7 @@ class Parts(RecipeCase):
         self.assertEqual(self.unpacked.passed, ["cves/delta.json"])
         for _ in range(5):
             inner = zipped({"a.zip": inner})
-        self.assertEqual(self.refused(inner), "archives stand in it too deep")
+        self.assertEqual(self.refused(inner), "archives are nested in it too deep")
 
     def test_members_that_are_no_pages_are_passed_over_and_told(self):
         others = {"README.md": b"#", "__MACOSX/._a.json": b"x", "cves/delta.json": b"[]", "cves/deltaLog.json": b"[]"}

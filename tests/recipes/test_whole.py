@@ -81,9 +81,9 @@ class Pages(RecipeCase):
 
     def test_a_page_twice_is_no_other_page(self):
         copy = page(0, 3, 6, startIndex=3)
-        self.assertIn("the feed has 6 products, 3 were given; others come twice in their place", self.refused(page(0, 3, 6), copy))
+        self.assertIn("the feed has 6 products, 3 were given; others are there twice in their place", self.refused(page(0, 3, 6), copy))
         self.assertEqual(self.read(page(0, 3, 6), page(0, 3, 6), page(3, 6, 6)), [3, 3, 3])
-        self.assertEqual(self.said.told, ["remark 1.json, 2.json, 3.json: pages overlap, 3 products come twice"])
+        self.assertEqual(self.said.told, ["remark 1.json, 2.json, 3.json: pages overlap, 3 products are there twice"])
 
     def test_whole_feeds_stand_beside_each_other(self):
         year = page(0, 4, 4)

@@ -77,7 +77,7 @@ class Unread:
 
     def words(self) -> str:
         what = "1 text that begins" if self.count == 1 else f"{self.count} texts that begin"
-        where = "stands where none is read, at" if self.count == 1 else "stand where none is read, the first at"
+        where = "is where none is read, at" if self.count == 1 else "are where none is read, the first at"
         return f"{what} with cpe: or pkg: {where} {self._first}"
 
 
