@@ -174,7 +174,7 @@ name_held old new s items name result view stay held same more = record {
 }
 
 -- entries that keep their names keep what is held
-pub others_same : {x : Registered} (table : Names) (s next : Stored) (items : List NameId) → registered table s items ≡ x → names_of (entries_in table next) ≡ names_of (entries_in table s) → (others : List Values) → AreHeld x others → AreHeld (registered table next r) others
+pub others_same : {x : Registered} (table : Names) (s next : Stored) (items : List NameId) → registered table s items ≡ x → names_of (entries_in table next) ≡ names_of (entries_in table s) → (others : List Values) → AreHeld x others → AreHeld (registered table next items) others
 others_same table s next items view same others was =
     subst (λ (ns : List Values). Shows table (holds_in table) (others ++ (ns ++ names_numbered table items))) (sym same) (subst (λ (y : Registered). AreHeld y others) (sym view) was)
 
