@@ -43,13 +43,13 @@ module _ (g : Over) (c : After-met g) (rows : Rows) (are : AreOfRows c.args.regi
 pub returns-in_err-found-clause-steps : goal.returns-in_err-found-clause-steps
 returns-in_err-found-clause-steps g c rows are = within g (goal.at.returns-in_err-found-clause-steps g c).After-met rows are
 
-pub items_in_order-covered-requires : goal.items_in_order-covered-requires
-items_in_order-covered-requires g c =
+pub items_in_order-requires : goal.items_in_order-requires
+items_in_order-requires g c =
     let table = c.args.registry.now.table in
     let boards = c.self.inside.facts.boards in
     let n = c.args.name.now in
     let rows = c.requires.stood.0 in
-    let h = shown g (goal.at.items_in_order-covered-requires g c).After-met rows c.requires.stood.1 in
+    let h = shown g (goal.at.items_in_order-requires g c).After-met rows c.requires.stood.1 in
     let found = c.in_ok-found.found.covered.items in
     subst (AreLive table) (sym c.deref.ensures.value)
     (found_live table boards.plain (there rows Plain) (λ (id : NameId). covers n (kept_at table id.0).name) found (c.lawful-2.ensures.on Plain) h.facts.plain.shows.there
@@ -58,13 +58,13 @@ items_in_order-covered-requires g c =
 pub returns-in_err-covered-clause-steps : goal.returns-in_err-covered-clause-steps
 returns-in_err-covered-clause-steps g c rows are = within g (goal.at.returns-in_err-covered-clause-steps g c).After-met rows are
 
-pub items_in_order-maybes-requires : goal.items_in_order-maybes-requires
-items_in_order-maybes-requires g c =
+pub items_in_order-requires-2 : goal.items_in_order-requires-2
+items_in_order-requires-2 g c =
     let table = c.args.registry.now.table in
     let boards = c.self.inside.facts.boards in
     let n = c.args.name.now in
     let rows = c.requires.stood.0 in
-    let h = shown g (goal.at.items_in_order-maybes-requires g c).After-met rows c.requires.stood.1 in
+    let h = shown g (goal.at.items_in_order-requires-2 g c).After-met rows c.requires.stood.1 in
     let found = c.in_ok-found.found.maybe.items in
     subst (AreLive table) (sym c.deref-2.ensures.value)
     (found_live table boards.plain (there rows Plain) (λ (id : NameId). maybe n (kept_at table id.0).name) found (c.lawful-2.ensures.on Plain) h.facts.plain.shows.there
