@@ -18,9 +18,9 @@ HEAD = """# Lemmas that proofs of other crates cite
 
 `python3 tests/citations.py --write` writes this file from the sources, and the gate checks it.
 
-A proof cites the contracts of the calls below it, and laws. If crates share one theory, a proof also cites lemmas of a
-crate below, in its `proofs/`. If such a lemma changes, the proofs of the crate at the beginning of an item may have to
-change too. These are all such citations, from the bottom up. The proofs of
+A proof cites the contracts of the calls below it, and laws. It also cites lemmas of a crate below, in its `proofs/`, if
+both crates are about one subject. If such a lemma changes, the proofs of the crate at the beginning of an item may have
+to change too. These are all such citations, from the bottom up. The proofs of
 
 """
 # The crate and the file of lemmas, or the crate that hands on the lemmas of another one, that one, and the file.
@@ -39,9 +39,10 @@ def citations(crate, ours):
     for path in sorted((TOP / "crates" / crate).rglob("*.*t")):
         if path.suffix in (".antt", ".rt") and "out" not in path.relative_to(TOP).parts:
             for below, lemmas, further in CITED.findall(path.read_text(encoding="utf-8")):
-                if lemmas in ours:
+                if below != crate and lemmas in ours:
                     below, lemmas = lemmas, further
-                if below != crate and below in ours:
+                # (a line that hands on all lemmas of a crate cites none)
+                if below != crate and below in ours and lemmas:
                     found[below].add(lemmas)
     return found
 
