@@ -45,7 +45,10 @@ impl Engine {
         let slots = self.item_slots();
         match mode {
             Mode::Plain => Ok(first_related(&slots, relates, name)),
-            Mode::Follow => first_followed(&self.parts.registry, alloc, &slots, relates, name),
+            Mode::Follow => {
+                let found = first_followed(&self.parts.registry, alloc, &slots, relates, name)?;
+                Ok(found)
+            }
         }
     }
 
