@@ -13,7 +13,7 @@ use cpe_rows::{
     Changed, CheckKey, Counts, Edit, EditFault, EntryRef, List, Memory, Query, Reply, Statement,
     Text, Truth, Wfn,
 };
-use engine_edits::{ItemSlots, Parts, apply_numbered};
+use engine_edits::{ItemSlots, Parts};
 use name_index::Steps;
 use std::alloc::Global;
 use std::marker::Model;
