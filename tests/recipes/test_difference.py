@@ -226,6 +226,7 @@ class Sequences(unittest.TestCase):
 
 
 HERE, OTHER = fs("v", "p", "1.0"), fs("w", "q", "1.0")
+LATER = "2024-02-01T00:00:00.000"
 
 
 @needs_cpe
@@ -318,6 +319,34 @@ class Daily(RecipeCase):
         self.file("machines", f"m {HERE}\nn {OTHER}\no {OTHER}\n")
         self.scan()
         self.assertEqual(len(self.fleets()), 3)
+
+    def list_other(self):
+        """Has a match list an item of the second machine, so that it has the name of another product, and with it that product's advisory."""
+        listed = {"matchString": {"matchCriteriaId": "K", "criteria": fs("x", "r"), "matches": [{"cpeName": OTHER}]}}
+        self.add(page("vulnerabilities", cve(5, ranged(fs("x", "r"))), cve(6, match(fs("x", "r", "1.0")))), page("matchStrings", listed))
+        self.assertEqual(self.scan()[0], [("m", "1", "TRUE"), *(("n", id, "TRUE") for id in "256")])
+
+    def ask_for_the_match_no_more(self, *pages):
+        self.add(page("vulnerabilities", cve(5, match(fs("y", "s")), modified=LATER)), *pages)
+
+    def test_a_match_that_no_advisory_asks_for_any_more(self):
+        """Then nothing leads from the product of the match to the item that it listed, nor back; and an advisory that did not change has
+        another verdict."""
+        self.list_other()
+        self.ask_for_the_match_no_more()
+        self.assertEqual(self.scan()[::2], ([("m", "1", "TRUE"), ("n", "2", "TRUE")], ["CVE-2024-0002", "CVE-2024-0006"]))
+
+    def test_a_name_that_an_item_had_before(self):
+        """Its advisories are decided again too: of an item that is touched by something else, and of one that its machine hasn't any more."""
+        self.list_other()
+        self.ask_for_the_match_no_more(page("products", product(OTHER, LATER)))
+        self.assertEqual(self.scan()[::2], ([("m", "1", "TRUE"), ("n", "2", "TRUE")], ["CVE-2024-0002", "CVE-2024-0006"]))
+
+    def test_a_name_that_an_item_had_which_is_gone(self):
+        self.list_other()
+        self.file("machines", f"m {HERE}\nn {HERE}\n")
+        self.ask_for_the_match_no_more()
+        self.assertEqual(self.scan()[0], [("m", "1", "TRUE"), ("n", "1", "TRUE")])
 
     def changes(self, *words, status=0):
         found, written, said = ran(store.run, ["changes", "--store", self.store, *words])
