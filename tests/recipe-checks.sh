@@ -296,7 +296,9 @@ answers_readme() {
     if needs "$what, of more machines" parallel; then
         answers_sessions "$what" < recipes/README.md
     else
-        sed '/^## More than one machine/,$d' recipes/README.md | answers_sessions "$what"
+        # (not by a pipe, in which a failure would be counted by a shell of its own)
+        sed '/^## More than one machine/,$d' recipes/README.md > "$room/sessions"
+        answers_sessions "$what" < "$room/sessions"
     fi
 }
 

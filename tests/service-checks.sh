@@ -27,7 +27,8 @@ runs_tests() {
             fail "$what" "status $status"
             tail -n 30 "$room/out"
         fi
-        sed -n 's/^OK (skipped=\([0-9]*\))$/\1/p' "$room/out" | while read -r count; do echo "$what: $count skipped"; done
+        count=$(sed -n 's/^OK (skipped=\([0-9]*\))$/\1/p' "$room/out")
+        [ -z "$count" ] || skip "$what" "$count of them, of which the reasons are in the tests"
     done
 }
 

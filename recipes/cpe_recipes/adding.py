@@ -2,45 +2,34 @@
 
 If a record is there more than once, the one that was modified last counts, as in latest.py and dictionary.py. So a page of changes
 replaces what it has, and an older one changes nothing. Beside each record the products are kept that it concerns, so that a scan finds
-it by these, and what it becomes (made.py). What isn't plain (concern.py) is read by every scan.
+it by these, and what it becomes (prepared.py). What isn't plain (concern.py) is read by every scan.
 """
 from __future__ import annotations
 
-import contextlib
-import functools
-import hashlib
 import json
 import os
-import re
 import zlib
 from array import array
 from collections import Counter
 from collections.abc import Callable, Iterable, Iterator, Sequence
-from dataclasses import dataclass
-from datetime import date, datetime, timezone
+from datetime import datetime, timezone
 
-from . import cve5, matches, whole
-from .concern import Concern, concern_of, plain_name, products_named, ranges_of
-from .dictionary import NO_FORM, Change, Product, product_id
-from .feeds import ADVISORIES, RECORDS, FormFault, Json, Page, Placed, member, record_text, text_at
+from .concern import concern_of, products_named, ranges_of
+from .dictionary import NO_FORM, Change
+from .feeds import ADVISORIES, Json, Part, Placed
 from .kept import Kept, page_and_number, place_of
 from .latest import time_of
-from .made import make, maker
-from .matches import key_of_name
+from .made import maker
 from .near_products import Product as Key
+from .prepared import Derived, Prepared, PreparedAdvisory, PreparedMatch, PreparedProduct, in_form, in_order, record_of, told_apart
 from .product_index import squeezed
 from .said import Said
-from .unanalysed import state_of
 
 KINDS = ("products", "vulnerabilities", "matchStrings")
 # The kind of a fault of a file; that of a record is the kind of its page.
 FILES = "files"
-# What a page of another kind than NVD's counts as.
-_KIND = {RECORDS: ADVISORIES}
 # The number of the product of what has none that is known.
 NO_PRODUCT = 0
-_LONGEST = 10_000
-_DAY = re.compile(r"[0-9]{4}-[0-9]{2}-[0-9]{2}")
 
 
 class Sums:
@@ -73,8 +62,10 @@ class Sums:
 
 def number_of_row(row: Sequence[object]) -> int:
     """A number that stands for the record at a place, as it is kept."""
-    parts = (one if isinstance(one, bytes) else str(one).encode(errors="surrogatepass") for one in row)
-    return zlib.crc32(b"\x1f".join(parts))
+    place, last = row[0], row[-1]
+    if isinstance(place, int) and isinstance(last, bytes):
+        return zlib.crc32(last, place & 0xFFFFFFFF)
+    return zlib.crc32(repr(row).encode(errors="surrogatepass"))
 
 
 class Adding:
@@ -121,12 +112,16 @@ class Adding:
                 self._kept.put("UPDATE runs SET paths = ? WHERE number = ?", [(json.dumps(left) if left else None, number)])
         return known
 
-    def is_passed(self, path: str | None, place: str, data: bytes) -> bool:
-        """Whether a file or member of these bytes was added before, whole."""
+    def is_there(self, part: Part) -> bool:
+        """Whether a file or member of these bytes was added, whole."""
+        return self._kept.one("SELECT 1 FROM parts WHERE digest = ?", (part.digest,)) is not None
+
+    def is_passed(self, part: Part) -> bool:
+        """Begins a file or member, and says whether its bytes were added before, whole."""
         self._end_part()
-        self._part, self._in_part = hashlib.sha256(data).hexdigest(), 0
-        self._place, self._is_faulty = (_path(path), place), False
-        found = self._kept.one("SELECT 1 FROM parts WHERE digest = ?", (self._part,)) is not None
+        self._part, self._in_part = part.digest, 0
+        self._place, self._is_faulty = (_path(part.path), part.place), False
+        found = self.is_there(part)
         if found:
             self.there += 1
             with self._kept.writing():
@@ -157,18 +152,15 @@ class Adding:
         self._end_part()
         self._part = ""
 
-    def put(self, page: Page) -> int | None:
+    def put(self, page: Prepared) -> int | None:
         """Adds a page, whole or nothing of it, and returns how many of its records are new or later; None if it is there, or left
         out."""
         key = f"{self._part}#{self._in_part}"
         self._in_part += 1
-        kind = _KIND.get(page.kind, page.kind)
-        fault = whole.fault_of(page)
-        if fault:
-            self.fault(self._place[0] if self._place else None, page.name, fault)
-            self._said.left_out(page.name, fault)
+        if page.fault:
+            self.fault(self._place[0] if self._place else None, page.name, page.fault)
+            self._said.left_out(page.name, page.fault)
             return None
-        span = whole.span_of(page) if "totalResults" in page.counts else None
         with self._kept.writing():
             known = self._kept.rows("SELECT number, kind FROM pages WHERE key = ?", (key,))
             if known:
@@ -176,23 +168,22 @@ class Adding:
                 self._give(known)
                 return None
             self._read_numbers()
-            changed = self._put_page(page, key, kind, span)
+            changed = self._put_page(page, key)
             self._put_numbers()
             self._sums.write(self._kept)
         self._numbers.update(self._new)
         return changed
 
-    def _put_page(self, page: Page, key: str, kind: str, span: whole.Span | None) -> int:
-        ids = None if span is None else _numbers_of(span.ids or whole.ids_of(page))
-        counts = (span.start, span.said, span.total) if span else (None, None, None)
+    def _put_page(self, page: Prepared, key: str) -> int:
+        counts = (page.span.start, page.span.said, page.span.total) if page.span else (None, None, None)
         number = (self._kept.one("SELECT max(number) FROM pages") or (None,))[0]
         number = 1 if number is None else number + 1
         self._sums = Sums()
-        row = (number, key, page.name, kind, page.kind == RECORDS, _now(), len(page.records), *counts, ids, None if span is None or span.is_alone() else _copy_of(page))
+        row = (number, key, page.name, page.kind, page.is_of_records, _now(), page.count, *counts, page.ids, page.copy)
         self._kept.put("INSERT INTO pages VALUES (?, ?, ?, ?, ?, ?, ?, ?, ?, ?, ?, ?)", [row])
-        self._give([(number, kind)])
+        self._give([(number, page.kind)])
         putting = {"products": self._put_products, ADVISORIES: self._put_advisories, "matchStrings": self._put_matches}
-        return putting[kind](page, number)
+        return putting[page.kind](page, number)
 
     def make_again(self) -> None:
         """Derives all that is kept beside the records of advisories, if other recipes derived it."""
@@ -239,81 +230,50 @@ class Adding:
             found = self._new[product] = len(self._numbers) + len(self._new) + 1
         return found
 
-    def _number_of(self, name: Json) -> int:
-        return self._number_of_key(key_of_name(name) if isinstance(name, str) else None)
-
-    def _number_of_key(self, key: Key | None) -> int:
+    def _number_of(self, key: Key | None) -> int:
         return NO_PRODUCT if key is None else self._number(key)
 
-    def _put_products(self, page: Page, page_number: int) -> int:
+    def _put_products(self, page: Prepared, page_number: int) -> int:
         latest = _LatestProducts(self._kept, self._sums, page_number, len(self._numbers))
         leads: dict[tuple[int, int], None] = {}
-        for placed in page.each("product", product_id):
-            place = place_of(page_number, placed.number - 1)
-            try:
-                row = self._product_row(place, placed, Product.of(placed), leads)
-            except FormFault:
-                row = (place, NO_PRODUCT, None, "null", None, None, placed.id, None, None, NO_FORM)
-            latest.put(row)
+        for one in page.records:
+            assert isinstance(one, PreparedProduct)
+            number, *columns = one[: -len(("key", "leads"))]
+            latest.put((place_of(page_number, number), self._number_of(one.key), *columns))
+            leads.update(((self._number_of(old), self._number_of(new)), None) for old, new in one.leads)
         self._kept.put("INSERT OR IGNORE INTO leads VALUES (?, ?)", leads)
         return latest.end()
 
-    def _product_row(self, place: int, placed: Placed, product: Product, leads: dict[tuple[int, int], None]) -> tuple:
-        plain = plain_name(product.name) if isinstance(product.name, str) and product.name.islower() else None
-        is_plain = plain is not None and _is_plain(product)
-        number = NO_PRODUCT if plain is None else self._number(plain[1])
-        change = product.change
-        if change is not None:
-            own = self._number_of(product.name)
-            leads.update(dict.fromkeys((own, self._number_of(name)) for name in change.by))
-            leads.update(dict.fromkeys((self._number_of(name), own) for name in change.of))
-        return (
-            place,
-            number,
-            product.name if isinstance(product.name, str) else None,
-            record_text(product.modified),
-            product.title if is_plain else None,
-            product.day if is_plain else None,
-            placed.id if change is not None or not is_plain else None,
-            None if change is None else record_text([change.name, change.is_old, change.date, change.by, change.of]),
-            None if is_plain else product.entry(),
-            None,
-        )
-
-    def _put_advisories(self, page: Page, page_number: int) -> int:
-        latest = _LatestAdvisories(self._kept, self._sums, page_number, page.kind == RECORDS, self._number)
-        for number, record in enumerate(page.records):
-            latest.put(place_of(page_number, number), record)
+    def _put_advisories(self, page: Prepared, page_number: int) -> int:
+        latest = _LatestAdvisories(self._kept, self._sums, page_number, page.is_of_records, self._number)
+        for one in page.records:
+            assert isinstance(one, PreparedAdvisory)
+            latest.put(one)
         return latest.end()
 
-    def _put_matches(self, page: Page, page_number: int) -> int:
+    def _put_matches(self, page: Prepared, page_number: int) -> int:
         changed = 0
         found: dict[tuple[int, str], None] = {}
         faulty = {key for (key,) in self._kept.rows("SELECT DISTINCT key FROM faults WHERE kind = ?", (page.kind,))}
-        for placed in page.each("match string", lambda it: text_at(member(it, "matchString"), "matchCriteriaId")):
-            try:
-                match_string = member(placed.record, "matchString")
-                listed, modified = matches.names_of(match_string), record_text(matches.modified_of(match_string))
-            except FormFault:
-                self._put_faulty_match(placed)
-                faulty.add(placed.id)
+        for one in page.records:
+            assert isinstance(one, PreparedMatch)
+            if one.listed is None:
+                self._put_faulty_match(one)
+                faulty.add(one.id)
                 continue
-            if placed.id in faulty:
-                self._drop_faults(placed.id, modified)
-            found.update(dict.fromkeys((self._number_of_key(one), placed.id) for one in matches.products_of(match_string)))
-            changed += self._put_match(place_of(page_number, placed.number - 1), placed.id, modified, record_text(listed))
+            if one.id in faulty:
+                self._drop_faults(one.id, one.modified)
+            found.update(((self._number_of(product), one.id), None) for product in one.products)
+            changed += self._put_match(place_of(page_number, one.number), one.id, one.modified, one.listed)
         self._kept.put("INSERT OR IGNORE INTO listing VALUES (?, ?)", found)
         return changed
 
-    def _put_faulty_match(self, placed: Placed) -> None:
+    def _put_faulty_match(self, match: PreparedMatch) -> None:
         """Says a match that can't be read, and keeps that, unless a later one is there."""
-        self._said.left_out(placed.id, NO_FORM, placed.source.place(placed.number))
-        modified = "null"
-        with contextlib.suppress(FormFault):
-            modified = record_text(matches.modified_of(member(placed.record, "matchString")))
-        known = self._kept.rows("SELECT modified FROM matches WHERE key = ?", (placed.id,))
-        if modified == "null" or not any(_time(modified) < _time(one) for (one,) in known):
-            row = ("matchStrings", placed.id, placed.source.place(placed.number), NO_FORM, modified)
+        self._said.left_out(match.id, NO_FORM, match.place)
+        known = self._kept.rows("SELECT modified FROM matches WHERE key = ?", (match.id,))
+        if match.modified == "null" or not any(_time(match.modified) < _time(one) for (one,) in known):
+            row = ("matchStrings", match.id, match.place, NO_FORM, match.modified)
             self._kept.put("INSERT OR REPLACE INTO faults VALUES (?, ?, ?, ?, ?)", [row])
 
     def _drop_faults(self, key: str, modified: str) -> None:
@@ -412,11 +372,10 @@ class _LatestAdvisories:
         # (most have an id that comes once, and are put at the end of the page)
         self._new, self._new_ids = _New(), set[str]()
 
-    def put(self, place: int, record: Json) -> None:
-        form = in_form(record, self._is_of_records)
-        id, modified = told_apart(form)
+    def put(self, one: PreparedAdvisory) -> None:
+        id, modified = one.id, one.modified
         if id is None:
-            self._insert(place, None, modified, record)
+            self._insert(one)
             return
         if id in self._new_ids:
             self._write()
@@ -424,13 +383,13 @@ class _LatestAdvisories:
         known = [row[:3] for row in there if bool(row[3]) == self._is_of_records]
         if known:
             now, before = _time(modified), _time(known[0][1])
-            if now < before or now == before and any(self._form_of(data) == form for _, _, data in known):
+            if now < before or now == before and any(self._form_of(data) == self._form_of(one.data) for _, _, data in known):
                 return
             if now > before:
                 self._delete(known)
         for _, _, data, is_of_records in there:
             self._note_gone(in_form(self._kept.read(record_of, data), is_of_records))
-        self._insert(place, id, modified, record)
+        self._insert(one)
         if there:
             self._write()
             _mark(self._kept, id)
@@ -447,18 +406,17 @@ class _LatestAdvisories:
     def _note_gone(self, record: Json) -> None:
         """Notes of which products a record was that counts otherwise from this page on, so that what rests on it is decided again. The
         match feed lists items of other products too, which have names by its ranges."""
-        products = {NO_PRODUCT if one is None else self._number_of(one) for one in products_named(record)}
+        products = {self._number_of(one) if one else NO_PRODUCT for one in in_order(products_named(record))}
         keys = {key for key, _, _ in ranges_of(record)}
         products.update(number for (number,) in self._kept.rows_of("SELECT DISTINCT product FROM listing WHERE key IN {}", keys))
-        self._kept.put("INSERT OR IGNORE INTO gone VALUES (?, ?)", ((self._page_number, number) for number in products))
+        self._kept.put("INSERT OR IGNORE INTO gone VALUES (?, ?)", ((self._page_number, number) for number in sorted(products)))
 
-    def _insert(self, place: int, id: str | None, modified: str, record: Json) -> None:
-        data = zlib.compress(json.dumps(record, ensure_ascii=False, separators=(",", ":")).encode(errors="surrogatepass"), 1)
-        derived = Derived.of(in_form(record, self._is_of_records))
-        row = (place, id, self._is_of_records, modified, *derived.columns(), False, False, data)
+    def _insert(self, one: PreparedAdvisory) -> None:
+        place = place_of(self._page_number, one.number)
+        row = (place, one.id, self._is_of_records, one.modified, *one.derived.columns(), False, False, one.data)
         self._new.put("INSERT INTO advisories VALUES (?, ?, ?, ?, ?, ?, ?, ?, ?, ?, ?)", [row])
-        derived.put(self._new, place, self._number_of)
-        self._sums.put(place, data)
+        one.derived.put(self._new, place, self._number_of)
+        self._sums.put(place, one.data)
         self._changed += 1
 
     def _delete(self, known: Iterable[tuple[int, str, bytes]]) -> None:
@@ -467,11 +425,11 @@ class _LatestAdvisories:
             self._sums.drop(place, data)
             concern = concern_of(record)
             if concern is not None:
-                products = [(self._number_of(product), place) for product in concern.products]
+                products = [(self._number_of(product), place) for product in sorted(concern.products)]
                 self._kept.put("DELETE FROM concerns WHERE product = ? AND place = ?", products)
-                beside = [(self._number_of(product), place) for product in concern.beside]
+                beside = [(self._number_of(product), place) for product in sorted(concern.beside)]
                 self._kept.put("DELETE FROM beside WHERE product = ? AND place = ?", beside)
-            self._kept.put("DELETE FROM ranged WHERE key = ? AND place = ?", {(key, place) for key, _, _ in ranges_of(record)})
+            self._kept.put("DELETE FROM ranged WHERE key = ? AND place = ?", sorted({(key, place) for key, _, _ in ranges_of(record)}))
             for table in ("advisories", "made"):
                 self._kept.put(f"DELETE FROM {table} WHERE place = ?", [(place,)])
 
@@ -501,80 +459,10 @@ def marks_of(rows: Sequence[tuple[int, int, int]]) -> dict[int, tuple[bool, bool
     return {row[0]: (row in passed, is_doubled) for row in rows}
 
 
-def in_form(record: Json, is_of_records: bool) -> Json:
-    """The record of an advisory in NVD's form."""
-    return cve5.vulnerability(record) if is_of_records else record
-
-
-def told_apart(record: Json) -> tuple[str | None, str]:
-    """The id of an advisory, if it has one, and when it was modified, as JSON."""
-    cve = record.get("cve") if isinstance(record, dict) else None
-    if not isinstance(cve, dict):
-        return None, "null"
-    id = cve.get("id")
-    return id if isinstance(id, str) else None, record_text(cve.get("lastModified"))
-
-
-@dataclass(frozen=True)
-class Derived:
-    """What is kept beside the record of an advisory: whether it has configurations, why it has no verdict, which products it concerns and
-    what it becomes, if it is plain, and which of its matches have bounds, if it has a verdict."""
-
-    has_names: bool
-    state: str | None
-    concern: Concern | None
-    made: bytes | None
-    ranges: frozenset[tuple[str, Key, int]]
-
-    @staticmethod
-    def of(record: Json) -> Derived:
-        cve = record.get("cve") if isinstance(record, dict) else None
-        has_names = isinstance(cve, dict) and bool(cve.get("configurations"))
-        state = state_of(record)
-        concern = concern_of(record) if state is None else None
-        made = make(record) if concern is not None else None
-        # (of what something would be reported, that is read by every scan)
-        ranges = ranges_of(record) if state is None else frozenset()
-        return Derived(has_names, state, None if made is None else concern, made, ranges)
-
-    def columns(self) -> tuple[bool, str | None, bool, bool]:
-        """Whether it has configurations, its state, whether it isn't plain, and whether it asks for operating systems alone."""
-        is_odd = self.state is None and self.concern is None
-        return self.has_names, self.state, is_odd, self.concern is not None and self.concern.is_of_systems()
-
-    def put(self, kept: Kept | _New, place: int, number_of: Callable[[Key], int]) -> None:
-        """Puts its products and its matches that have bounds, and what it becomes."""
-        kept.put("INSERT INTO ranged VALUES (?, ?, ?, ?)", [(key, place, number_of(product), number) for key, product, number in self.ranges])
-        if self.concern is not None:
-            kept.put("INSERT INTO concerns VALUES (?, ?)", [(number_of(product), place) for product in self.concern.products])
-            kept.put("INSERT INTO beside VALUES (?, ?)", [(number_of(product), place) for product in self.concern.beside])
-            kept.put("INSERT INTO made VALUES (?, ?)", [(place, self.made)])
-
-
-def record_of(data: bytes) -> Json:
-    """The record of an advisory as it is kept, which is as it came."""
-    return json.loads(zlib.decompress(data).decode(errors="surrogatepass"))
-
-
 def change_of(text: str, placed: Placed) -> Change:
     """What a product says of deprecations, as it is kept."""
     name, is_old, date, by, of = json.loads(text)
     return Change(placed, name, is_old, date, tuple(by), tuple(of))
-
-
-def _is_plain(product: Product) -> bool:
-    """Whether cpe surely accepts the entry of a product with a plain name."""
-    if product.title is not None and (not isinstance(product.title, str) or len(product.title) > _LONGEST):
-        return False
-    return len(product.name) < _LONGEST and (product.day is None or _is_day(product.day))
-
-
-@functools.lru_cache(maxsize=1 << 14)
-def _is_day(text: Json) -> bool:
-    try:
-        return isinstance(text, str) and _DAY.fullmatch(text) is not None and date.fromisoformat(text).year > 1900
-    except ValueError:
-        return False
 
 
 def _path(path: str | None) -> str:
@@ -587,22 +475,6 @@ def _now() -> str:
 
 def _time(modified: str) -> datetime:
     return time_of(json.loads(modified))
-
-
-def _numbers_of(ids: Sequence[Json]) -> bytes:
-    """Numbers in place of ids, as bytes; 0 for a record without one."""
-    return array("Q", (_id_number(id) for id in ids)).tobytes()
-
-
-def _copy_of(page: Page) -> str:
-    """What two pages have alike that have the same records, each modified at the same time."""
-    return hashlib.blake2b(json.dumps(whole.stamps_of(page)).encode(), digest_size=16).hexdigest()
-
-
-def _id_number(id: Json) -> int:
-    if not isinstance(id, str):
-        return 0
-    return int.from_bytes(hashlib.blake2b(id.encode(errors="surrogatepass"), digest_size=8).digest(), "little") or 1
 
 
 def ids_of(data: bytes) -> Iterator[int | None]:

@@ -10,12 +10,13 @@ import json
 import zlib
 from collections.abc import Iterator
 
-from .adding import KINDS, NO_PRODUCT, Derived, Sums, in_form, marks_of, record_of, told_apart
+from .adding import KINDS, NO_PRODUCT, Sums, marks_of
 from .concern import Concern, plain_name, plain_product
 from .feeds import Json
 from .kept import Kept, page_and_number
 from .made import maker
 from .matches import key_of_name
+from .prepared import Derived, in_form, record_of, told_apart
 from .product_index import squeezed
 from .program import Program
 from .said import Said

@@ -1,17 +1,20 @@
 """How the recipes read feeds: files or standard input, packed or not (unpack.py), as pages of JSON, each with a list of records."""
 from __future__ import annotations
 
+import functools
+import hashlib
 import json
 import re
-from collections.abc import Callable, Iterator, Mapping, Sequence
+from collections.abc import Callable, Iterable, Iterator, Mapping, Sequence
 from dataclasses import dataclass, field, replace
 from pathlib import Path
-from typing import Any, NamedTuple, Protocol
+from typing import Any, NamedTuple, Protocol, TypeVar
 
 from .said import Fatal, Said, quoted
 from .unpack import LIMITS, FeedFault, Limits, Unpacked, read_feed
 
 Json = Any
+Read = TypeVar("Read")
 
 _SPACE = re.compile(r"\s*")
 _SURROGATE = re.compile("[\ud800-\udfff]")
@@ -86,10 +89,26 @@ class Page:
         return replace(self, records=records, numbers=numbers)
 
 
-class Follower(Protocol):
-    """Follows what is read: the files, and the members of archives among them, by their paths and by what they are called."""
+@dataclass(frozen=True)
+class Part:
+    """A file, or a member of an archive: its path, what it is called, and its bytes; or why it can't be unpacked, or what is remarked of
+    its file."""
 
-    def is_passed(self, path: str | None, place: str, data: bytes) -> bool:
+    path: str | None
+    place: str
+    data: bytes = b""
+    fault: str = ""
+    remark: str = ""
+
+    @functools.cached_property
+    def digest(self) -> str:
+        return hashlib.sha256(self.data).hexdigest()
+
+
+class Follower(Protocol):
+    """Follows what is read: the files, and the members of archives among them."""
+
+    def is_passed(self, part: Part) -> bool:
         """Whether the bytes of a file or member needn't be read."""
 
     def fault(self, path: str | None, place: str, reason: str) -> None:
@@ -161,57 +180,72 @@ def pages(
     kinds: Sequence[str],
     strict: bool = False,
     limits: Limits = LIMITS,
-    follower: Follower | None = None,
 ) -> Iterator[Page]:
     """The pages at these paths, of standard input where there is none.
 
     A page is an object in which one of `kinds` is a list, in a file or a member of an archive. Where a page is none, or can't be read,
     the others still come out, and that is said; where there is no page at all, or `strict` is asked for, it is Fatal.
     """
+    return read_parts(parts(list(paths) or [None], limits), len(paths), said, lambda part: pages_of(part, kinds), strict)
+
+
+def parts(paths: Sequence[str | None], limits: Limits) -> Iterator[Part]:
+    """The parts of these files in their order, and what is wrong with some."""
+    for path in paths:
+        name, unpacked = name_of(path), Unpacked(limits)
+        of_file = unpacked.parts(path)
+        while True:
+            try:
+                part = next(of_file, None)
+            except FeedFault as fault:
+                yield Part(path, name, fault=str(fault))
+                continue
+            if part is None:
+                break
+            yield Part(path, f"{name}/{part[0]}" if part[0] else name, part[1])
+        if unpacked.passed:
+            some = f"{len(unpacked.passed):,} {'member is' if len(unpacked.passed) == 1 else 'members are'} no page by the name"
+            yield Part(path, name, remark=f"{name}: {some}, such as {quoted(unpacked.passed[0])}")
+
+
+def read_parts(
+    of_files: Iterable[Part],
+    count: int,
+    said: Said,
+    read: Callable[[Part], Iterator[Read]],
+    strict: bool = False,
+    follower: Follower | None = None,
+) -> Iterator[Read]:
+    """What is read of each of the parts of so many files, as `pages` has it."""
     good, faults = 0, []
-    feeds: Sequence[str | None] = list(paths) or [None]
-    for path in feeds:
-        name = name_of(path)
-        for one in _pages_of(path, said, kinds, limits, follower):
-            if one is None:
+    for part in of_files:
+        if part.remark:
+            said.remark(part.remark)
+            continue
+        try:
+            if part.fault:
+                raise FeedFault(part.fault)
+            if follower is not None and follower.is_passed(part):
                 good += 1
-            elif isinstance(one, Page):
+                continue
+            for one in read(part):
                 good += 1
                 yield one
-            elif strict or len(paths) <= 1 and not good:
-                raise Fatal(f"{one[0]}: {one[1]}")
-            else:
-                faults.append(one[0])
-                said.left_out(*one)
+        except FeedFault as fault:
+            if follower is not None:
+                follower.fault(part.path, part.place, str(fault))
+            if strict or count <= 1 and not good:
+                raise Fatal(f"{part.place}: {fault}") from fault
+            faults.append(part.place)
+            said.left_out(part.place, str(fault))
     if not good and faults:
         raise Fatal(f"none of these can be read: {', '.join(faults)}")
 
 
-def _pages_of(
-    path: str | None, said: Said, kinds: Sequence[str], limits: Limits, follower: Follower | None
-) -> Iterator[Page | tuple[str, str] | None]:
-    """The pages of a file; of what is none its name and the reason; None in place of what is passed over."""
-    name, unpacked = name_of(path), Unpacked(limits)
-    parts = unpacked.parts(path)
-    while True:
-        place = name
-        try:
-            part = next(parts, None)
-            if part is None:
-                break
-            place = f"{name}/{part[0]}" if part[0] else name
-            if follower is not None and follower.is_passed(path, place, part[1]):
-                yield None
-                continue
-            for value in values_of(part[1]):
-                yield _page(place, value, kinds)
-        except FeedFault as fault:
-            if follower is not None:
-                follower.fault(path, place, str(fault))
-            yield place, str(fault)
-    if unpacked.passed:
-        some = f"{len(unpacked.passed):,} {'member is' if len(unpacked.passed) == 1 else 'members are'} no page by the name"
-        said.remark(f"{name}: {some}, such as {quoted(unpacked.passed[0])}")
+def pages_of(part: Part, kinds: Sequence[str]) -> Iterator[Page]:
+    """The pages of a part. FeedFault where it ends in something else."""
+    for value in values_of(part.data):
+        yield _page(part.place, value, kinds)
 
 
 def _page(name: str, value: Json, kinds: Sequence[str]) -> Page:

@@ -21,7 +21,7 @@ Kind, Read = TypeVar("Kind"), TypeVar("Read")
 
 FILE = "feeds.sqlite"
 # (change it with the tables, and with what is kept beside products and matches; what is kept beside advisories is made again)
-VERSION = 3
+VERSION = 4
 ADD_AGAIN = "run store.py add --store FOLDER as one who can write there"
 # By this number SQLite's own header says whose file it is.
 _APPLICATION = 0x43504553
@@ -242,15 +242,12 @@ class Kept:
             raise Fatal(f"{self._path}: the store has, or is asked for, what can not be kept: {fault}") from fault
 
 
-def _kept(values: Sequence[object]) -> tuple[object, ...]:
+def _kept(values: Sequence[object]) -> Sequence[object]:
     """Values as they are kept."""
-    return tuple([_kept_text(one) if isinstance(one, str) else one for one in values])
-
-
-def _kept_text(text: str) -> str:
-    if text.isascii() and _SIGN not in text:
-        return text
-    return _KEPT_BY_NUMBER.sub(lambda found: f"{_SIGN}{ord(found[0]):04x}", text)
+    texts = "".join([one for one in values if isinstance(one, str)])
+    if texts.isascii() and _SIGN not in texts:
+        return values
+    return [_KEPT_BY_NUMBER.sub(lambda found: f"{_SIGN}{ord(found[0]):04x}", one) if isinstance(one, str) else one for one in values]
 
 
 def _read_text(data: bytes) -> str:

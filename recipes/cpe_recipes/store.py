@@ -1,6 +1,6 @@
 """A store of feeds: pages are read into it once, and a scan takes from it what concerns its machines.
 
-    python3 store.py add --store FOLDER [--large] [PAGES..]
+    python3 store.py add --store FOLDER [--large] [--jobs NUMBER] [PAGES..]
     python3 store.py status --store FOLDER
     python3 store.py check --store FOLDER
     python3 store.py changes --store FOLDER [--since TIME]
@@ -11,7 +11,7 @@
   replace older records, older pages change nothing, and a page that is there already is passed over. Each page is added whole or not at
   all. If a run was stopped or killed, or the disk was full, run it again with the same pages. Until then each scan reports them as left
   out. A scan also reports what could not be read, until a good page is added. Without pages, add finishes the work that a stopped run
-  left.
+  left. --jobs is how many processes read pages while this one writes. If it is left out, this one does both.
 - status: writes how much is in the store, when something was last added, which pages of a feed are missing, which runs of add have not
   ended, and what could not be read.
 - check: reads the whole store again. It compares what was derived of the pages with the pages, and the records of each page with a
@@ -35,6 +35,7 @@ from .adding import KINDS, Adding
 from .earlier import Fleets
 from .kept import Kept
 from .latest import time_of
+from .preparing import Preparing
 from .program import Program
 from .progress import Progress
 from .said import Fatal, Output, Said, shown
@@ -45,12 +46,12 @@ from .whole import CALLED, Missing
 from .words import FLAG, ONE, Words, read_words
 
 USAGE = (
-    "store.py add --store FOLDER [--large] [PAGES..] | store.py status --store FOLDER | store.py check --store FOLDER | "
+    "store.py add --store FOLDER [--large] [--jobs NUMBER] [PAGES..] | store.py status --store FOLDER | store.py check --store FOLDER | "
     "store.py changes --store FOLDER [--since TIME] | store.py forget --store FOLDER FILES.."
 )
 # What each word takes beside the folder: options, and whether it takes files.
 _TAKES: Mapping[str, tuple[Mapping[str, int], bool | None]] = {
-    "add": ({"--large": FLAG}, None),
+    "add": ({"--large": FLAG, "--jobs": ONE}, None),
     "status": ({}, False),
     "check": ({}, False),
     "changes": ({"--since": ONE}, False),
@@ -76,8 +77,9 @@ def run(words: Sequence[str]) -> int:
 
 
 def _add(folder: str, read: Words, said: Said, output: Output) -> None:
+    # (of a word that was mistyped nothing is noted)
+    jobs = _jobs(read)
     for path in read.files:
-        # (of a word that was mistyped nothing is noted)
         if not os.path.exists(path):
             raise Fatal(f"{path}: there is no such file; nothing was added")
     program = Program()
@@ -88,7 +90,7 @@ def _add(folder: str, read: Words, said: Said, output: Output) -> None:
         count = changed = 0
         if read.files:
             adding.begin(read.files)
-            count, changed = _put(adding, read, said, progress)
+            count, changed = _put(adding, read, jobs, said, progress)
         progress.step("reading what the pages say together")
         settle(kept, program)
         if read.files:
@@ -98,18 +100,27 @@ def _add(folder: str, read: Words, said: Said, output: Output) -> None:
     output.line(f"added {counted(count, 'page')}: {counted(changed, 'record')} new or later{were}")
 
 
-def _put(adding: Adding, read: Words, said: Said, progress: Progress) -> tuple[int, int]:
+def _put(adding: Adding, read: Words, jobs: int, said: Said, progress: Progress) -> tuple[int, int]:
     """Adds the pages: how many they are, and how many of their records are new or later."""
     limits = LARGE if read.has("--large") else TOLD_LIMITS
     count = changed = 0
     progress.step("adding pages")
-    for page in feeds.pages(read.files, said, KINDS, limits=limits, follower=adding):
-        added = adding.put(page)
-        if added is not None:
-            count, changed = count + 1, changed + added
-            progress.step(f"adding pages, {count} so far")
+    with Preparing(jobs, adding.is_there) as preparing:
+        parts = preparing.ahead(feeds.parts(read.files, limits))
+        for page in feeds.read_parts(parts, len(read.files), said, preparing.pages, follower=adding):
+            added = adding.put(page)
+            if added is not None:
+                count, changed = count + 1, changed + added
+                progress.step(f"adding pages, {count} so far")
     adding.end()
     return count, changed
+
+
+def _jobs(read: Words) -> int:
+    given = read.only("--jobs")
+    if given is not None and (not given.isdecimal() or int(given) == 0):
+        raise Fatal(f"--jobs is {given}, and a number of processes is expected")
+    return int(given or 1)
 
 
 def _status(folder: str, read: Words, said: Said, output: Output) -> None:

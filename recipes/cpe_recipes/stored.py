@@ -9,7 +9,7 @@ from collections.abc import Collection, Iterable, Iterator, Mapping, Sequence
 from dataclasses import dataclass
 
 from . import advisories, names
-from .adding import NO_PRODUCT, Adding, in_form, is_of_these_recipes, record_of
+from .adding import NO_PRODUCT, Adding, is_of_these_recipes
 from .cases import Asked, Known
 from .components import Machine
 from .concern import plain_product, products_named
@@ -21,6 +21,7 @@ from .matches import key_of_name
 from .naming import Unnamed, name_machines, wanted_names
 from .names_table import Tables
 from .near_products import OPEN, Product, key_of, keys_of
+from .prepared import in_form, record_of
 from .product_index import squeezed
 from .program import Candidate, Program
 from .said import Deferred, Fatal, Mute, Said

@@ -1,6 +1,4 @@
-"""A store of feeds: a scan from it writes what a scan of all pages writes, whatever was added, killed, old or twice; and bad stores."""
-import functools
-import io
+"""A store of feeds: pages that are old, there twice, missing, torn or odd; and bad stores, full disks and other users."""
 import itertools
 import json
 import os
@@ -16,52 +14,18 @@ from contextlib import contextmanager
 from pathlib import Path
 from unittest import mock
 
-from drawn_feeds import MEMBERS, Feeds
 from recipe_case import RECIPES, SAMPLES, RecipeCase, fs, needs_cpe
-from test_portions import SMALL, advisory, limited, match
+from stored_case import OPTIONS, Sequence, cve, of_verdicts, page, product, ran
+from test_portions import SMALL, limited, match
 
 from test_feeds import Heard
 
-from cpe_recipes import adding, cve5, feeds, fleet, made, names_table, scan, store, stored
+from cpe_recipes import adding, cve5, feeds, fleet, made, scan, store, stored
 from cpe_recipes.kept import FILE, VERSION, Kept
+from cpe_recipes.prepared import prepare
 from cpe_recipes.program import Program
 from cpe_recipes.said import Fatal
 from cpe_recipes.session import Session
-
-# How many sequences of windows, lists and kills are drawn.
-SEQUENCES = int(os.environ.get("STORE_SEQUENCES", "50"))
-OPTIONS = {"products": "--dictionary", "vulnerabilities": "--advisories", "matchStrings": "--matches"}
-FORMS = ([], ["--json"], ["--json", "--all"], ["--json", "--why"], ["--json", "--strict", "--hardware", "none"])
-
-
-def ran(run, words):
-    """The status of a recipe, what it writes, and the lines that it says."""
-    streams = {1: io.BytesIO(), 2: io.BytesIO()}
-    with mock.patch("cpe_recipes.said.os.write", side_effect=lambda to, data: streams[to].write(data)):
-        status = run(words)
-    return status, streams[1].getvalue().decode(), streams[2].getvalue().decode().splitlines()
-
-
-def killed(words, moment):
-    """Runs store.py in a process that is killed when it has asked the store so often; whether it was killed before its end."""
-    process = os.fork()
-    if process == 0:
-        asked = 0
-
-        def ask(self, *given):
-            nonlocal asked
-            asked += 1
-            if asked == moment:
-                os.kill(os.getpid(), signal.SIGKILL)
-            return put(self, *given)
-
-        put = Kept.put
-        try:
-            with mock.patch.object(Kept, "put", ask):
-                ran(store.run, words)
-        finally:
-            os._exit(0)
-    return os.WIFSIGNALED(os.waitpid(process, 0)[1])
 
 
 @contextmanager
@@ -75,104 +39,6 @@ def as_another():
     finally:
         if is_root:
             os.seteuid(0)
-
-
-class Sequence:
-    """A store that was filled in a drawn way, and the pages in the order in which they were added."""
-
-    def __init__(self, seed, folder):
-        self.folder, self.feeds = Path(folder), Feeds(seed)
-        self.draw = self.feeds.draw
-        self.store = str(self.folder / "store")
-        self.added = {kind: [] for kind in OPTIONS}
-        self.bytes = set()
-        self.kills = 0
-        self.add(self.feeds.whole(self.folder))
-
-    def add(self, pages):
-        """Adds pages in drawn portions, in runs of which some are killed and begun again."""
-        paths = [(kind, path) for kind, of_kind in pages.items() for path in of_kind]
-        while paths:
-            count = self.draw.randint(1, 9)
-            for kind, path in paths[:count]:
-                data = Path(path).read_bytes()
-                # (one of the same bytes is the same page)
-                if data not in self.bytes:
-                    self.bytes.add(data)
-                    self.added[kind].append(path)
-            self._run([path for _, path in paths[:count]])
-            paths = paths[count:]
-
-    def _run(self, paths):
-        words = ["add", "--store", self.store, *paths]
-        while self.draw.randrange(2) == 0 and killed(words, self.draw.randint(1, 60)):
-            self.kills += 1
-        ran(store.run, words)
-
-    def day(self):
-        """A day later: a window of changes, perhaps with a page that is there or an older one; sometimes all pages again."""
-        what = self.draw.randrange(6)
-        self.add(self.feeds.whole(self.folder) if what == 0 else self.feeds.changed(self.folder))
-        if what == 1:
-            self._run([self.draw.choice(of_kind) for of_kind in self.added.values()])
-        elif what == 2:
-            self.add({kind: [self._spelled_otherwise(self.draw.choice(of_kind))] for kind, of_kind in self.added.items()})
-
-    def _spelled_otherwise(self, path):
-        """A page that was added before, in other bytes."""
-        self.feeds.pages += 1
-        other = self.folder / f"page-{self.feeds.pages}.json"
-        other.write_text(json.dumps(json.loads(Path(path).read_text()), indent=1))
-        return str(other)
-
-    def scanned(self, *words):
-        """What a scan from the store writes, and what one of all pages does."""
-        pages = [word for kind, paths in self.added.items() for word in (OPTIONS[kind], *paths)]
-        return ran(scan.run, ["--store", self.store, *words]), ran(scan.run, [*pages, *words])
-
-
-def of_verdicts(said):
-    """What is said, except of pages: that something comes more than once; and without the commands to copy."""
-    lines = (line.split("; to list them: ")[0] for line in said)
-    return sorted(line for line in lines if " more than once" not in line and "page-" not in line)
-
-
-@needs_cpe
-# (which never changes, and takes as long as all else)
-@mock.patch("cpe_recipes.names_table.read_table", functools.cache(names_table.read_table))
-class Sequences(unittest.TestCase):
-    def test_a_scan_from_a_store_writes_what_a_scan_of_all_pages_does(self):
-        kills = 0
-        for seed in range(SEQUENCES):
-            with tempfile.TemporaryDirectory() as folder, self.subTest(seed):
-                sequence = Sequence(seed, folder)
-                for day in range(sequence.draw.randint(1, 3)):
-                    sequence.day()
-                    machines = sequence.feeds.machines(Path(folder) / "machines", is_odd=sequence.draw.randrange(2) == 0)
-                    form = FORMS[(seed + day) % len(FORMS)]
-                    (status, written, said), whole = sequence.scanned("--machines", machines, *form)
-                    self.assertEqual((status, written), whole[:2])
-                    self.assertEqual(of_verdicts(said), of_verdicts(whole[2]))
-                kills += sequence.kills
-                self.assertEqual(ran(store.run, ("check", "--store", sequence.store))[0], 0)
-        self.assertGreater(kills, SEQUENCES // 4)
-
-
-def cve(number, *matches, status="Analyzed", modified="2024-01-01T00:00:00.000"):
-    record = advisory(*matches, id=f"CVE-2024-{number:04}")
-    record["cve"] |= {"vulnStatus": status, "lastModified": modified}
-    if not matches:
-        del record["cve"]["configurations"]
-    return record
-
-
-def product(name, modified="2024-01-01T00:00:00.000", **more):
-    return {"cpe": {"cpeName": name, "cpeNameId": name, "lastModified": modified, **more}}
-
-
-def page(kind, *records, start=0, total=None):
-    counts = {"resultsPerPage": len(records), "startIndex": start, "totalResults": len(records) if total is None else total}
-    return {**counts, "format": MEMBERS[kind], "version": "2.0", kind: list(records)}
 
 
 HERE, ELSEWHERE = fs("v", "p", "1.0"), fs("w", "q", "1.0")
@@ -689,7 +555,7 @@ class Stores(RecipeCase):
 
         def added(*given):
             kept = Kept(self.store)
-            adding.Adding(kept, Heard()).put(next(feeds.pages([late], Heard(), adding.KINDS)))
+            adding.Adding(kept, Heard()).put(prepare(next(feeds.pages([late], Heard(), adding.KINDS))))
             kept.close()
 
         # (what the pages say together is worked out by the scan then)

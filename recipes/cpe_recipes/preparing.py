@@ -1,0 +1,148 @@
+"""Reads pages for a store in several processes: each reads a file, or a member of an archive, while another is put.
+
+    python3 run.py preparing
+
+Such a process takes parts from its standard input until that ends, and writes what each becomes. What is unpacked, what is put, and what is
+said, is all of the process that started them, in the order of the files. So neither the store nor what is said depends on how many there are.
+"""
+from __future__ import annotations
+
+import pickle
+import subprocess
+import sys
+from collections import deque
+from collections.abc import Callable, Iterable, Iterator, Sequence
+from typing import IO
+
+from . import feeds, workers
+from .adding import KINDS
+from .feeds import Part
+from .prepared import Prepared, prepare
+from .said import DONE, Fatal, write_all
+
+# What a part becomes: its pages, and what went wrong behind them.
+_Read = tuple[list[Prepared], Exception | None]
+
+
+def run(words: Sequence[str]) -> int:
+    try:
+        while True:
+            write_all(1, pickle.dumps(_read(Part(None, *pickle.load(sys.stdin.buffer)))), "what pages become")
+    except (EOFError, Fatal, pickle.UnpicklingError):
+        # (who started this has ended)
+        return DONE
+
+
+def _read(part: Part) -> _Read:
+    pages: list[Prepared] = []
+    try:
+        pages.extend(_pages_of(part))
+    except Exception as fault:  # noqa: BLE001 (it is raised again by who asked)
+        return pages, fault
+    return pages, None
+
+
+def _pages_of(part: Part) -> Iterator[Prepared]:
+    return map(prepare, feeds.pages_of(part, KINDS))
+
+
+class Preparing:
+    """What the parts of files become, read by so many processes; by this one alone if it is one. Those of which is known that they are there
+    are left to their turn."""
+
+    def __init__(self, jobs: int, is_there: Callable[[Part], bool]) -> None:
+        self._jobs, self._is_there = jobs, is_there
+        self._processes: list[_Process] = []
+        self._idle: list[_Process] = []
+        self._waiting: deque[tuple[Part, _Process | None]] = deque()
+        # (of the part whose turn it is, if another process read it)
+        self._read: _Read | None = None
+
+    def __enter__(self) -> Preparing:
+        return self
+
+    def __exit__(self, *_: object) -> None:
+        for process in self._processes:
+            process.end()
+
+    def ahead(self, parts: Iterable[Part]) -> Iterator[Part]:
+        """The parts in their order, of which the next ones are being read meanwhile."""
+        if self._jobs == 1:
+            yield from parts
+            return
+        left = iter(parts)
+        self._begin(left)
+        while self._waiting:
+            part, process = self._waiting.popleft()
+            self._read = None if process is None else process.take()
+            if process is not None:
+                self._idle.append(process)
+            self._begin(left)
+            yield part
+
+    def _begin(self, left: Iterator[Part]) -> None:
+        """Gives the next parts to the processes that have none."""
+        while len(self._waiting) < 2 * self._jobs and (self._idle or len(self._processes) < self._jobs):
+            part = next(left, None)
+            if part is None:
+                break
+            process = self._process() if self._is_to_read(part) else None
+            if process is not None:
+                process.give(part)
+            self._waiting.append((part, process))
+
+    def _is_to_read(self, part: Part) -> bool:
+        if not part.data or any(part.digest == other.digest for other, _ in self._waiting):
+            return False
+        return not self._is_there(part)
+
+    def _process(self) -> _Process:
+        if not self._idle:
+            self._processes.append(_Process())
+            self._idle.append(self._processes[-1])
+        return self._idle.pop()
+
+    def pages(self, part: Part) -> Iterator[Prepared]:
+        """The pages of the part whose turn it is."""
+        if self._read is None:
+            yield from _pages_of(part)
+            return
+        (pages, fault), self._read = self._read, None
+        yield from pages
+        if fault is not None:
+            raise fault
+
+
+class _Process:
+    """A process that reads parts, one after the other."""
+
+    def __init__(self) -> None:
+        self._run = subprocess.Popen(workers.python_worker("preparing"), stdin=subprocess.PIPE, stdout=subprocess.PIPE)
+
+    def give(self, part: Part) -> None:
+        try:
+            pickle.dump((part.place, part.data), self._pipe(self._run.stdin))
+            self._pipe(self._run.stdin).flush()
+        except OSError as fault:
+            raise self._fault() from fault
+
+    def take(self) -> _Read:
+        try:
+            return pickle.load(self._pipe(self._run.stdout))
+        except (EOFError, OSError, pickle.UnpicklingError) as fault:
+            raise self._fault() from fault
+
+    @staticmethod
+    def _pipe(pipe: IO[bytes] | None) -> IO[bytes]:
+        assert pipe is not None
+        return pipe
+
+    def _fault(self) -> Fatal:
+        status = self._run.wait()
+        how = f"was ended by signal {-status}" if status < 0 else f"ended with status {status}"
+        return Fatal(f"a process that reads pages {how}; the pages that were added before are kept: run it again with the same files")
+
+    def end(self) -> None:
+        self._run.kill()
+        with self._run:
+            pass
