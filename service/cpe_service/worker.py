@@ -2,7 +2,7 @@
 
 It takes what waits from the database, and writes the verdicts and what changed of them in one transaction. So whenever it is killed,
 the next one finds what is left. Machines with new lists come before those that wait for another ground. If none of its shard waits, it
-takes one of another shard that no other worker has claimed.
+takes one of another shard that no other worker has claimed; if there are more new lists than workers, the list that waits longest.
 """
 from __future__ import annotations
 
@@ -18,7 +18,7 @@ import threading
 import time
 import traceback
 from collections import Counter
-from collections.abc import Iterator, Sequence
+from collections.abc import Iterable, Iterator, Sequence
 from pathlib import Path
 
 from cpe_recipes.feeds import FeedFault
@@ -87,7 +87,7 @@ class Worker:
             traceback.print_exception(fault)
             self._is_troubled = True
             with contextlib.suppress(sqlite3.Error), writing(self._database):
-                note(self._database, f"trouble {self._shard}", whole(str(fault)) or type(fault).__name__)
+                note(self._database, f"trouble {self._shard}", whole(pathless(str(fault))) or type(fault).__name__)
             return _PAUSE
 
     def _listen(self) -> None:
@@ -174,18 +174,20 @@ class Worker:
         return [Waiting(*row) for row in self._database.execute("SELECT id, name, put, list FROM machines ORDER BY id")]
 
     def _waiting(self, ground: int) -> list[Waiting]:
-        """Some machines that wait and that no other worker judges, those with new lists first, and those of this shard before others."""
+        """Some machines that wait and that no other worker judges, those with new lists first. Those of this shard come before others, since
+        it knows their names; but if more lists wait than there are workers, the one that waits longest comes first."""
         new, old = "put <> judged_put", "judged_ground <> ?"
         count = self._database.execute(f"SELECT count(*) FROM machines WHERE {new}").fetchone()[0]
         # (who waits for an answer waits for no other list, if there are as many workers as lists)
         most = max(1, min(_NEW, count // (2 * self._shards)))
-        return self._claimed(new, (), "put", most) or self._claimed(old, (ground,), "judged_ground", _OTHERS)
+        own, other = (f" AND shard % {self._shards} {shard} {self._shard}" for shard in ("=", "<>"))
+        shards = (own, other) if count <= self._shards else ("",)
+        return self._claimed(new, (), "put", most, shards) or self._claimed(old, (ground,), "judged_ground", _OTHERS, (own, other))
 
-    def _claimed(self, waits: str, values: tuple[int, ...], order: str, most: int) -> list[Waiting]:
-        """Some machines that wait so, which are claimed."""
-        for shard in ("=", "<>"):
-            where = f"{waits} AND shard % {self._shards} {shard} {self._shard}"
-            rows = self._database.execute(f"SELECT id FROM machines WHERE {where} ORDER BY {order} LIMIT {_LOOKED_AT}", values).fetchall()
+    def _claimed(self, waits: str, values: tuple[int, ...], order: str, most: int, shards: Iterable[str]) -> list[Waiting]:
+        """Some machines that wait so, which are claimed, of the first of these shards that has some."""
+        for shard in shards:
+            rows = self._database.execute(f"SELECT id FROM machines WHERE {waits}{shard} ORDER BY {order} LIMIT {_LOOKED_AT}", values).fetchall()
             ids = self._claims.take((row["id"] for row in rows), most)
             # (another worker may have judged it before it was claimed)
             question = f"SELECT id, name, put, list, {_SINCE} FROM machines WHERE id = ? AND {waits}"

@@ -222,6 +222,54 @@ class DrawnTest(ChangedCase):
 
 
 # Another process claims the first machine until its input ends.
+class SameListTest(WorkerCase):
+    """A list that a machine has already is judged again only if its verdicts are of something else."""
+
+    def setUp(self):
+        super().setUp()
+        self.feed("products", product(NAME % "1"), product(OTHER))
+        self.feed("vulnerabilities", advisory("CVE-2024-1", NAME % "1"))
+        self.put("m", NAME % "1")
+
+    def state(self):
+        (found,) = self.rows("put = judged_put, put = result_put, fault <> ''", name="m")
+        return found
+
+    def test_it_has_its_verdicts_at_once(self):
+        self.judge()
+        before = self.rows("put"), self.rows("*", "history"), self.rows("result"), self.rows("judged_at")
+        self.put("m", NAME % "1")
+        self.assertEqual(self.state(), (1, 1, 0))
+        self.assertGreater(self.rows("put"), before[0])
+        self.assertEqual((self.rows("*", "history"), self.rows("result"), self.rows("judged_at")), before[1:])
+        self.feed("vulnerabilities", advisory("CVE-2024-2", NAME % "1"))
+        self.judge()
+        changes = self.rows("advisory, before, after, cause", "history")
+        self.assertEqual(changes[1:], [("CVE-2024-2", "none", "TRUE", "feed")])
+
+    def test_it_waits_if_it_was_not_judged_yet(self):
+        self.put("m", NAME % "1")
+        self.assertEqual(self.state(), (0, 0, 0))
+        self.judge()
+        self.put("m", NAME % "1", OTHER)
+        self.put("m", NAME % "1", OTHER)
+        self.assertEqual(self.state(), (0, 0, 0))
+
+    def test_it_waits_if_the_feeds_are_others(self):
+        self.judge()
+        self.feed("vulnerabilities", advisory("CVE-2024-2", NAME % "1"))
+        self.put("m", NAME % "1")
+        self.assertEqual(self.state(), (0, 0, 0))
+
+    def test_it_waits_if_there_was_no_result(self):
+        with mock.patch.object(worker.Judge, "judge", side_effect=KeyError("odd")):
+            self.judge()
+        self.put("m", NAME % "1")
+        self.assertEqual(self.state(), (0, 0, 1))
+        self.judge()
+        self.assertEqual(self.state(), (1, 1, 0))
+
+
 CLAIMING = """
 import sys
 from pathlib import Path
@@ -260,14 +308,16 @@ class ClaimsTest(WorkerCase):
         one = worker.Worker(self.folder / "data", 1, 3)
         one._send = [].append
         self.addCleanup(one._end)
-        order = []
+        before = self.rows("id, shard % 3, judged_put = put")
         while one._step():
-            done = self.rows("shard % 3, judged_put = put")
-            order.append([shard for shard, is_judged in done if is_judged])
-        self.assertEqual(sorted(order[-1]), sorted(shards))
-        # (its own come first)
-        own = shards.count(1)
-        self.assertEqual(next(found for found in order if len(found) >= own)[:own].count(1), own)
+            after = self.rows("id, shard % 3, judged_put = put")
+            waited = [(id, shard) for id, shard, is_judged in before if not is_judged]
+            taken = [id for (id, _, was), (_, _, is_now) in zip(before, after) if is_now and not was]
+            # (if more wait than there are workers, those that wait longest come first, and else its own)
+            first = [id for id, _ in waited] if len(waited) > 3 else [id for id, shard in sorted(waited, key=lambda row: row[1] != 1)]
+            self.assertEqual(taken, sorted(first[: len(taken)]))
+            before = after
+        self.assertEqual([is_judged for _, _, is_judged in before], [1] * 12)
 
 
 if __name__ == "__main__":
