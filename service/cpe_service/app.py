@@ -146,7 +146,7 @@ class Service:
             await process.end()
 
     def stop(self) -> None:
-        """Has those who listen to events go."""
+        """Ends the answers of those who listen to events."""
         self._is_ending = True
         self._notify()
 
@@ -247,7 +247,7 @@ class Service:
         return Answer(value, status)
 
     async def _wait(self, machine: str, edit: int) -> None:
-        """Waits for the verdicts of a list. They may be there before anyone waits, or not come for long."""
+        """Waits for the verdicts of a list. They may be there before anyone waits, or take long."""
         future: asyncio.Future[None] = asyncio.get_running_loop().create_future()
         self._unsettled[future] = machine, edit
         self._look()

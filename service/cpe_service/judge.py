@@ -71,7 +71,7 @@ class Judge:
         return [self._judged(*of_one, said) for of_one in zip(*self._rows(machines, said, asked))]
 
     def judge_changed(self, machines: Sequence[Machine], changed: Changed) -> list[Judged | None]:
-        """The results of the advisories that changed since the machines were judged. None for one of which all has to be judged anew."""
+        """The results of the advisories that changed since the machines were judged. None for one of which all has to be judged again."""
         said, part = Quiet(), self._part(changed.ids)
         found, *rest = part._rows(machines, said, None)
         return [
@@ -87,7 +87,7 @@ class Judge:
         return self._parts[ids]
 
     def _rows(self, machines: Sequence[Machine], said: Quiet, asked: Deciding | None) -> tuple[list[Found], list[Verdicts], list[Json]]:
-        """What comes of the machines, with their verdicts, and as rows."""
+        """What is found of the machines, with their verdicts, and as rows."""
         ground = self.ground
         self._scan.deciding = asked or self._deciding
         unnamed = name_machines(machines, ground.names, ground.entries)

@@ -1,8 +1,9 @@
 """What is kept of a ground and of the machines that were judged by it, so that the next machine costs what is new of it.
 
 Runs of `cpe` stay. One has the dictionary, one has the statements, or one a portion of them that `cpe` takes, one has the ranges of
-versions, and one has nothing and answers what is asked of items alone. Each machine's items are put, asked for, and removed. What a name
-is, how it stands to ranges, what a statement is over some items, and which items decide it, is the same on each machine, so it is kept.
+versions, and one has nothing and answers what is asked of items alone. Each machine's items are put, asked for, and removed. It is the
+same on each machine where a name leads, which ranges have it, what a statement is over some items, and which items decide that. So this
+is kept.
 """
 from __future__ import annotations
 
@@ -64,7 +65,7 @@ class KeptNames:
         new = [item for item in items if item not in self._items]
         if new:
             found = leads_of(self._dictionary, [], new, ())
-            # (as in one run over all, where facts come after items)
+            # (as in one run over all, where facts are behind items)
             for mine, more in ((self.leads.found, found.found), (self.leads.refused, found.refused)):
                 mine.update((name, one) for name, one in more.items() if name not in mine)
             self._items.update(new)
@@ -182,7 +183,7 @@ class KeptScan(Scan):
         self._kept_decider.criteria = self._criteria
 
     def _decider(self, ends: Iterable[str]) -> Decider:
-        """How a name stands to a range is the same on each machine, so it is kept."""
+        """Whether a range has a name is the same on each machine, so it is kept."""
         if len(self._ends) > _MOST_NAMES:
             self._forget_ends()
         new = [end for end in dict.fromkeys(ends) if end not in self._ends]
@@ -192,8 +193,8 @@ class KeptScan(Scan):
         return self._kept_decider
 
     def _add_ends(self, new: Sequence[str]) -> None:
-        """Adds how these names stand to ranges: those that are known in part to all, and the others to those that can't be asked for, and
-        to those that can."""
+        """Adds which ranges have these names. For names that are known in part, and for ranges that can't be asked for, the decider asks
+        itself; all others are asked of the runs that have the ranges."""
         sure, in_part = list[str](), list[str]()
         for end in new:
             (in_part if names.is_known_in_part(end) else sure).append(end)
@@ -246,7 +247,7 @@ class KeptDeciding(Chosen):
         return {place: self._kept[key] for place, key in keys.items()}
 
     def _keys(self, called: Sequence[Called], decided: Decided, places: Iterable[int]) -> Iterator[Hashable]:
-        """What the words of each statement come from: the names that its facts may cover, in their order and with their items, and of its
+        """What the words of each statement depend on: the names that its facts may cover, in their order and with their items, and of its
         checks the truths, with the items that make these so."""
         items = {one.name: one.item for one in reversed(called)}
         order = {name: number for number, name in enumerate(items)}

@@ -29,7 +29,7 @@ _LINKS = (("/machines", "Machines"), ("/advisories", "Advisories"), ("/changes",
 _LEVELS = ((9.0, "critical"), (7.0, "high"), (4.0, "medium"), (0.0, "low"))
 _MEANINGS = (
     ("TRUE", "the machine is affected"),
-    ("ERROR", "a check came to no result"),
+    ("ERROR", "a check has no result"),
     ("UNKNOWN", "the feeds and the list do not say; beside it is what it depends on"),
     ("perhaps", "UNKNOWN, since an item says less than the advisory asks for"),
     ("accepted", "someone accepted it, with a reason"),

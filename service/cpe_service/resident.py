@@ -19,8 +19,12 @@ class Resident(Program):
         """Fatal if the run can't begin, or ends while it reads the records."""
         super().__init__(path, is_tried=False)
         self._word, self._run = word, Run(self.path, word)
-        for _ in self.lines([word], records):
-            pass
+        try:
+            for _ in self.lines([word], records):
+                pass
+        except BaseException:
+            self.end()
+            raise
 
     def lines(self, words: Sequence[str], records: Iterable[str]) -> Iterator[str]:
         """What it writes over these lines. Fatal if it ends before."""

@@ -10,7 +10,7 @@ from .queries import KINDS
 _TIME = r"[0-9]{1,12}(\.[0-9]{1,6})?|[0-9]{4}-[0-9]{2}-[0-9]{2}(T[0-9]{2}:[0-9]{2}(:[0-9]{2}(\.[0-9]{1,6})?)?(Z|[+-][0-9]{2}:[0-9]{2})?)?"
 
 MACHINE = Parameter(
-    "machine", "the name of a machine: letters, digits and _.@+:~-, of which . and - and the others come after a letter, a digit or _",
+    "machine", "the name of a machine: letters, digits and _.@+:~-, of which the first is a letter, a digit or _",
     r"[A-Za-z0-9_][A-Za-z0-9_.@+:~-]*", 200, in_path=True,
 )
 ADVISORY = Parameter("advisory", "the id of an advisory", r"[^\x00-\x1f\x7f]+", 300, in_path=True)

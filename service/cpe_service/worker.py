@@ -1,7 +1,7 @@
 """The process that judges machines, those of its shard first: python3 -m cpe_service.worker DATA SHARD SHARDS.
 
 It takes what waits from the database, and writes the verdicts and what changed of them in one transaction. So whenever it is killed,
-the next one finds what is left. Machines with new lists come before those that wait for another ground. If none of its shard waits, it
+the next one finds what is left. Machines with new lists are before those that wait for another ground. If none of its shard waits, it
 takes one of another shard that no other worker has claimed; if there are more new lists than workers, the list that waits longest.
 """
 from __future__ import annotations
@@ -74,7 +74,7 @@ class Worker:
                 message = self._inbox.get(timeout=seconds) if seconds else self._inbox.get_nowait()
             except queue.Empty:
                 continue
-            # (nobody waits any more for what comes late)
+            # (nobody waits any more for what is late)
             if message["do"] == "certificate" and time.time() < message["until"]:
                 self._send({"answer": message["number"], **self._certificate(message)})
 
@@ -134,8 +134,8 @@ class Worker:
         if self._judge is None or self._judge.ground.edit != ground_of(self._database):
             self._end()
             ground = read_ground(self._database, self._program, self._machines)
-            self._note(ground)
             self._judge = Judge(self._program, ground)
+            self._note(ground)
             self._note_changed(self._judge.basis)
             # (the ground is large and stays, so Python needn't look through it for garbage again and again)
             gc.unfreeze()
@@ -174,8 +174,8 @@ class Worker:
         return [Waiting(*row) for row in self._database.execute("SELECT id, name, put, list FROM machines ORDER BY id")]
 
     def _waiting(self, ground: int) -> list[Waiting]:
-        """Some machines that wait and that no other worker judges, those with new lists first. Those of this shard come before others, since
-        it knows their names; but if more lists wait than there are workers, the one that waits longest comes first."""
+        """Some machines that wait and that no other worker judges, those with new lists first. Those of this shard are before others, since
+        it knows their names; but if more lists wait than there are workers, the one that waits longest is first."""
         new, old = "put <> judged_put", "judged_ground <> ?"
         count = self._database.execute(f"SELECT count(*) FROM machines WHERE {new}").fetchone()[0]
         # (who waits for an answer waits for no other list, if there are as many workers as lists)

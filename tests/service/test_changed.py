@@ -1,4 +1,4 @@
-"""After a window of advisories what changed alone is judged anew, and the results are those of judging all.
+"""After a window of advisories what changed alone is judged again, and the results are those of judging all.
 
 CPE_FLEETS is how many fleets are drawn, and CPE_SEED the first of their seeds.
 """
@@ -54,7 +54,7 @@ class ChangedCase(WorkerCase):
         return {how: count for how, count in self.counts.items() if count}
 
     def check(self):
-        """What is kept of each machine is what comes of judging all of it."""
+        """What is kept of each machine is what judging all of it gives."""
         database, judge = self.judges._database, self.judges._ready()
         rows = database.execute("SELECT id, name, put, list, result, counts FROM machines").fetchall()
         for row in rows:
@@ -313,7 +313,7 @@ class ClaimsTest(WorkerCase):
             after = self.rows("id, shard % 3, judged_put = put")
             waited = [(id, shard) for id, shard, is_judged in before if not is_judged]
             taken = [id for (id, _, was), (_, _, is_now) in zip(before, after) if is_now and not was]
-            # (if more wait than there are workers, those that wait longest come first, and else its own)
+            # (if more wait than there are workers, those that wait longest are first, and else its own)
             first = [id for id, _ in waited] if len(waited) > 3 else [id for id, shard in sorted(waited, key=lambda row: row[1] != 1)]
             self.assertEqual(taken, sorted(first[: len(taken)]))
             before = after
