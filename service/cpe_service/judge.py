@@ -12,7 +12,7 @@ from cpe_recipes import affected
 from cpe_recipes.components import Machine
 from cpe_recipes.deciding import Deciding
 from cpe_recipes.feeds import Json
-from cpe_recipes.naming import name_machines
+from cpe_recipes.naming import name_machines, wanted_names
 from cpe_recipes.outcome import Found, Hanging, json_of, machines_with_verdicts
 from cpe_recipes.program import Program
 from cpe_recipes.verdicts import Machine as Verdicts
@@ -90,7 +90,7 @@ class Judge:
         """What is found of the machines, with their verdicts, and as rows."""
         ground = self.ground
         self._scan.deciding = asked or self._deciding
-        unnamed = name_machines(machines, ground.names, ground.entries)
+        unnamed = name_machines(machines, ground.names, self._scan.names.entries.of(wanted_names(machines, ground.names)))
         found = self._scan.machines(machines)
         self._scan.tell_items(found, said, "")
         verdicts = machines_with_verdicts(ground.known, self._scan.bare, found)

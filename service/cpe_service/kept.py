@@ -19,6 +19,7 @@ from cpe_recipes.decide import Decided, Decider, End, Leads, as_asked, leads_of,
 from cpe_recipes.deciding import Asked, Chosen
 from cpe_recipes.feeds import record_text
 from cpe_recipes.near_products import Product
+from cpe_recipes.product_index import ByName
 from cpe_recipes.program import Program
 from cpe_recipes.progress import Progress
 from cpe_recipes.said import Fatal
@@ -39,12 +40,13 @@ ByProduct = dict[Product | None, list[Range]]
 
 
 class KeptNames:
-    """Where names lead by a ground, and which names items have."""
+    """The entries of a ground, where names lead by them, and which names items have."""
 
     def __init__(self, ground: Ground, dictionary: Resident) -> None:
         """`dictionary` is a run that has the entries."""
         self._dictionary, self._letters = dictionary, ground.letters
         facts, old = ground.known.facts(), unlisted.deprecated_names(ground.entries)
+        self.entries = ByName(ground.entries)
         self.fixed = leads_of(dictionary, [], (), dict.fromkeys([*facts, *old]))
         self.successors = unlisted.successors(ground.entries, self.fixed)
         self._old = [self.fixed.found[name] for name in old if name in self.fixed.found]
