@@ -42,6 +42,8 @@ _NEW, _OTHERS, _LOOKED_AT = 4, 16, 256
 _TRIES, _SECONDS = 3, 30
 # How long it waits after what it couldn't do.
 _PAUSE = 5
+# After how many objects Python looks for garbage.
+_OBJECTS = 50_000
 # Of how many grounds before is kept what changed since then, and of which share of the advisories that is worth it.
 _GROUNDS, _SHARE = 8, 0.5
 _SINCE = "CASE WHEN result_put = put AND fault = '' AND result IS NOT NULL AND instr(counts, '\"no items\"') = 0 THEN result_ground ELSE 0 END"
@@ -87,7 +89,7 @@ class Worker:
             traceback.print_exception(fault)
             self._is_troubled = True
             with contextlib.suppress(sqlite3.Error), writing(self._database):
-                note(self._database, f"trouble {self._shard}", whole(pathless(str(fault))) or type(fault).__name__)
+                note(self._database, f"trouble {self._shard}", whole(str(fault)) or type(fault).__name__)
             return _PAUSE
 
     def _listen(self) -> None:
@@ -371,6 +373,8 @@ def main() -> None:
     """Judges until the server is gone."""
     # (who interrupts the server ends it, and it ends its processes)
     signal.signal(signal.SIGINT, signal.SIG_IGN)
+    # (nearly all that is made is kept, or freed at once, so Python looks less often for garbage)
+    gc.set_threshold(_OBJECTS)
     folder, shard, shards = sys.argv[1:]
     Worker(Path(folder), int(shard), int(shards)).run()
 

@@ -11,7 +11,7 @@ import unittest
 from collections import Counter
 from unittest import mock
 
-from service_case import ROOT
+from service_case import ROOT, SAMPLES
 from test_hidden import NAME, OTHER, WorkerCase, advisory, product
 
 sys.path.insert(0, str(ROOT / "bench"))
@@ -22,6 +22,7 @@ from cpe_service.database import unpacked  # noqa: E402
 from cpe_service.judge import Judge  # noqa: E402
 from cpe_service.waiting import Waiting  # noqa: E402
 
+RANGES = SAMPLES / "ranges"
 FLEETS, SEED = int(os.environ.get("CPE_FLEETS", "5")), int(os.environ.get("CPE_SEED", "1"))
 
 
@@ -222,6 +223,23 @@ class DrawnTest(ChangedCase):
 
 
 # Another process claims the first machine until its input ends.
+class RunsTest(WorkerCase):
+    def test_no_run_of_cpe_begins_for_a_machine(self):
+        """What is asked of its items is asked of runs that stay, of ranges and of what is negated too."""
+        for path in ("dictionary", "advisories", "matches"):
+            self.keeps.answer({"do": "feed", "name": "", "is_whole": False, "client": "x"}, (RANGES / f"{path}.json").read_bytes())
+        lists = [path for path in sorted(RANGES.iterdir()) if path.name.endswith((".cdx.json", "-1.txt"))]
+        self.assertGreater(len(lists), 2)
+        self.keeps.answer({"do": "put", "name": "first", "client": "x"}, b"cpe:/a:ntp:ntp:4.2.8")
+        self.judge()
+        with mock.patch.object(subprocess, "Popen", side_effect=OSError("none begins")):
+            for path in lists:
+                self.keeps.answer({"do": "put", "name": path.name.partition(".")[0], "client": "x"}, path.read_bytes())
+            self.judge()
+        self.assertEqual(set(self.rows("fault, put = judged_put")), {("", 1)})
+        self.assertGreater(len(self.rows("1", "verdicts")), 10)
+
+
 class SameListTest(WorkerCase):
     """A list that a machine has already is judged again only if its verdicts are of something else."""
 
