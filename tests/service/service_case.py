@@ -47,10 +47,11 @@ class Server:
         self.port = int(found[1])
 
     def kill(self, number=signal.SIGKILL):
-        """Ends the server by a signal."""
-        self.run.send_signal(number)
-        self.run.wait(PATIENCE)
-        self.run.stdout.close()
+        """Ends the server by a signal. (Another thread may start the next one as soon as it ended.)"""
+        run = self.run
+        run.send_signal(number)
+        run.wait(PATIENCE)
+        run.stdout.close()
 
     def children(self, word=""):
         """The processes of the server whose command has this word, those of its processes too."""
