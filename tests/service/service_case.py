@@ -79,6 +79,9 @@ class Server:
             connection.request(method, path, data, {key.replace("_", "-"): value for key, value in headers.items()})
             answer = connection.getresponse()
             return answer.status, answer.read(), answer.headers.get("Content-Type", "")
+        except http.client.HTTPException as fault:
+            # (the server may be killed between the head of an answer and the rest)
+            raise ConnectionError(f"the answer is cut off: {fault}") from fault
         finally:
             connection.close()
 
