@@ -122,12 +122,15 @@ class Worker:
         if judge.ground.lacks or not waiting:
             return False
         judged, faults = self._tried(waiting)
-        with writing(self._database):
-            for one in waiting:
-                if one.name in judged:
-                    self._write(one, judged[one.name])
-                else:
+        for one in waiting:
+            found = judged.get(one.name)
+            # (packed before, and a machine at a time, so no other writer waits for long)
+            result = packed(_text(found)) if found is not None and found.ids is None else None
+            with writing(self._database):
+                if found is None:
                     self._write_fault(one, faults[one.name], judge.ground.edit)
+                else:
+                    self._write(one, found, result)
         self._send({"done": len(waiting)})
         return True
 
@@ -247,8 +250,8 @@ class Worker:
         columns = "judged_put = ?, judged_ground = ?, judged_at = ?, fault = ?"
         self._database.execute(f"UPDATE machines SET {columns} WHERE id = ?", (one.put, ground, time.time(), whole(pathless(fault)), one.id))
 
-    def _write(self, one: Waiting, judged: Judged) -> None:
-        """Writes the result of a machine, if it is still there."""
+    def _write(self, one: Waiting, judged: Judged, result: bytes | None) -> None:
+        """Writes the result of a machine, if it is still there. It is packed already, unless it is to be put into the one before."""
         database = self._database
         row = database.execute("SELECT result_put, result_ground, fault, counts, result FROM machines WHERE id = ?", (one.id,)).fetchone()
         if row is None:
@@ -258,18 +261,12 @@ class Worker:
             return
         at = time.time()
         kinds = self._write_changes(one, judged, row, at)
-        result = packed(whole(self._result(judged, row)).encode())
+        if result is None:
+            result = packed(_text(judged, row["result"]))
         counts = json.dumps(Counter(kinds.values()) if judged.has_items else {"no items": 1})
         columns = "judged_put = ?, judged_ground = ?, result_put = ?, result_ground = ?, judged_at = ?, fault = '', counts = ?, result = ?"
         edits = one.put, judged.judge.ground.edit
         database.execute(f"UPDATE machines SET {columns} WHERE id = ?", (*edits, *edits, at, counts, result, one.id))
-
-    def _result(self, judged: Judged, row: sqlite3.Row) -> str:
-        """The result as the database keeps it."""
-        found = judged.row | {"said": judged.said}
-        if judged.ids is None:
-            return queries.result_text(found)
-        return merged(unpacked(row["result"]).decode(), found, judged.ids, judged.judge.order)
 
     def _write_changes(self, one: Waiting, judged: Judged, row: sqlite3.Row, at: float) -> dict[str, str]:
         """Writes what changed, and the verdicts as they are now, which are the answer."""
@@ -350,6 +347,14 @@ class Worker:
             self._end()
             return {"fault": pathless(str(fault)) or type(fault).__name__}
         return found | {"edit": one.put, "ground": judge.ground.edit, "state": queries.state_of(row, judge.ground.edit)}
+
+
+def _text(judged: Judged, before: bytes = b"") -> bytes:
+    """The result as the database keeps it; if it has some advisories alone, it is put into the one before."""
+    found = judged.row | {"said": judged.said}
+    if judged.ids is None:
+        return whole(queries.result_text(found)).encode()
+    return whole(merged(unpacked(before).decode(), found, judged.ids, judged.judge.order)).encode()
 
 
 def _note_advisories(database: sqlite3.Connection, ground: Ground) -> None:

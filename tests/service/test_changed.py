@@ -177,7 +177,7 @@ class ChangedTest(ChangedCase):
         self.judges._database.execute("UPDATE machines SET result_ground = 1 WHERE name = 'm'")
         with worker.writing(self.judges._database):
             for one, found in zip(waiting, judged):
-                self.judges._write(one, found)
+                self.judges._write(one, found, None)
         self.assertEqual(self.rows("name", judged_ground=judge.ground.edit), [("n",)])
         self.assertEqual(self.judged(), {"whole": 1})
         self.check()
