@@ -1,24 +1,31 @@
 #!/usr/bin/env python3
-"""Measures the service: lists that clients put at once, questions, a night's window of changed advisories, and memory.
+"""Measures the service: lists that clients put at once, questions, a night's window of changed advisories, memory, and faults of clients.
 
     python3 bench/service.py PROGRAM [--advisories N] [--machines N] [--items N] [--clients N] [--changed N] [--workers N]
 
 It makes feeds and machines as bench/scan.py does, gives them to a server in a fresh folder, and prints percentiles of the answers, the
-processor seconds of all its processes, and the most memory that they held together. Other work on the machine makes answers slower, and
-processor seconds less so. Python 3.11 with starlette and uvicorn (Debian's python3-starlette, python3-uvicorn), and Linux.
+processor seconds of all its processes, and the most memory that they held together. Then it sends what no client should: a list of
+200 MB, as it is and packed, 10,000 levels of JSON, bodies that don't end, and 1,000 connections that ask nothing. It prints the answers,
+and how long a question took meanwhile at most. Other work on the machine makes answers slower, and processor seconds less so. Python 3.11
+with starlette and uvicorn (Debian's python3-starlette, python3-uvicorn), and Linux.
 """
 import argparse
 import concurrent.futures
+import contextlib
 import http.client
 import json
 import os
 import pathlib
 import queue
 import re
+import resource
 import shutil
+import socket
 import subprocess
 import sys
+import threading
 import time
+import zlib
 
 import scan
 
@@ -28,6 +35,9 @@ DATA = HERE.parent / "build" / "bench" / "service"
 MOST_PUT, MOST_GET, MOST_WINDOW, MOST_MEMORY = 2, 0.05, 120, 2
 _TICK = os.sysconf("SC_CLK_TCK")
 _PATIENCE = 3_600
+# How long a client may take for a body here, how many slow ones there are, and how many connections are idle.
+_SECONDS, _SLOW, _IDLE = 20, 20, 1_000
+_LARGE = 200_000_000
 
 
 class Server:
@@ -36,6 +46,7 @@ class Server:
     def __init__(self, program, workers):
         shutil.rmtree(DATA, ignore_errors=True)
         words = [sys.executable, "-m", "cpe_service", "--data", str(DATA), "--port", "0", "--rate", "1000000", "--workers", str(workers)]
+        words += ["--seconds", str(_SECONDS)]
         environment = {**os.environ, "CPE": program, "PYTHONPATH": str(HERE.parent / "service")}
         self.run = subprocess.Popen(words, env=environment, stdout=subprocess.PIPE, text=True)
         found = re.search(r":(\d+)/", self.run.stdout.readline())
@@ -43,17 +54,28 @@ class Server:
             sys.exit("the service doesn't start")
         self.port = int(found[1])
 
+    def answer(self, method, path, body=None):
+        """The status of an answer, and its value."""
+        with contextlib.closing(http.client.HTTPConnection("127.0.0.1", self.port, timeout=_PATIENCE)) as connection:
+            # (who refuses a body may answer before all of it is sent)
+            with contextlib.suppress(BrokenPipeError, ConnectionResetError):
+                connection.request(method, path, body)
+            answer = connection.getresponse()
+            return answer.status, json.loads(answer.read())
+
     def ask(self, method, path, body=None):
         """The value of an answer, and how many seconds it took."""
         begin = time.monotonic()
-        connection = http.client.HTTPConnection("127.0.0.1", self.port, timeout=_PATIENCE)
-        connection.request(method, path, body)
-        answer = connection.getresponse()
-        data = answer.read()
-        connection.close()
-        if answer.status >= 300:
-            sys.exit(f"{method} {path}: {data.decode()}")
-        return json.loads(data), time.monotonic() - begin
+        status, value = self.answer(method, path, body)
+        if status >= 300:
+            sys.exit(f"{method} {path}: {value}")
+        return value, time.monotonic() - begin
+
+    def connection(self, data=b""):
+        """A connection on which these bytes were sent."""
+        found = socket.create_connection(("127.0.0.1", self.port), _PATIENCE)
+        found.sendall(data)
+        return found
 
     def settle(self):
         """Waits until all is judged."""
@@ -149,6 +171,81 @@ def asked(server, names, rounds=200):
         percentiles(what, [server.ask("GET", paths[number % len(paths)])[1] for number in range(rounds)], MOST_GET)
 
 
+@contextlib.contextmanager
+def meanwhile(server, what):
+    """Asks questions while something else is asked, and prints how long they took."""
+    took, is_over = [], threading.Event()
+
+    def client():
+        while not is_over.is_set():
+            took.append(server.ask("GET", "/machines?limit=10")[1])
+            time.sleep(0.05)
+
+    thread = threading.Thread(target=client)
+    thread.start()
+    try:
+        yield
+    finally:
+        is_over.set()
+        thread.join()
+    percentiles(f"GET /machines meanwhile ({what})", took)
+
+
+def faults(server, names):
+    """Sends what no client should send."""
+    component = json.dumps({"type": "library", "name": "x", "description": "x" * 1_000, "cpe": "cpe:2.3:a:x:y:1.0:*:*:*:*:*:*:*"})
+    large = f'{{"bomFormat":"CycloneDX","components":[{",".join([component] * (_LARGE // len(component)))}]}}'.encode()
+    packing = zlib.compressobj(wbits=31)
+    deep = "[" * 10_000 + "]" * 10_000
+    for what, body in (
+        ("a list of 200 MB", large),
+        ("a list of 200 MB, packed", packing.compress(large) + packing.flush()),
+        ("10,000 levels of JSON", deep),
+        ("10,000 levels of JSON in a list", f'{{"bomFormat":"CycloneDX","components":{deep}}}'),
+    ):
+        with meanwhile(server, what):
+            status, value = server.answer("PUT", "/machines/large", body)
+        print(f"{what}: {status} {value.get('detail') or value['state']}; memory {server.memory():.2f} GiB", flush=True)
+    with meanwhile(server, f"{_SLOW} bodies that don't end"), contextlib.ExitStack() as stack:
+        head = b"PUT /machines/slow HTTP/1.1\r\nHost: localhost\r\nContent-Length: 1000\r\n\r\nx"
+        slow = [stack.enter_context(server.connection(head)) for _ in range(_SLOW)]
+        server.ask("PUT", f"/machines/{names[0]}", "cpe:/a:x:y:2")
+        print(f"{_SLOW} bodies that don't end: {sorted({one.recv(12) for one in slow})}")
+    most = resource.getrlimit(resource.RLIMIT_NOFILE)[1]
+    resource.setrlimit(resource.RLIMIT_NOFILE, (most, most))
+    with meanwhile(server, f"{_IDLE:,} idle connections"), contextlib.ExitStack() as stack:
+        for _ in range(_IDLE):
+            stack.enter_context(server.connection())
+        _, took = server.ask("PUT", f"/machines/{names[0]}", "cpe:/a:x:y:3")
+        print(f"{_IDLE:,} idle connections: a list is answered in {1000 * took:,.0f} ms")
+
+
+def load(server, machines, paths, options):
+    """Feeds, lists of all machines, questions, and a window of changes."""
+    begin = time.monotonic()
+    for option in ("--dictionary", "--advisories", "--matches"):
+        for path in paths[option]:
+            server.ask("POST", "/feeds?feed=all", pathlib.Path(path).read_bytes())
+    server.settle()
+    print(f"feeds: {time.monotonic() - begin:.1f} seconds, {server.seconds():.1f} of processors")
+    before, begin = server.seconds(), time.monotonic()
+    with meanwhile(server, "lists"):
+        percentiles(f"PUT with {options.clients} clients", put_all(server, machines, options.clients), MOST_PUT)
+    print(f"all lists: {time.monotonic() - begin:.1f} seconds, {server.seconds() - before:.1f} of processors")
+    asked(server, [name for name, _ in machines])
+    before, begin = server.seconds(), time.monotonic()
+    server.ask("POST", "/feeds", json.dumps(window(paths["--advisories"], options.changed)))
+    server.settle()
+    took = time.monotonic() - begin
+    print(f"a window of {options.changed:,} advisories: {took:.1f} seconds, {server.seconds() - before:.1f} of processors; "
+          f"wanted below {MOST_WINDOW} seconds: {'met' if took < MOST_WINDOW else 'MISSED'}")
+    percentiles("PUT of a list that is there", put_all(server, machines[:100], options.clients))
+    held = server.memory()
+    print(f"memory: {held:.2f} GiB; wanted below {MOST_MEMORY}: {'met' if held < MOST_MEMORY else 'MISSED'}")
+    size = sum(path.stat().st_size for path in DATA.iterdir())
+    print(f"the data folder: {size / (1 << 20):,.0f} MiB; load {os.getloadavg()[0]:.1f}", flush=True)
+
+
 def main():
     parser = argparse.ArgumentParser()
     parser.add_argument("program")
@@ -162,26 +259,8 @@ def main():
     print(f"{len(machines):,} machines of {options.items} items, {options.advisories:,} advisories, {options.workers} workers, load {os.getloadavg()[0]:.1f}")
     server = Server(str(pathlib.Path(options.program).resolve()), options.workers)
     try:
-        begin = time.monotonic()
-        for option in ("--dictionary", "--advisories", "--matches"):
-            for path in paths[option]:
-                server.ask("POST", "/feeds?feed=all", pathlib.Path(path).read_bytes())
-        server.settle()
-        print(f"feeds: {time.monotonic() - begin:.1f} seconds, {server.seconds():.1f} of processors")
-        before, begin = server.seconds(), time.monotonic()
-        percentiles(f"PUT with {options.clients} clients", put_all(server, machines, options.clients), MOST_PUT)
-        print(f"all lists: {time.monotonic() - begin:.1f} seconds, {server.seconds() - before:.1f} of processors")
-        asked(server, [name for name, _ in machines])
-        before, begin = server.seconds(), time.monotonic()
-        server.ask("POST", "/feeds", json.dumps(window(paths["--advisories"], options.changed)))
-        server.settle()
-        took = time.monotonic() - begin
-        print(f"a window of {options.changed:,} advisories: {took:.1f} seconds, {server.seconds() - before:.1f} of processors; "
-              f"wanted below {MOST_WINDOW} seconds: {'met' if took < MOST_WINDOW else 'MISSED'}")
-        held = server.memory()
-        print(f"memory: {held:.2f} GiB; wanted below {MOST_MEMORY}: {'met' if held < MOST_MEMORY else 'MISSED'}")
-        size = sum(path.stat().st_size for path in DATA.iterdir())
-        print(f"the data folder: {size / (1 << 20):,.0f} MiB; load {os.getloadavg()[0]:.1f}")
+        load(server, machines, paths, options)
+        faults(server, [name for name, _ in machines])
     finally:
         server.run.terminate()
         server.run.wait()

@@ -121,13 +121,14 @@ def _version(version: str, update: str, product: Product, letters: Letters) -> t
 class Before:
     """The old names by what they lead to: those whose end covers a name, each with that name's own text where it says nothing."""
 
-    def __init__(self, old: Iterable[Lead], wanted: Iterable[Product]) -> None:
-        products = set(wanted)
+    def __init__(self, old: Iterable[Lead], wanted: Iterable[Product] | None) -> None:
+        """Of names of the wanted products, of any if these are None."""
+        products = None if wanted is None else set(wanted)
         # (by the version of the end too, since a product may have thousands)
         self._pairs: dict[tuple[Product, str], list[tuple[list[str], list[str]]]] = {}
         for lead in old:
             for end in dict.fromkeys((*lead.steps, *lead.ends)):
-                if end != lead.name and names.product_of(end) in products:
+                if end != lead.name and (products is None or names.product_of(end) in products):
                     there = names.components(end)
                     key = names.product_of(end), there[names.VERSION]
                     self._pairs.setdefault(key, []).append((there, names.components(lead.name)))
@@ -184,18 +185,26 @@ class Calling:
         entries: Sequence[str],
         leads: Leads,
         old: Sequence[Lead],
-        items: Iterable[Lead],
+        items: Iterable[Lead] | None,
         feed: Mapping[str, Sequence[str]],
         wanted: Wanted,
         letters: Letters,
     ) -> None:
-        """The entries by which names lead on, where the names lead that are known, `old` those that are deprecated, and the items."""
-        own = list(items)
+        """The entries by which names lead on, where the names lead that are known, `old` those that are deprecated, and the items; None if
+        any may be added."""
+        own = list(items or ())
+        self._program, self._entries = program, entries
         self._feed, self._wanted, self._letters = feed, wanted, letters
         self._found: dict[tuple[str, str, str], tuple[Called, ...]] = {}
-        self._before = Before(old, {names.product_of(name) for lead in own for name in (lead.name, *lead.ends)})
+        self._before = Before(old, None if items is None else {names.product_of(name) for lead in own for name in (lead.name, *lead.ends)})
         self._moved, self._all_moved = _moves(old)
-        self._beside = self._ask(program, entries, own)
+        self._back: dict[Product, list[Product]] = {}
+        for product, others in self._moved.items():
+            for other in others:
+                self._back.setdefault(other, []).append(product)
+        self._beside: dict[str, Lead] = {}
+        self._active: dict[Product, int] = {}
+        self.add(own)
 
     def of_components(self, components: Iterable[Sequence[Lead]]) -> list[Called]:
         """The names of components, of which each perhaps has several in its list. A name that two have in two ways is there in both."""
@@ -277,22 +286,19 @@ class Calling:
         for before in self._back.get(product, ()):
             yield _under(before, name), before, self._moved[before][product]
 
-    def _ask(self, program: Program, entries: Sequence[str], own: Sequence[Lead]) -> dict[str, Lead]:
-        """Where the names lead that items may have; and, of the products that they perhaps had before, how many entries are active."""
-        self._back: dict[Product, list[Product]] = {}
-        for product, others in self._moved.items():
-            for other in others:
-                self._back.setdefault(other, []).append(product)
+    def add(self, items: Iterable[Lead]) -> None:
+        """Asks where the names lead that items may have; and, of the products that they perhaps had before, how many entries are active."""
         new: dict[str, None] = {}
         before: dict[Product, None] = {}
-        for lead in own:
+        for lead in items:
             new.update(dict.fromkeys(self._forward(lead)))
             for end in dict.fromkeys((lead.name, *lead.ends)):
                 for name, product, _ in self._backward(end):
                     new[name] = before[product] = None
-        found = leads_of(program, entries, new, (), list(map(_search, before))) if new else Leads()
-        self._active = {product: found.active[_search(product)] for product in before}
-        return found.found
+        if new:
+            found = leads_of(self._program, self._entries, new, (), list(map(_search, before)))
+            self._active.update((product, found.active[_search(product)]) for product in before)
+            self._beside.update(found.found)
 
 
 def _moves(old: Iterable[Lead]) -> tuple[dict[Product, dict[Product, _Moved]], dict[Product, int]]:

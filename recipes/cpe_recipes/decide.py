@@ -191,7 +191,7 @@ class Decider:
     def __init__(self, program: Program, ranges: Collection[Range], leads: Leads, ends: Iterable[str], letters: Letters) -> None:
         self._program, self._letters = program, letters
         # (of each end the ranges of plain criteria that cover it, and whether it is inside by cpe)
-        self._covering: dict[str, tuple[_End, list[tuple[Range, bool]]]] = {}
+        self._covering: dict[str, tuple[End, list[tuple[Range, bool]]]] = {}
         self._others: dict[str, dict[str, Stand]] = {}
         # (of each end that is known in part the ranges whose facts may cover it)
         self._may_cover: dict[str, list[Range]] = {}
@@ -217,12 +217,12 @@ class Decider:
             if not any(is_near[lead.name]):
                 continue
             # (by its name as cpe writes it, of which vendor and product can be told)
-            asked = _asked(one if one.criteria == lead.name else replace(one, criteria=lead.name), letters)
+            asked = as_asked(one if one.criteria == lead.name else replace(one, criteria=lead.name), letters)
             is_asked, is_asked_in_part = is_near[lead.name]
             if is_asked_in_part:
                 asked_of_patterns.append(asked)
             if is_asked:
-                reason = _oddness(asked)
+                reason = oddness(asked)
                 if reason:
                     odd.append((asked, reason))
                 else:
@@ -240,6 +240,10 @@ class Decider:
         self._others |= other._others
         self._may_cover |= other._may_cover
         self.criteria |= other.criteria
+
+    def put_covering(self, end: End, ranges: Iterable[tuple[Range, bool]]) -> None:
+        """Puts ranges whose names cover an end, as they are asked for, each with whether cpe says that it has the end."""
+        self._covering.setdefault(end.name, (end, []))[1].extend(ranges)
 
     def stands(self, end: str, kind: str = "") -> Mapping[str, Stand]:
         """How this end, as a component of this kind, stands to the ranges that cover it, by the ids of their checks."""
@@ -259,9 +263,9 @@ class Decider:
 
     def _ask_advise(self, ends: Sequence[str], ranges: Sequence[Range]) -> None:
         """Puts which ranges of plain criteria cover the ends, and what cpe says of their versions."""
-        asked: dict[str, list[_End]] = {}
+        asked: dict[str, list[End]] = {}
         for name in ends:
-            end = _End.of(name, self._letters)
+            end = End.of(name, self._letters)
             asked.setdefault(end.asked, []).append(end)
         criteria = list(dict.fromkeys(one.criteria for one in ranges))
         answers = _answers(self._program.lines(["advise"], _advise(asked, criteria, ranges)))
@@ -271,11 +275,11 @@ class Decider:
         for one, items in zip(ranges, answers):
             inside, count = set(items), count + 1
             for end in covered[one.criteria]:
-                self._covering.setdefault(end.name, (end, []))[1].append((one, end.asked in inside))
+                self.put_covering(end, [(one, end.asked in inside)])
         if count != len(ranges) or next(answers, None) is not None:
             raise Fatal(f"cpe advise answered {count} of {len(ranges)} ranges")
 
-    def _stand(self, end: _End, kind: str, one: Range, is_inside: bool) -> Stand:
+    def _stand(self, end: End, kind: str, one: Range, is_inside: bool) -> Stand:
         if end.version is None:
             return "its version isn't known"
         if end.upward and names.product_of(one.criteria) != end.product:
@@ -308,7 +312,7 @@ class Decider:
         parts, product = names.components(end), names.product_of(end)
         if not all(map(names.is_plain, product)) or self._letters.has(product) and names.product_of(one.criteria) != product:
             return False
-        version = _End.of(end, self._letters).version
+        version = End.of(end, self._letters).version
         if version is not None:
             upward = Upward(self._letters, product) if self._letters.has(product) else None
             update = parts[names.UPDATE] if parts[names.UPDATE] not in (names.ANY, names.NA) else None
@@ -364,7 +368,7 @@ class _Near:
 
 
 @dataclass(frozen=True)
-class _End:
+class End:
     """An end: its name, how it is asked for, its vendor and product, its version and update where they are plain, and whether letters
     count upward there."""
 
@@ -376,26 +380,26 @@ class _End:
     upward: Upward | None = None
 
     @staticmethod
-    def of(name: str, letters: Letters) -> _End:
+    def of(name: str, letters: Letters) -> End:
         parts = names.components(name)
         product = parts[names.VENDOR], parts[names.PRODUCT]
         version, update = names.body(parts[names.VERSION]), names.body(parts[names.UPDATE])
         if version is None:
-            return _End(name, name, product, version, update)
+            return End(name, name, product, version, update)
         upward = Upward(letters, product) if letters.has(product) else None
         if upward:
             version, update = letters.with_update(product, version, update)
         asked = upward.rewritten(version) if upward else without_v(version)
         if asked != version:
             parts[names.VERSION] = names.spelled(asked)
-        return _End(name, names.joined(parts) if asked != version else name, product, version, update, upward)
+        return End(name, names.joined(parts) if asked != version else name, product, version, update, upward)
 
     def asked_version(self) -> str:
         """The version in the name that is asked for."""
         return names.body(names.components(self.asked)[names.VERSION]) or ""
 
 
-def _asked(one: Range, letters: Letters) -> Range:
+def as_asked(one: Range, letters: Letters) -> Range:
     """The range with its bounds as its product's versions are asked for."""
     product = names.product_of(one.criteria)
     spell = Upward(letters, product).rewritten if letters.has(product) else without_v
@@ -403,7 +407,7 @@ def _asked(one: Range, letters: Letters) -> Range:
     return one if (start, end) == (one.start, one.end) else replace(one, start=start, end=end)
 
 
-def _oddness(asked: Range) -> str:
+def oddness(asked: Range) -> str:
     """Why a range can't be asked for."""
     if names.components(asked.criteria)[names.VERSION] != names.ANY:
         return f"{asked.criteria} has a version beside its bounds"

@@ -12,7 +12,7 @@ from collections.abc import Callable, Iterable, Iterator, Mapping, Sequence
 from typing import NamedTuple
 
 from .advisories import Range
-from .asked import facts_of, range_of
+from .asked import range_of
 from .called import Called
 from .cases import Known
 from .decide import Decided, Leads, check_record
@@ -85,13 +85,26 @@ class Chosen(Deciding):
 
     def of_machines(self, asked: Iterable[Asked]) -> Iterator[dict[int, list[str]]]:
         machines = list(asked)
-        facts = [list(dict.fromkeys(fact for place in one.places for fact in facts_of(self.test(place)))) for one in machines]
+        facts = [self._facts(one.places) for one in machines]
         lines = self._program.lines(["resolve"], (line for one, of_one in zip(machines, facts) for line in _questions(one, of_one)))
         answers = _first_items(lines)
         for one, of_one in zip(machines, facts):
             yield self._chosen(one, {fact: _next(answers) for fact in of_one})
         for _ in answers:
             raise Fatal("cpe answered more than was asked")
+
+    def _facts(self, places: Iterable[int]) -> dict[str, None]:
+        """The facts of statements, each once, in their order."""
+        found: dict[str, None] = {}
+        waiting = [self.test(place) for place in places]
+        waiting.reverse()
+        while waiting:
+            one = waiting.pop()
+            if "op" in one:
+                waiting.extend(reversed(one["of"]))
+            elif "fact" in one:
+                found[one["fact"]] = None
+        return found
 
     def _chosen(self, asked: Asked, first: Mapping[str, str | None]) -> dict[int, list[str]]:
         items = {one.name: one.item for one in reversed(asked.called)}

@@ -48,6 +48,22 @@ class Listed:
         return bool(front) and any(front[: len(one)] == one[: len(front)] for one in self.fronts)
 
 
+class ByName:
+    """The records of a dictionary by the names of their products, so that those of some names can be had over and over."""
+
+    def __init__(self, records: Iterable[str]) -> None:
+        self._by_name: dict[str, list[str]] = {}
+        for record in records:
+            found = _PLAIN.match(record)
+            parts = None if found else names.components(_named(record).lower())
+            name = found[1] if found else parts[names.PRODUCT] if parts and len(parts) > names.PRODUCT else ""
+            self._by_name.setdefault(squeezed(name), []).append(record)
+
+    def of(self, wanted: Iterable[str]) -> Iterator[str]:
+        """The records of products of these names, spelled with any separators."""
+        return (record for name in dict.fromkeys(map(squeezed, wanted)) for record in self._by_name.get(name, ()))
+
+
 class ProductIndex:
     """The applications (part a) of a dictionary whose product is one of these names, or another one only in what separates its words."""
 

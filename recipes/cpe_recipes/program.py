@@ -26,7 +26,7 @@ _ANSWER = "SUPERSET EQUAL EQUAL SUPERSET" + " EQUAL" * 8
 _SECONDS, _MOST_ANSWER = 60, 4096
 # What is asked at the end of a run, about an id that nobody has put, so that it is seen whether its answers are all there. Under
 # other words each line has one answer.
-_BARRIERS = {"resolve": "verdict", "advise": "affected"}
+BARRIERS = {"resolve": "verdict", "advise": "affected"}
 _BY_LINES = ("compare", "unbind", "bind", "convert")
 # What the reason begins with if a limit of cpe is met.
 FULL = "full "
@@ -87,7 +87,7 @@ class Program:
     def lines(self, words: Sequence[str], records: Iterable[str]) -> Iterator[str]:
         """What the program writes under these words over these lines, as it comes. Fatal where it doesn't come to its end, or
         where answers are missing."""
-        verb = _BARRIERS.get(words[0]) if words else None
+        verb = BARRIERS.get(words[0]) if words else None
         if verb is None:
             yield from self._by_lines(words, records) if words and words[0] in _BY_LINES else self._lines(words, records)
             return

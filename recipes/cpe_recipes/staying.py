@@ -15,7 +15,7 @@ import uuid
 from collections.abc import Iterable, Iterator, Sequence
 
 from .portions import MOST
-from .program import _MOST_ANSWER, _SECONDS, Candidate, Program, _id_of, _pipe, pieces
+from .program import _MOST_ANSWER, _SECONDS, BARRIERS, Candidate, Program, _id_of, _pipe, pieces
 from .said import Fatal, why
 
 # These bytes of entries, with those of a portion, are far from the weight that cpe takes.
@@ -23,12 +23,12 @@ _MOST_BYTES = 2 * MOST.bytes
 
 
 class Run:
-    """The run. It has the numbers of lines count from 1 for each who asks, as a run of its own has."""
+    """A run under a word that has records. It has the numbers of lines count from 1 for each who asks, as a run of its own has."""
 
-    def __init__(self, path: str) -> None:
-        self.path = path
+    def __init__(self, path: str, word: str = "resolve") -> None:
+        self.path, self._word, self._verb = path, word, BARRIERS[word]
         try:
-            self._run = subprocess.Popen([path, "resolve"], stdin=subprocess.PIPE, stdout=subprocess.PIPE)
+            self._run = subprocess.Popen([path, word], stdin=subprocess.PIPE, stdout=subprocess.PIPE)
         except OSError as fault:
             raise Fatal(f"{path} can not be run: {why(fault)}") from fault
         self._input, self._output, self._last = _pipe(self._run.stdin), _pipe(self._run.stdout), 0
@@ -42,16 +42,16 @@ class Run:
         alarm = threading.Timer(_SECONDS, self._run.kill)
         alarm.start()
         id = uuid.uuid4().hex
-        self._waiting.put(self._counted((), _barrier(id)))
+        self._waiting.put(self._counted((), self._barrier(id)))
         line = self._output.readline(_MOST_ANSWER)
         alarm.cancel()
-        return line == _end_of(id)
+        return line == self._end_of(id)
 
     def lines(self, records: Iterable[str]) -> Iterator[str]:
         """What it writes over these lines. Fatal if it ends before, or refuses a line that it wasn't given."""
         id, before = uuid.uuid4().hex, self._last
-        end = _end_of(id)
-        self._waiting.put(self._counted(records, _barrier(id)))
+        end = self._end_of(id)
+        self._waiting.put(self._counted(records, self._barrier(id)))
         while (line := self._output.readline()) != end:
             if not line.endswith(b"\n"):
                 self._end_early()
@@ -62,8 +62,15 @@ class Run:
             raise self._fault
         status = self._run.wait()
         if status in (0, 1):
-            raise Fatal(f"{self.path} resolve answered too few lines: the last answer isn't there")
-        raise Fatal(f"{self.path} resolve ended with status {status}")
+            raise Fatal(f"{self.path} {self._word} answered too few lines: the last answer isn't there")
+        raise Fatal(f"{self.path} {self._word} ended with status {status}")
+
+    def _barrier(self, id: str) -> str:
+        return f'{{"do":"{self._verb}","id":"{id}"}}'
+
+    def _end_of(self, id: str) -> bytes:
+        """The answer about an id that nobody has put."""
+        return f"{self._verb} {id} absent\n".encode()
 
     def _counted(self, records: Iterable[str], barrier: str) -> Iterator[str]:
         for record in records:
@@ -78,7 +85,7 @@ class Run:
             return line
         word, number, reason = line.split(" ", 2)
         if not number.isdecimal() or not before < int(number) <= self._last:
-            raise Fatal(f"{self.path} resolve refused another line than those that it was given: {line[:200]}")
+            raise Fatal(f"{self.path} {self._word} refused another line than those that it was given: {line[:200]}")
         return f"{word} {int(number) - before} {reason}"
 
     def _write(self) -> None:
@@ -103,15 +110,6 @@ class Run:
         self._output.close()
         with contextlib.suppress(OSError):
             self._input.close()
-
-
-def _barrier(id: str) -> str:
-    return f'{{"do":"verdict","id":"{id}"}}'
-
-
-def _end_of(id: str) -> bytes:
-    """The answer about an id that nobody has put."""
-    return f"verdict {id} absent\n".encode()
 
 
 class Staying(Program):

@@ -73,7 +73,7 @@ class Patient(H11Protocol):
 
 
 class Server(uvicorn.Server):
-    """A server that has those who listen to events go when it is to end."""
+    """A server that ends the answers of those who listen to events when it is to end."""
 
     def __init__(self, config: uvicorn.Config, stop) -> None:  # noqa: ANN001
         super().__init__(config)

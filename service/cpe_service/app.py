@@ -146,7 +146,7 @@ class Service:
             await process.end()
 
     def stop(self) -> None:
-        """Has those who listen to events go."""
+        """Ends the answers of those who listen to events."""
         self._is_ending = True
         self._notify()
 
@@ -247,7 +247,7 @@ class Service:
         return Answer(value, status)
 
     async def _wait(self, machine: str, edit: int) -> None:
-        """Waits for the verdicts of a list. They may be there before anyone waits, or not come for long."""
+        """Waits for the verdicts of a list. They may be there before anyone waits, or take long."""
         future: asyncio.Future[None] = asyncio.get_running_loop().create_future()
         self._unsettled[future] = machine, edit
         self._look()
@@ -306,7 +306,7 @@ class Service:
 
     async def machines(self, request: Request, _client: Client, q: str, kind: str, limit: str, offset: str) -> Json:
         found, total = await self.ask(queries.machines, q, kind, int(limit), int(offset))
-        return await self._told(request, {"machines": found, "total": total}, int(limit), int(offset))
+        return await self._with_cautions(request, {"machines": found, "total": total}, int(limit), int(offset))
 
     async def machine(self, request: Request, _client: Client, machine: str, q: str, kind: str, limit: str, offset: str) -> Json:
         value = await self.ask(queries.machine, machine, q, kind, int(limit), int(offset))
@@ -316,7 +316,7 @@ class Service:
 
     async def advisories(self, request: Request, _client: Client, q: str, kind: str, limit: str, offset: str) -> Json:
         found, total = await self.ask(queries.advisories, q, kind, int(limit), int(offset))
-        return await self._told(request, {"advisories": found, "total": total}, int(limit), int(offset))
+        return await self._with_cautions(request, {"advisories": found, "total": total}, int(limit), int(offset))
 
     async def advisory(self, request: Request, _client: Client, advisory: str, kind: str, limit: str, offset: str) -> Json:
         try:
@@ -325,9 +325,9 @@ class Service:
             raise Problem(503, "the feeds that were accepted aren't read yet; ask again", {"Retry-After": "10"}) from fault
         if value is None:
             raise Problem(404, f"the feeds have no advisory {advisory}")
-        return await self._told(request, value, int(limit), int(offset))
+        return await self._with_cautions(request, value, int(limit), int(offset))
 
-    async def _told(self, request: Request, value: dict[str, Json], limit: int, offset: int) -> dict[str, Json]:
+    async def _with_cautions(self, request: Request, value: dict[str, Json], limit: int, offset: int) -> dict[str, Json]:
         """The value, with what has to be known beside it."""
         return _paged(request, value | await self.ask(queries.cautions), limit, offset)
 

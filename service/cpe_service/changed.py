@@ -1,9 +1,9 @@
-"""What changed between two grounds, so that of a machine that was judged by the older one no more is judged anew than may be another.
+"""What changed between two grounds, so that of a machine that was judged by the older one no more is judged again than may have changed.
 
 A verdict depends on what the feeds state of its advisory, and on the names of the machine's items. These depend on the dictionary and the
 tables, on what the match feed lists for all ranges, and on which versions and attributes all advisories name of a product (calling.py). So
 if advisories alone changed, the verdict of each other one is as before, where the items have the names that they had. If that isn't
-sure of a machine, all of it is judged anew.
+sure of a machine, all of it is judged again.
 """
 from __future__ import annotations
 

@@ -9,13 +9,15 @@ shown is of the two edits before (`result_put`, `result_ground`).
 from __future__ import annotations
 
 import contextlib
+import fcntl
 import sqlite3
 import time
 import zlib
 from collections.abc import Iterator
 from pathlib import Path
+from typing import IO
 
-NAME = "service.db"
+NAME, TURN = "service.db", "turn"
 VERSION = 3
 # How long a writer waits for another one.
 _SECONDS = 300
@@ -76,18 +78,30 @@ _SINCE_2 = [
 ]
 
 
+class Database(sqlite3.Connection):
+    """A connection, and for one that writes the file whose lock is its turn to write."""
+
+    turn: IO[bytes] | None = None
+
+    def close(self) -> None:
+        super().close()
+        if self.turn is not None:
+            self.turn.close()
+
+
 class OtherVersion(Exception):
     """The data folder is of another version of the service."""
 
 
-def connected(folder: Path, is_reader: bool = False) -> sqlite3.Connection:
+def connected(folder: Path, is_reader: bool = False) -> Database:
     """A connection to the database of a data folder. What a writer committed is on the disk."""
     mode = "ro" if is_reader else "rwc"
     found = sqlite3.connect(
-        f"{(folder / NAME).resolve().as_uri()}?mode={mode}", _SECONDS, uri=True, isolation_level=None, check_same_thread=False
+        f"{(folder / NAME).resolve().as_uri()}?mode={mode}", _SECONDS, uri=True, isolation_level=None, check_same_thread=False, factory=Database
     )
     found.row_factory = sqlite3.Row
     if not is_reader:
+        found.turn = (folder / TURN).open("ab")
         found.execute("PRAGMA journal_mode = WAL")
         found.execute("PRAGMA synchronous = FULL")
         found.execute("PRAGMA foreign_keys = ON")
@@ -108,11 +122,32 @@ def made(folder: Path) -> None:
 
 
 @contextlib.contextmanager
-def writing(database: sqlite3.Connection) -> Iterator[sqlite3.Connection]:
+def writing(database: Database) -> Iterator[Database]:
     """A transaction that writes: all of it, or nothing if an exception ends it."""
+    with _in_turn(database.turn):
+        with _transaction(database):
+            yield database
+
+
+@contextlib.contextmanager
+def _in_turn(turn: IO[bytes] | None) -> Iterator[None]:
+    """Waits for its turn to write. (SQLite looks now and then whether nobody writes, so where some write often another may wait for long.
+    The system opens the lock again if a process ends.)"""
+    if turn is None:
+        yield
+        return
+    fcntl.flock(turn, fcntl.LOCK_EX)
+    try:
+        yield
+    finally:
+        fcntl.flock(turn, fcntl.LOCK_UN)
+
+
+@contextlib.contextmanager
+def _transaction(database: Database) -> Iterator[None]:
     database.execute("BEGIN IMMEDIATE")
     try:
-        yield database
+        yield
     except BaseException:
         # (a full disk may have ended the transaction already)
         with contextlib.suppress(sqlite3.Error):

@@ -26,7 +26,7 @@ from cpe_recipes.unpack import Limits, read_feed
 from cpe_recipes.versions import read_letters
 
 from . import frames
-from .database import connected, new_edit, note, noted, packed, writing
+from .database import connected, ground_of, new_edit, note, noted, packed, writing
 from .feeds import Feeds, Offer
 from .frames import Message
 from .ground import TABLES, table_files
@@ -38,6 +38,17 @@ _LIMITS = Limits(most=256 << 20)
 _MOST_MEMORY = 4 << 30
 # In how many parts the machines may be shared out among workers, at most.
 SHARDS = 256
+
+# A list that a machine has already, whose verdicts are of it and of the ground, and any other one.
+_SAME = """
+UPDATE machines SET put = :edit, judged_put = :edit, result_put = :edit
+WHERE name = :name AND list = :list AND said = :said AND put = judged_put AND put = result_put AND judged_ground = :ground AND fault = ''
+RETURNING judged_put
+"""
+_OTHER = """
+INSERT INTO machines (name, list, said, shard, put) VALUES (:name, :list, :said, :shard, :edit)
+ON CONFLICT (name) DO UPDATE SET list = excluded.list, said = excluded.said, put = excluded.put RETURNING judged_put
+"""
 
 
 class Keeper:
@@ -65,18 +76,15 @@ class Keeper:
             return {"refused": f"it can not be read, since the reader has a fault: {type(fault).__name__} {pathless(str(fault))}"}
 
     def _put(self, message: Message, body: bytes) -> Message:
-        """Keeps the list of a machine, whose verdicts wait then."""
+        """Keeps the list of a machine, whose verdicts wait then, unless they are those of the same list and of this ground."""
         name, said = message["name"], Quiet()
         data = _unpacked(body)
         machine = machine_of_list(name, name, data, said)
+        values = {"name": name, "list": packed(data), "said": json.dumps(said.as_json()), "shard": zlib.crc32(name.encode()) % SHARDS}
         with writing(self._database) as database:
-            edit = new_edit(database, "list", name, message["client"])
-            row = database.execute(
-                "INSERT INTO machines (name, list, said, shard, put) VALUES (?, ?, ?, ?, ?) ON CONFLICT (name) DO UPDATE "
-                "SET list = excluded.list, said = excluded.said, put = excluded.put RETURNING id, put, judged_put",
-                (name, packed(data), json.dumps(said.as_json()), zlib.crc32(name.encode()) % SHARDS, edit),
-            ).fetchone()
-            answer = {"edit": edit, "is_new": row["judged_put"] == 0, "components": len(machine.components)}
+            values |= {"edit": new_edit(database, "list", name, message["client"]), "ground": ground_of(database)}
+            row = database.execute(_SAME, values).fetchone() or database.execute(_OTHER, values).fetchone()
+            answer = {"edit": values["edit"], "is_new": row["judged_put"] == 0, "components": len(machine.components)}
             self._note(message, answer)
         return answer
 

@@ -35,7 +35,7 @@ _MEANINGS = (
     ("accepted", "someone accepted it, with a reason"),
     ("FALSE", "not affected; not listed here"),
 )
-_MOST_TOLD = 6
+_MOST_SHOWN = 6
 
 
 def is_wanted(request: Request) -> bool:
@@ -145,8 +145,8 @@ def _time(value: Json) -> str:
 def _list(texts: Sequence[Json]) -> str:
     """Some texts, of which those behind the first ones are folded."""
     lines = [f"<li>{text(one)}" for one in texts]
-    folded = f"<details><summary>{len(lines) - _MOST_TOLD:,} more</summary><ul>{''.join(lines[_MOST_TOLD:])}</ul></details>"
-    return f"<ul>{''.join(lines[:_MOST_TOLD])}</ul>{folded if len(lines) > _MOST_TOLD else ''}"
+    folded = f"<details><summary>{len(lines) - _MOST_SHOWN:,} more</summary><ul>{''.join(lines[_MOST_SHOWN:])}</ul></details>"
+    return f"<ul>{''.join(lines[:_MOST_SHOWN])}</ul>{folded if len(lines) > _MOST_SHOWN else ''}"
 
 
 def _missing(title: str, texts: Sequence[Json]) -> Iterator[str]:
@@ -295,7 +295,7 @@ def _name(value: Mapping[str, Json], asked: Mapping[str, str]) -> Iterator[str]:
     forms = [(label, f"<code>{text(value[key])}</code>") for key, label in _FORMS if key in value]
     yield from _table(("Form", "The name"), forms, "The name in all its forms")
     chain = value["chain"]
-    yield f"<section><h2>Where it leads</h2><p>{_told(chain)}</p>{''.join(_chain(chain, value['formattedString'], set()))}</section>\n"
+    yield f"<section><h2>Where it leads</h2><p>{_chain_words(chain)}</p>{''.join(_chain(chain, value['formattedString'], set()))}</section>\n"
     other = value.get("with")
     yield from _compared(value, other) if other else ()
 
@@ -303,7 +303,7 @@ def _name(value: Mapping[str, Json], asked: Mapping[str, str]) -> Iterator[str]:
 _FORMS = (("formattedString", "formatted string"), ("uri", "URI"), ("text", "text of the name"))
 
 
-def _told(chain: Mapping[str, Json]) -> str:
+def _chain_words(chain: Mapping[str, Json]) -> str:
     if not chain["isEntry"]:
         return "No entry of the dictionary has this name."
     return "It is deprecated." if len(chain["steps"]) > 1 or not chain["ends"] else "It is an entry, and not deprecated."

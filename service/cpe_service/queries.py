@@ -14,6 +14,8 @@ from .feeds import WAITING, waiting
 
 # The kinds of verdicts that are listed, in their order.
 KINDS = ("TRUE", "ERROR", "UNKNOWN", "perhaps", "accepted")
+# (made once, since a machine may have thousands of verdicts)
+_encoder = json.JSONEncoder(ensure_ascii=False)
 _RANKS = " ".join(f"WHEN '{kind}' THEN {rank}" for rank, kind in enumerate(KINDS))
 
 
@@ -106,7 +108,7 @@ def state_of(row: sqlite3.Row, ground: int) -> str:
 def result_text(row: dict[str, Json]) -> str:
     """The result of a machine as the database keeps it: a line of all but its verdicts, and a line for each of these."""
     head = {key: value for key, value in row.items() if key != "verdicts"}
-    return "\n".join(json.dumps(one, ensure_ascii=False) for one in (head, *row.get("verdicts", ())))
+    return "\n".join(map(_encoder.encode, (head, *row.get("verdicts", ()))))
 
 
 def machine(database: sqlite3.Connection, name: str, q: str, kind: str, limit: int, offset: int) -> dict[str, Json] | None:

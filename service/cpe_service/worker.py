@@ -1,8 +1,8 @@
 """The process that judges machines, those of its shard first: python3 -m cpe_service.worker DATA SHARD SHARDS.
 
 It takes what waits from the database, and writes the verdicts and what changed of them in one transaction. So whenever it is killed,
-the next one finds what is left. Machines with new lists come before those that wait for another ground. If none of its shard waits, it
-takes one of another shard that no other worker has claimed.
+the next one finds what is left. Machines with new lists are before those that wait for another ground. If none of its shard waits, it
+takes one of another shard that no other worker has claimed; if there are more new lists than workers, the list that waits longest.
 """
 from __future__ import annotations
 
@@ -18,7 +18,7 @@ import threading
 import time
 import traceback
 from collections import Counter
-from collections.abc import Iterator, Sequence
+from collections.abc import Iterable, Iterator, Sequence
 from pathlib import Path
 
 from cpe_recipes.feeds import FeedFault
@@ -42,6 +42,8 @@ _NEW, _OTHERS, _LOOKED_AT = 4, 16, 256
 _TRIES, _SECONDS = 3, 30
 # How long it waits after what it couldn't do.
 _PAUSE = 5
+# After how many objects Python looks for garbage.
+_OBJECTS = 50_000
 # Of how many grounds before is kept what changed since then, and of which share of the advisories that is worth it.
 _GROUNDS, _SHARE = 8, 0.5
 _SINCE = "CASE WHEN result_put = put AND fault = '' AND result IS NOT NULL AND instr(counts, '\"no items\"') = 0 THEN result_ground ELSE 0 END"
@@ -74,7 +76,7 @@ class Worker:
                 message = self._inbox.get(timeout=seconds) if seconds else self._inbox.get_nowait()
             except queue.Empty:
                 continue
-            # (nobody waits any more for what comes late)
+            # (nobody waits any more for what is late)
             if message["do"] == "certificate" and time.time() < message["until"]:
                 self._send({"answer": message["number"], **self._certificate(message)})
 
@@ -120,12 +122,15 @@ class Worker:
         if judge.ground.lacks or not waiting:
             return False
         judged, faults = self._tried(waiting)
-        with writing(self._database):
-            for one in waiting:
-                if one.name in judged:
-                    self._write(one, judged[one.name])
-                else:
+        for one in waiting:
+            found = judged.get(one.name)
+            # (packed before, and a machine at a time, so no other writer waits for long)
+            result = packed(_text(found)) if found is not None and found.ids is None else None
+            with writing(self._database):
+                if found is None:
                     self._write_fault(one, faults[one.name], judge.ground.edit)
+                else:
+                    self._write(one, found, result)
         self._send({"done": len(waiting)})
         return True
 
@@ -134,8 +139,8 @@ class Worker:
         if self._judge is None or self._judge.ground.edit != ground_of(self._database):
             self._end()
             ground = read_ground(self._database, self._program, self._machines)
-            self._note(ground)
             self._judge = Judge(self._program, ground)
+            self._note(ground)
             self._note_changed(self._judge.basis)
             # (the ground is large and stays, so Python needn't look through it for garbage again and again)
             gc.unfreeze()
@@ -174,18 +179,20 @@ class Worker:
         return [Waiting(*row) for row in self._database.execute("SELECT id, name, put, list FROM machines ORDER BY id")]
 
     def _waiting(self, ground: int) -> list[Waiting]:
-        """Some machines that wait and that no other worker judges, those with new lists first, and those of this shard before others."""
+        """Some machines that wait and that no other worker judges, those with new lists first. Those of this shard are before others, since
+        it knows their names; but if more lists wait than there are workers, the one that waits longest is first."""
         new, old = "put <> judged_put", "judged_ground <> ?"
         count = self._database.execute(f"SELECT count(*) FROM machines WHERE {new}").fetchone()[0]
         # (who waits for an answer waits for no other list, if there are as many workers as lists)
         most = max(1, min(_NEW, count // (2 * self._shards)))
-        return self._claimed(new, (), "put", most) or self._claimed(old, (ground,), "judged_ground", _OTHERS)
+        own, other = (f" AND shard % {self._shards} {shard} {self._shard}" for shard in ("=", "<>"))
+        shards = (own, other) if count <= self._shards else ("",)
+        return self._claimed(new, (), "put", most, shards) or self._claimed(old, (ground,), "judged_ground", _OTHERS, (own, other))
 
-    def _claimed(self, waits: str, values: tuple[int, ...], order: str, most: int) -> list[Waiting]:
-        """Some machines that wait so, which are claimed."""
-        for shard in ("=", "<>"):
-            where = f"{waits} AND shard % {self._shards} {shard} {self._shard}"
-            rows = self._database.execute(f"SELECT id FROM machines WHERE {where} ORDER BY {order} LIMIT {_LOOKED_AT}", values).fetchall()
+    def _claimed(self, waits: str, values: tuple[int, ...], order: str, most: int, shards: Iterable[str]) -> list[Waiting]:
+        """Some machines that wait so, which are claimed, of the first of these shards that has some."""
+        for shard in shards:
+            rows = self._database.execute(f"SELECT id FROM machines WHERE {waits}{shard} ORDER BY {order} LIMIT {_LOOKED_AT}", values).fetchall()
             ids = self._claims.take((row["id"] for row in rows), most)
             # (another worker may have judged it before it was claimed)
             question = f"SELECT id, name, put, list, {_SINCE} FROM machines WHERE id = ? AND {waits}"
@@ -243,8 +250,8 @@ class Worker:
         columns = "judged_put = ?, judged_ground = ?, judged_at = ?, fault = ?"
         self._database.execute(f"UPDATE machines SET {columns} WHERE id = ?", (one.put, ground, time.time(), whole(pathless(fault)), one.id))
 
-    def _write(self, one: Waiting, judged: Judged) -> None:
-        """Writes the result of a machine, if it is still there."""
+    def _write(self, one: Waiting, judged: Judged, result: bytes | None) -> None:
+        """Writes the result of a machine, if it is still there. It is packed already, unless it is to be put into the one before."""
         database = self._database
         row = database.execute("SELECT result_put, result_ground, fault, counts, result FROM machines WHERE id = ?", (one.id,)).fetchone()
         if row is None:
@@ -254,18 +261,12 @@ class Worker:
             return
         at = time.time()
         kinds = self._write_changes(one, judged, row, at)
-        result = packed(whole(self._result(judged, row)).encode())
+        if result is None:
+            result = packed(_text(judged, row["result"]))
         counts = json.dumps(Counter(kinds.values()) if judged.has_items else {"no items": 1})
         columns = "judged_put = ?, judged_ground = ?, result_put = ?, result_ground = ?, judged_at = ?, fault = '', counts = ?, result = ?"
         edits = one.put, judged.judge.ground.edit
         database.execute(f"UPDATE machines SET {columns} WHERE id = ?", (*edits, *edits, at, counts, result, one.id))
-
-    def _result(self, judged: Judged, row: sqlite3.Row) -> str:
-        """The result as the database keeps it."""
-        found = judged.row | {"said": judged.said}
-        if judged.ids is None:
-            return queries.result_text(found)
-        return merged(unpacked(row["result"]).decode(), found, judged.ids, judged.judge.order)
 
     def _write_changes(self, one: Waiting, judged: Judged, row: sqlite3.Row, at: float) -> dict[str, str]:
         """Writes what changed, and the verdicts as they are now, which are the answer."""
@@ -348,6 +349,14 @@ class Worker:
         return found | {"edit": one.put, "ground": judge.ground.edit, "state": queries.state_of(row, judge.ground.edit)}
 
 
+def _text(judged: Judged, before: bytes = b"") -> bytes:
+    """The result as the database keeps it; if it has some advisories alone, it is put into the one before."""
+    found = judged.row | {"said": judged.said}
+    if judged.ids is None:
+        return whole(queries.result_text(found)).encode()
+    return whole(merged(unpacked(before).decode(), found, judged.ids, judged.judge.order)).encode()
+
+
 def _note_advisories(database: sqlite3.Connection, ground: Ground) -> None:
     """Writes which advisories are asked for, and what is known of all."""
     asked = ground.known.ids.advisories
@@ -369,6 +378,8 @@ def main() -> None:
     """Judges until the server is gone."""
     # (who interrupts the server ends it, and it ends its processes)
     signal.signal(signal.SIGINT, signal.SIG_IGN)
+    # (nearly all that is made is kept, or freed at once, so Python looks less often for garbage)
+    gc.set_threshold(_OBJECTS)
     folder, shard, shards = sys.argv[1:]
     Worker(Path(folder), int(shard), int(shards)).run()
 

@@ -17,7 +17,7 @@ from cpe_recipes.components import Component, Machine  # noqa: E402
 from cpe_recipes.feeds import FormFault  # noqa: E402
 from cpe_recipes.names_table import Product, Tables, read_table  # noqa: E402
 from cpe_recipes.naming import name_machines  # noqa: E402
-from cpe_recipes.product_index import ProductIndex  # noqa: E402
+from cpe_recipes.product_index import ByName, ProductIndex  # noqa: E402
 from cpe_recipes.said import Fatal  # noqa: E402
 
 TOMCAT = "pkg:deb/debian/tomcat9@9.0.43-2~deb11u6?arch=all&distro=debian-11&upstream=tomcat9"
@@ -238,9 +238,13 @@ class Candidates(unittest.TestCase):
             '{"do":"entry","name":"cpe:2.3:o:acme:suite:1.0:*:*:*:*:*:*:*"}',
             "no record", '{"do":"entry"}', "[7]", '{"do":"entry","name":7}',
         ]
-        index = ProductIndex(records, {"wid\\+get", "suite", "upper", "c\\+\\+"})
-        self.assertEqual([index.has("acme", name) for name in ("wid\\+get", "suite", "upper", "c\\+\\+", "none")], [True] * 4 + [False])
-        self.assertEqual([one.product for one in index.of("suite")], [Product("a", "acme", "suite")])
+        wanted = ["wid\\+get", "suite", "upper", "c\\+\\+"]
+        # (so it is too with those records alone that have such names)
+        for some in (records, ByName([*records, entry(fs("acme", "other", "1"))]).of([*wanted, "su-ite"])):
+            index = ProductIndex(some, wanted)
+            self.assertEqual([index.has("acme", name) for name in (*wanted, "none")], [True] * 4 + [False])
+            self.assertEqual([(one.product, one.count) for one in index.of("suite")], [(Product("a", "acme", "suite"), 1)])
+        self.assertEqual(list(ByName(records).of(["upper"])), records[2:3])
 
     def test_many_components_and_entries_take_no_time_for_each_pair(self):
         records = [entry(fs(f"v{n % 5000}", f"p{n}", "1.0")) for n in range(200_000)]

@@ -45,7 +45,7 @@ DONE = {
 }
 OF_SYSTEMD = {"Type", "Restart", "RestartSec", "IPAddressDeny", "IPAddressAllow"}
 _NAMESPACES = (0x00020000, 0x02000000, 0x04000000, 0x08000000, 0x10000000, 0x20000000, 0x40000000)
-# A command that tries what a unit forbids, and what it doesn't, and what comes of it.
+# A command that tries what a unit forbids, and what it doesn't, and what is found.
 PROBE = """
 import ctypes, errno, mmap, os, socket
 def tried(does):

@@ -47,10 +47,11 @@ class Server:
         self.port = int(found[1])
 
     def kill(self, number=signal.SIGKILL):
-        """Ends the server by a signal."""
-        self.run.send_signal(number)
-        self.run.wait(PATIENCE)
-        self.run.stdout.close()
+        """Ends the server by a signal. (Another thread may start the next one as soon as it ended.)"""
+        run = self.run
+        run.send_signal(number)
+        run.wait(PATIENCE)
+        run.stdout.close()
 
     def children(self, word=""):
         """The processes of the server whose command has this word, those of its processes too."""
@@ -78,6 +79,9 @@ class Server:
             connection.request(method, path, data, {key.replace("_", "-"): value for key, value in headers.items()})
             answer = connection.getresponse()
             return answer.status, answer.read(), answer.headers.get("Content-Type", "")
+        except http.client.HTTPException as fault:
+            # (the server may be killed between the head of an answer and the rest)
+            raise ConnectionError(f"the answer is cut off: {fault}") from fault
         finally:
             connection.close()
 

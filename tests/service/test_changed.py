@@ -1,4 +1,4 @@
-"""After a window of advisories what changed alone is judged anew, and the results are those of judging all.
+"""After a window of advisories what changed alone is judged again, and the results are those of judging all.
 
 CPE_FLEETS is how many fleets are drawn, and CPE_SEED the first of their seeds.
 """
@@ -11,7 +11,7 @@ import unittest
 from collections import Counter
 from unittest import mock
 
-from service_case import ROOT
+from service_case import ROOT, SAMPLES
 from test_hidden import NAME, OTHER, WorkerCase, advisory, product
 
 sys.path.insert(0, str(ROOT / "bench"))
@@ -22,6 +22,7 @@ from cpe_service.database import unpacked  # noqa: E402
 from cpe_service.judge import Judge  # noqa: E402
 from cpe_service.waiting import Waiting  # noqa: E402
 
+RANGES = SAMPLES / "ranges"
 FLEETS, SEED = int(os.environ.get("CPE_FLEETS", "5")), int(os.environ.get("CPE_SEED", "1"))
 
 
@@ -54,7 +55,7 @@ class ChangedCase(WorkerCase):
         return {how: count for how, count in self.counts.items() if count}
 
     def check(self):
-        """What is kept of each machine is what comes of judging all of it."""
+        """What is kept of each machine is what judging all of it gives."""
         database, judge = self.judges._database, self.judges._ready()
         rows = database.execute("SELECT id, name, put, list, result, counts FROM machines").fetchall()
         for row in rows:
@@ -176,7 +177,7 @@ class ChangedTest(ChangedCase):
         self.judges._database.execute("UPDATE machines SET result_ground = 1 WHERE name = 'm'")
         with worker.writing(self.judges._database):
             for one, found in zip(waiting, judged):
-                self.judges._write(one, found)
+                self.judges._write(one, found, None)
         self.assertEqual(self.rows("name", judged_ground=judge.ground.edit), [("n",)])
         self.assertEqual(self.judged(), {"whole": 1})
         self.check()
@@ -222,6 +223,71 @@ class DrawnTest(ChangedCase):
 
 
 # Another process claims the first machine until its input ends.
+class RunsTest(WorkerCase):
+    def test_no_run_of_cpe_begins_for_a_machine(self):
+        """What is asked of its items is asked of runs that stay, of ranges and of what is negated too."""
+        for path in ("dictionary", "advisories", "matches"):
+            self.keeps.answer({"do": "feed", "name": "", "is_whole": False, "client": "x"}, (RANGES / f"{path}.json").read_bytes())
+        lists = [path for path in sorted(RANGES.iterdir()) if path.name.endswith((".cdx.json", "-1.txt"))]
+        self.assertGreater(len(lists), 2)
+        self.keeps.answer({"do": "put", "name": "first", "client": "x"}, b"cpe:/a:ntp:ntp:4.2.8")
+        self.judge()
+        with mock.patch.object(subprocess, "Popen", side_effect=OSError("none begins")):
+            for path in lists:
+                self.keeps.answer({"do": "put", "name": path.name.partition(".")[0], "client": "x"}, path.read_bytes())
+            self.judge()
+        self.assertEqual(set(self.rows("fault, put = judged_put")), {("", 1)})
+        self.assertGreater(len(self.rows("1", "verdicts")), 10)
+
+
+class SameListTest(WorkerCase):
+    """A list that a machine has already is judged again only if its verdicts are of something else."""
+
+    def setUp(self):
+        super().setUp()
+        self.feed("products", product(NAME % "1"), product(OTHER))
+        self.feed("vulnerabilities", advisory("CVE-2024-1", NAME % "1"))
+        self.put("m", NAME % "1")
+
+    def state(self):
+        (found,) = self.rows("put = judged_put, put = result_put, fault <> ''", name="m")
+        return found
+
+    def test_it_has_its_verdicts_at_once(self):
+        self.judge()
+        before = self.rows("put"), self.rows("*", "history"), self.rows("result"), self.rows("judged_at")
+        self.put("m", NAME % "1")
+        self.assertEqual(self.state(), (1, 1, 0))
+        self.assertGreater(self.rows("put"), before[0])
+        self.assertEqual((self.rows("*", "history"), self.rows("result"), self.rows("judged_at")), before[1:])
+        self.feed("vulnerabilities", advisory("CVE-2024-2", NAME % "1"))
+        self.judge()
+        changes = self.rows("advisory, before, after, cause", "history")
+        self.assertEqual(changes[1:], [("CVE-2024-2", "none", "TRUE", "feed")])
+
+    def test_it_waits_if_it_was_not_judged_yet(self):
+        self.put("m", NAME % "1")
+        self.assertEqual(self.state(), (0, 0, 0))
+        self.judge()
+        self.put("m", NAME % "1", OTHER)
+        self.put("m", NAME % "1", OTHER)
+        self.assertEqual(self.state(), (0, 0, 0))
+
+    def test_it_waits_if_the_feeds_are_others(self):
+        self.judge()
+        self.feed("vulnerabilities", advisory("CVE-2024-2", NAME % "1"))
+        self.put("m", NAME % "1")
+        self.assertEqual(self.state(), (0, 0, 0))
+
+    def test_it_waits_if_there_was_no_result(self):
+        with mock.patch.object(worker.Judge, "judge", side_effect=KeyError("odd")):
+            self.judge()
+        self.put("m", NAME % "1")
+        self.assertEqual(self.state(), (0, 0, 1))
+        self.judge()
+        self.assertEqual(self.state(), (1, 1, 0))
+
+
 CLAIMING = """
 import sys
 from pathlib import Path
@@ -260,14 +326,16 @@ class ClaimsTest(WorkerCase):
         one = worker.Worker(self.folder / "data", 1, 3)
         one._send = [].append
         self.addCleanup(one._end)
-        order = []
+        before = self.rows("id, shard % 3, judged_put = put")
         while one._step():
-            done = self.rows("shard % 3, judged_put = put")
-            order.append([shard for shard, is_judged in done if is_judged])
-        self.assertEqual(sorted(order[-1]), sorted(shards))
-        # (its own come first)
-        own = shards.count(1)
-        self.assertEqual(next(found for found in order if len(found) >= own)[:own].count(1), own)
+            after = self.rows("id, shard % 3, judged_put = put")
+            waited = [(id, shard) for id, shard, is_judged in before if not is_judged]
+            taken = [id for (id, _, was), (_, _, is_now) in zip(before, after) if is_now and not was]
+            # (if more wait than there are workers, those that wait longest are first, and else its own)
+            first = [id for id, _ in waited] if len(waited) > 3 else [id for id, shard in sorted(waited, key=lambda row: row[1] != 1)]
+            self.assertEqual(taken, sorted(first[: len(taken)]))
+            before = after
+        self.assertEqual([is_judged for _, _, is_judged in before], [1] * 12)
 
 
 if __name__ == "__main__":

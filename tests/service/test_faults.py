@@ -92,7 +92,7 @@ class Session:
         if self.draw.random() < 0.4:
             self.server.kill()
             return
-        pids = self.server.children(self.draw.choice(["resolve", "cpe_service.worker", "cpe_service.keeper"]))
+        pids = self.server.children(self.draw.choice(["resolve", "advise", "cpe_service.worker", "cpe_service.keeper"]))
         if pids:
             try:
                 os.kill(self.draw.choice(pids), signal.SIGKILL)

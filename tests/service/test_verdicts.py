@@ -173,8 +173,8 @@ class Fleet:
         self.case.assertEqual(self.history(), kinds)
         ids = {id for _, id in kinds}
         for id in ids:
-            _, told = self.server.ask("GET", f"/advisories/{id}?limit=1000")
-            of = {(one["name"], id): one["verdict"] for one in told["machines"]}
+            _, answer = self.server.ask("GET", f"/advisories/{id}?limit=1000")
+            of = {(one["name"], id): one["verdict"] for one in answer["machines"]}
             self.case.assertEqual(of, {key: kind for key, kind in kinds.items() if key[1] == id})
         self.check_lists(kinds)
 
@@ -182,19 +182,19 @@ class Fleet:
         """The lists of advisories and of machines have them by their kinds."""
         of_each = {id: Counter(kind for (_, one), kind in kinds.items() if one == id) for _, id in kinds}
         for kind in ("", *dict.fromkeys(kinds.values()), "ERROR"):
-            _, told = self.server.ask("GET", f"/advisories?limit=1000{f'&kind={kind}' if kind else ''}")
+            _, answer = self.server.ask("GET", f"/advisories?limit=1000{f'&kind={kind}' if kind else ''}")
             of_kind = {id: found for id, found in of_each.items() if not kind or found[kind]}
             count = lambda id: of_kind[id][kind] if kind else of_kind[id].total()  # noqa: E731
             is_true = kind in ("", "TRUE")
             wanted = sorted(of_kind, key=lambda id: (-of_kind[id]["TRUE"] * is_true, -count(id), id))
-            self.case.assertEqual([(one["id"], one["counts"]) for one in told["advisories"]], [(id, dict(of_kind[id])) for id in wanted])
-            self.case.assertEqual(told["total"], len(wanted))
-            for one in told["advisories"]:
+            self.case.assertEqual([(one["id"], one["counts"]) for one in answer["advisories"]], [(id, dict(of_kind[id])) for id in wanted])
+            self.case.assertEqual(answer["total"], len(wanted))
+            for one in answer["advisories"]:
                 _, about = self.server.ask("GET", f"/advisories/{one['id']}?limit=1000{f'&kind={kind}' if kind else ''}")
                 self.case.assertEqual(one["since"], min(machine["since"] for machine in about["machines"]))
-            _, told = self.server.ask("GET", f"/machines?limit=1000{f'&kind={kind}' if kind else ''}")
+            _, answer = self.server.ask("GET", f"/machines?limit=1000{f'&kind={kind}' if kind else ''}")
             wanted = sorted({name for (name, _), found in kinds.items() if found == kind} if kind else self.lists)
-            self.case.assertEqual([one["name"] for one in told["machines"]], wanted)
+            self.case.assertEqual([one["name"] for one in answer["machines"]], wanted)
 
     def history(self):
         """The verdicts to which the changes lead, one after the other."""
