@@ -131,7 +131,7 @@ class RefusedTest(ServiceCase):
                 self.assertIn(sentence, value["detail"])
                 self.assertEqual(set(value), {"type", "title", "status", "detail"})
         self.assertEqual(self.state(server), before)
-        self.assertEqual({path.name.partition("-")[0] for path in server.folder.iterdir()}, {"service.db", "names.db", "lock", "claims"})
+        self.assertEqual({path.name.partition("-")[0] for path in server.folder.iterdir()}, {"service.db", "names.db", "lock", "claims", "turn"})
 
     def state(self, server):
         return [server.ask("GET", path)[1] for path in ("/machines", "/advisories", "/changes?limit=1000", "/machines/known?limit=1000")]
