@@ -14,7 +14,7 @@ ZSH_COMPLETIONS = $(PREFIX)/share/zsh/site-functions
 take_program = mkdir -p build && { cmp -s crates/cpe/out/cpe build/cpe || \
 	{ cp crates/cpe/out/cpe build/cpe.new && mv -f build/cpe.new build/cpe; }; }
 
-.PHONY: help build program release library demo service test limits install install-library deb bench clean need_rt need_python3
+.PHONY: help build program release library demo service test limits wrong-bodies install install-library deb bench clean need_rt need_python3
 
 help:
 	@echo 'make demo     reads examples/names.txt, and goes the whole way from feeds to the advisories of two machines (that needs'
@@ -30,6 +30,7 @@ help:
 	@echo 'make release  makes release/ from what make test built, in a tree without changes'
 	@echo 'make limits   fills the program up to its limits, refuses each allocation of short sessions, and measures the stack that'
 	@echo '              each word needs: minutes, and 6 GB of memory; not in the gate'
+	@echo 'make wrong-bodies  tries the wrong bodies that take too long for the gate, each of which the prover must refuse: half an hour'
 	@echo 'make install  puts the program into PREFIX/bin, and its manual page, its completions for bash and zsh, the recipes and the'
 	@echo '              service into PREFIX/share (PREFIX=$(PREFIX))'
 	@echo 'make install-library  builds the library, and puts it into PREFIX/lib, and cpe.h into PREFIX/include'
@@ -101,6 +102,10 @@ limits: program
 		echo "python3 $$it"; python3 $$it || exit 1; \
 	done; \
 	else echo 'SKIPPED: each allocation refused in turn, the stack that each word needs, what rows take of memory, how what edits cost grows: there is no python3'; fi
+
+# (over what the gate proved)
+wrong-bodies: need_rt
+	sh tests/wrong-bodies.sh
 
 install: program
 	mkdir -p '$(DESTDIR)$(PREFIX)/bin'

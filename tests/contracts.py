@@ -164,10 +164,11 @@ def section(crate: str) -> str:
     said = plain(" ".join(paragraph(front, "//!")))
     made = textwrap.fill(said, 118, break_long_words=False, break_on_hyphens=False)
     rows = [row(it) for it in calls(folder)]
-    wrong = sorted(it.stem for it in (folder / "must-fail").glob("*.edit")) if (folder / "must-fail").is_dir() else []
-    if wrong:
-        line = f"- Wrong bodies that the gate tries: {', '.join(f'`{it}`' for it in wrong)}."
-        rows.append(textwrap.fill(line, 118, subsequent_indent="  ", break_long_words=False, break_on_hyphens=False))
+    for told, place in (("that the gate tries", folder / "must-fail"), ("tried by hand", TOP / "wrong-bodies" / crate)):
+        wrong = sorted(it.stem for it in place.glob("*.edit"))
+        if wrong:
+            line = f"- Wrong bodies {told}: {', '.join(f'`{it}`' for it in wrong)}."
+            rows.append(textwrap.fill(line, 118, subsequent_indent="  ", break_long_words=False, break_on_hyphens=False))
     return f"### `{crate}`\n\n{made}\n" + ("\n" + "\n".join(rows) + "\n" if rows else "")
 
 
