@@ -12,9 +12,9 @@
   check gets the result.
 - --decided: the output of `decide.py`.
 
-A fleet decides like `scan.py`: in every mode, all statements are asked by the names of the items, and by the names to which the dictionary
-leads. What a list doesn't say is UNKNOWN. With --strict it is FALSE if an item says less than an advisory asks for. Remarks name the items
-that have no entry, or only a removed one.
+A fleet decides like `scan.py`. In every mode, all statements are asked by the names of the items, and by the names to which these lead.
+What a list doesn't say is UNKNOWN. With --strict it is FALSE if an item says less than an advisory asks for. Remarks name the items that
+have no entry, or only a removed one.
 
 A fleet writes only verdicts, so it has no gates and no other forms. `affected.sh` and `report.py` take --kev and --epss with the output of
 a fleet. Only `scan.py` has --fail-on, --since and --format.

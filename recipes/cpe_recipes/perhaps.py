@@ -13,7 +13,7 @@ any version isn't known to be 2.0. In mode plain the names are compared, in mode
 
 The fact of a range has no version, so an item with a version says more in this attribute. The item may say less in another attribute, such
 as a plugin without its platform. Then neither name covers the other. With the file --ranges of `advisories.sh`, such an item is compared by
-its version, and listed unless the version is surely outside the range. --letters is that of `decide.py`.
+its version. It is listed unless the version is surely outside the range. The option --letters is that of `decide.py`.
 """
 from __future__ import annotations
 

@@ -8,14 +8,14 @@ that could be other than FALSE on a machine. It writes these advisories as one p
 The recipe reads the vulnerable matches of an advisory. It reads all matches if the advisory has a vulnerable operating system, firmware or
 hardware (concern.py). An advisory is kept if one of the read matches
 
-- has the vendor and product of an item, or a vendor and product to which the dictionary of --records leads, or may lead, an item; or
+- has the vendor and product of an item, or of a name to which the dictionary of --records leads, or may lead, the item; or
 - has a vendor or product with a special, or is no name; or
 - has the product of an item whose vendor is a pattern, or the vendor of an item whose product is a pattern.
 
-An advisory is kept too if the match feed (--matches) lists such an item for one of its matches, because the item then has the name of the
-match too. It is also kept if `advisories.sh` has to report something, such as that the advisory isn't analysed. All other advisories name
-products that the machines don't have. They are FALSE on every machine, and a remark counts them. A feed with missing pages is refused; with
---partial the missing pages are only reported. --large accepts pages that unpack to any size (unpack.py).
+An advisory is kept too if the match feed (--matches) lists an item of a machine for one of its matches. The item then has the name of the
+match too. An advisory is also kept if `advisories.sh` has to report something, such as that the advisory isn't analysed. All other
+advisories name products that the machines don't have. They are FALSE on every machine, and a remark counts them. A feed with missing pages
+is refused; with --partial the missing pages are only reported. --large accepts pages that unpack to any size (unpack.py).
 """
 from __future__ import annotations
 

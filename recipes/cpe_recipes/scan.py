@@ -44,8 +44,8 @@ take, it gets them in portions, with the same verdicts (portions.py). In this ca
 any of the machines are FALSE without being evaluated (concern.py). With --all they are evaluated too.
 
 A statement holds for a machine if it holds by the written names of items and facts, or by the names to which the dictionary leads from
-these. calling.py says which names an item has in this way, and which names it may have. A negated test holds only if it holds by all these
-names.
+these. The module calling.py says which names an item has in this way, and which names it may have. A negated test holds only if it holds by
+all these names.
 
 A component may have several names. A verdict is TRUE if one name makes it TRUE, and FALSE only if all names make it FALSE. negations.py has
 the rule for negated tests.

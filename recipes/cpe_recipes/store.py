@@ -12,8 +12,8 @@
   stopped or killed, or the disk was full, run add again with the same pages. Until then each scan reports these pages as left out. A scan
   also reports what could not be read, until a good page is added. Without pages, add finishes the work of a stopped run. --jobs is the
   number of further processes that read pages. Without it, one process reads and writes.
-- status: writes how much is in the store, when something was last added, which pages of feeds are missing, which runs of add are
-  unfinished, and what could not be read.
+- status: writes how much is in the store, and when something was last added. It lists missing pages, unfinished runs of add, and what could
+  not be read.
 - check: reads the whole store. It compares the derived tables with the records, and the records of each page with a checksum of the added
   records.
 - changes: writes like changes.sh, for each scan, which verdicts differ from the scan before, with the time of the scan. It compares

@@ -13,9 +13,9 @@ scan.py. The recipe writes
 
 Put LINE into a table for --names to settle which product a package is, if only the dictionary names it (naming.py).
 
-An item without an entry has no chain, so no advisory finds it that uses another name of the product. If entries of its product are
-deprecated and lead to other products, these products are written after `now called`. A component with several names isn't listed if one of
-the names has an entry. An item under a removed name has no end, so an advisory finds it only by this name. What can't be an item is
+An item without an entry has no chain. So an advisory that uses another name of the product doesn't find the item. If entries of its product
+are deprecated and lead to other products, these products are written after `now called`. A component with several names isn't listed if one
+of the names has an entry. An item under a removed name has no end, so an advisory finds it only by this name. What can't be an item is
 reported, and the status is 1.
 """
 from __future__ import annotations
