@@ -1,13 +1,14 @@
 #!/usr/bin/env python3
-"""A client of `cpe` over a pipe, for use in programs of your own; docs/PIPE.md has the reasons for what it does.
+"""A client of `cpe` over a pipe, for use in programs of your own; docs/PIPE.md explains it.
 
     with Client("resolve") as client:
         client.ask('{"do":"entry","name":"cpe:/a:gnu:gnutls:3.8.0"}')    # Answer(number=1, refusal=None, lines=[])
         for answer in client.ask_all(lines_of_a_feed): ..
 
-It serves all words that read lines. Under `save`, which answers no line, `send` takes the lines, and `end` returns the snapshot. As a
-script it writes for each line its number and the lines of its answer, with tabs between them. At the end it writes what `cpe` writes at
-the end of the input. It passes over empty lines: python3 pipe.py WORD.. < LINES.
+The client serves all words that read lines. `save` answers no line, so `send` writes the lines, and `end` returns the snapshot.
+
+As a script (python3 pipe.py WORD.. < LINES) it writes for each line its number and the lines of its answer, separated by tabs. At the end
+it writes what `cpe` writes at the end of the input. Empty lines are ignored.
 """
 import collections
 import contextlib

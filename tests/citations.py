@@ -18,9 +18,9 @@ HEAD = """# Lemmas that proofs of other crates cite
 
 `python3 tests/citations.py --write` writes this file from the sources, and the gate checks it.
 
-A proof cites the contracts of the calls below it, and laws. It also cites lemmas of a crate below, in its `proofs/`, if
-both crates are about one subject. If such a lemma changes, the proofs of the crate at the beginning of an item may have
-to change too. These are all such citations, from the bottom up. The proofs of
+A proof cites laws, and the contracts of the calls below it. If both crates have one subject, a proof also cites lemmas
+in `proofs/` of a crate below. If such a lemma changes, the citing proofs may have to change too. Each item below begins
+with the citing crate; the files of lemmas are in brackets. The crates are listed from the bottom up. The proofs of
 
 """
 # The crate and the file of lemmas, or the crate that hands on the lemmas of another one, that one, and the file.

@@ -23,10 +23,10 @@ HEAD = """# Contracts of the public calls
 `python3 tests/contracts.py --write` makes this file from the sources, and the gate checks it.
 [PROOFS.md](PROOFS.md) says what the contracts promise together.
 
-By area and crate, from the bottom up: each public call, the first sentence of its comment, and the clauses of its
-contract. A clause has a name, or is shown as it is. `requires` is what a caller owes, `ensures` what the call promises
-then. A law is a function without a body, whose clauses the prover has checked. What a type does by a trait has the
-clauses of the trait, and stands there alone.
+This file lists the public calls by area and crate, from the bottom up. Each call has the first sentence of its comment,
+and the clauses of its contract. If a clause has a name, only the name is shown. A call promises its `ensures` if the
+caller meets its `requires`. A law is a function without a body, whose clauses the prover has checked. The methods that
+a type has by a trait are listed only under the trait, with the clauses of the trait.
 """
 CALL = re.compile(r"(?:pub )?(?:const )?(?:extern \"C\" )?fn (\w+)")
 BLOCK = re.compile(r"(?:unsafe )?impl(?:<.*?>)? (?:(?P<of>[\w:]+)(?:<.*>)? for )?(?P<type>\w+)|pub (?:unsafe )?trait (?P<trait>\w+)")

@@ -1,27 +1,28 @@
-"""From NVD's API 2.0 to advisories: the JSON of /rest/json/cves/2.0 (vulnerabilities) to records `statement`.
+"""Turns vulnerabilities of NVD's API 2.0 (JSON of /rest/json/cves/2.0) into records `statement`.
 
     sh advisories.sh [--ranges FILE] [--details FILE] [--partial] [--large] [FILE..] > records
 
-A statement has the id of its CVE, and follows deprecations. It is TRUE if one of the configurations holds, and has a vulnerable product on
-the machine.
+A statement has the id of its CVE, and follows deprecations. It is TRUE if one of the configurations holds with a vulnerable product on the
+machine.
 
-- A configuration has nodes, and a node has matches, and perhaps nodes as its `children`. The test has the `operator` and `negate` of each,
-  and each match is a fact. If a configuration could hold without a product that is marked as vulnerable, the statement also asks for one
-  of its vulnerable products.
-- A range of versions is no name. It becomes the product in any version AND a check with the key NVD, cpeMatch and the id of the match. So
-  the statement is FALSE if the product isn't there and no other fact holds. It is UNKNOWN if the product is there, until a record `check`
-  gives the result: whether a version in the range is there. The ranges are written into a file of their own, for decide.py.
+- A configuration has nodes. A node has matches, and perhaps further nodes as its `children`. The test has the `operator` and `negate` of
+  each node, and each match is a fact. If a configuration could hold without a product that is marked as vulnerable, the statement also asks
+  for one of its vulnerable products.
+- A match with a range of versions becomes an AND of two children. One is the product in any version; the other is a check with the key NVD,
+  cpeMatch and the id of the match. If the machine doesn't have the product, and no other fact holds, the statement is FALSE. If the machine
+  has the product, the statement is UNKNOWN until a record `check` says whether its version is in the range. The ranges are written into a
+  file of their own, for decide.py.
 - An advisory without configurations isn't analysed yet, and has no statement. A remark counts such advisories (unanalysed.py).
-- If an advisory is there several times, the one that was modified last counts (latest.py). If two have the same time and differ, what only
-  the later one in the files has is UNKNOWN, and reported.
-- What can't be read in an advisory (a bad name, a bad bound, a configuration of another form beside good ones) becomes a check that stays
-  UNKNOWN, and is reported. So it hides nothing else of the advisory.
-- An advisory of more names than a line can hold becomes several statements, CVE-..#2 and so on. One of them is TRUE if the whole would be.
-  (So the tables can join them by their ids; an OR over checks would have to be asked twice.)
+- If there are several records of an advisory, the record that was modified last counts (latest.py). If two records have the same time and
+  differ, what only the second has is UNKNOWN, and reported.
+- What can't be read in an advisory, such as a bad name or bound, becomes a check that stays UNKNOWN, and is reported. So the rest of the
+  advisory still counts.
+- An advisory of more names than a line can have becomes several statements, CVE-..#2 and so on. One of them is TRUE if the whole would be
+  TRUE. The tables join them by their ids.
 
---ranges names the file for the ranges. --details names the file for scores and titles, by id, which affected.sh reads. What is left out is
-reported, and the status is 1. A feed without any vulnerability is refused. So is a feed of which pages are missing by their own numbers;
---partial accepts it, and what is missing is reported. --large accepts pages that unpack to any size (unpack.py).
+--ranges names the file for the ranges. --details names the file for scores and titles, which affected.sh reads. What is left out is
+reported, and the status is 1. A feed without any vulnerability is refused. A feed with missing pages is refused too; with --partial the
+missing pages are only reported. --large accepts pages that unpack to any size (unpack.py).
 """
 from __future__ import annotations
 

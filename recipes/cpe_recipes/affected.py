@@ -1,23 +1,23 @@
-"""A table for people from verdicts: what `cpe evaluate` writes, or a fleet.
+"""A readable table of verdicts, from the output of `cpe evaluate` or of a fleet.
 
     sh affected.sh [--details FILE] [--suppress FILE] [--settled FILE] [--records FILE] [--ranges FILE] [--decided FILE]
         [--kev FILE] [--epss FILE] [FILE]
 
-For each machine the table has the advisories that are TRUE, then those that are ERROR and UNKNOWN. At the end it counts the verdicts of
+For each machine the table has the advisories that are TRUE, and then those that are ERROR or UNKNOWN. The last line counts the verdicts of
 each kind. A machine without items is reported.
 
-- --details: scores and titles by id, which `advisories.sh --details` wrote. The highest score is first.
-- --suppress: accepted advisories, lines `ID MACHINE REASON`, where * is every machine. They are written below the table.
-- --settled: UNKNOWNs that a user settled, lines `MACHINE ID TRUE|FALSE REASON`, where * is every machine (settled.py).
-- --records: the records that were evaluated. With them the table has what an UNKNOWN depends on: the checks of its statement that have no
-  result in the records or in the file of --decided, which `decide.py` wrote. With --ranges, which `advisories.sh --ranges` wrote, it has
-  the product and bounds of such a range.
-- --kev, --epss: CISA's list of known exploited vulnerabilities, and EPSS (threats.py). They get columns. The known exploited are first
-  then, and among equal scores the highest EPSS.
+- --details: the file of scores and titles that `advisories.sh --details` wrote. The highest score is first.
+- --suppress: accepted advisories, lines `ID MACHINE REASON`; * is every machine. They are written below the table.
+- --settled: UNKNOWNs that a user settled, lines `MACHINE ID TRUE|FALSE REASON`; * is every machine (settled.py).
+- --records: the records that were evaluated. With them the table says what an UNKNOWN depends on: the checks of its statement that have no
+  result in the records.
+- --decided: the output of `decide.py`, which has results of further checks.
+- --ranges: the file that `advisories.sh --ranges` wrote. With it the table has the product and bounds of a range that isn't decided.
+- --kev, --epss: CISA's list of known exploited vulnerabilities, and EPSS (threats.py). Each gets a column. Known exploited advisories are
+  then first, and among equal scores the highest EPSS.
 
-Each option except these two may be given several times. The status is 1 if lines of the records were refused, if machines have no items,
-or if a line of --suppress or --settled is wrong. It is 2, and nothing is written, if the verdicts aren't whole since their run was cut
-off.
+Each option except --kev and --epss may be given several times. The status is 1 if a record was refused, a machine has no items, or a line
+of --suppress or --settled is wrong. If the verdicts are cut off, the status is 2, and nothing is written.
 """
 from __future__ import annotations
 

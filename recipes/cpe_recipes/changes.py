@@ -1,20 +1,20 @@
-"""What changed between two sets of verdicts: sh changes.sh BEFORE AFTER. They are of `cpe evaluate`, of a fleet, or of
+"""What changed between two sets of verdicts: sh changes.sh BEFORE AFTER. Both files are from `cpe evaluate`, from a fleet, or from
 `scan.py --json`.
 
-It writes a line for each verdict that differs between the two, unless it is FALSE or missing in both:
+The recipe writes a line for each verdict that differs between the files, unless it is FALSE or missing in both:
 
     new MACHINE ID BEFORE AFTER         it was FALSE, or wasn't there
     gone MACHINE ID BEFORE AFTER        it is FALSE now, or isn't there any more
     changed MACHINE ID BEFORE AFTER     it is another one
 
-BEFORE and AFTER are verdicts, or `none` if there is no verdict. If AFTER is `none`, the line ends with the reason: the machine isn't
-there, or has no items there; the advisory isn't analysed there, is rejected, was left out, or isn't in the feeds; or it is a FALSE that
-could be another verdict, since pages of the dictionary or of the match feed are missing. If a user settled AFTER, the line ends with the
+BEFORE and AFTER are verdicts, or `none` if there is no verdict. If AFTER is `none`, the line ends with one of these reasons. The machine is
+missing, or has no items. The advisory isn't analysed, is rejected, was left out, or isn't in the feeds. Or the verdict is a FALSE that
+could be another verdict, because pages of the dictionary or of the match feed are missing. If a user settled AFTER, the line ends with the
 user's reason.
 
-A verdict that changes to `none` doesn't show that the machine was mended. So the status is 1, with a report, if a machine has no items any
-more, or if an advisory was left out or isn't in the feeds. It isn't 1 if an advisory isn't analysed or is rejected. Verdicts of one
-inventory have no MACHINE. The status is 2, and nothing is written, if one of the two files isn't whole.
+A change to `none` doesn't show that the machine was mended. So the status is 1, with a report, if a machine has no items any more. The same
+holds if an advisory was left out or isn't in the feeds. An advisory that isn't analysed or is rejected doesn't cause status 1. Verdicts of
+a single inventory have no MACHINE. If one of the two files is cut off, the status is 2, and nothing is written.
 """
 from __future__ import annotations
 

@@ -1,9 +1,9 @@
 """Runs a word of cpe that keeps no state on all processors of a machine: sh lines.sh WORD.. < LINES.
 
-WORD.. is unbind, bind fs, bind uri or compare. It writes what `cpe WORD..` writes, with the same numbers of refused lines, and ends with
-its status. GNU parallel runs the workers. The variable WORKERS is the number of workers at a time (else there are as many as processors),
-and PIECE the number of lines that each takes. If a worker dies, its piece is done again, up to three times. If it dies each time, the
-other pieces are still written, the fault is reported, and the status is 5.
+WORD.. is unbind, bind fs, bind uri or compare. The recipe writes what `cpe WORD..` writes, with the same numbers of refused lines, and ends
+with the same status. GNU parallel runs the workers. The variable WORKERS is the number of workers at a time; without it there are as many
+workers as processors. The variable PIECE is the number of lines for each worker. If a worker dies, its piece is done again, up to three
+times. If the worker dies each time, the other pieces are still written, the fault is reported, and the status is 5.
 """
 from __future__ import annotations
 

@@ -4,26 +4,27 @@
 
     sh parallel.sh --store FOLDER MACHINES [--strict] [--hardware none] [--letters FILE]
 
-- --store: in place of RECORDS, ranges and matches, a folder in which store.py keeps feeds. Advisories that name no product of the machines
-  are FALSE on each of them, and aren't written; a remark counts them.
+- --store, in place of RECORDS, ranges and matches: a folder in which store.py keeps feeds. Advisories that name no product of the machines
+  are FALSE, and aren't written; a remark counts them.
 - RECORDS: entries, deprecations, statements and results of checks, as the recipes write them.
 - MACHINES: a line for each machine: its name, and the names of its items.
-- --ranges: the ranges of versions that `advisories.sh --ranges` wrote. Each range is decided for each machine, as `decide.py` does it, and
-  its check gets the result. --decided has what `decide.py` wrote before.
+- --ranges: the ranges of versions that `advisories.sh --ranges` wrote. Each range is decided for each machine, as by `decide.py`, and its
+  check gets the result.
+- --decided: the output of `decide.py`.
 
-A fleet decides as `scan.py` does: all statements are asked of the names of the items as they are and as the dictionary leads them,
-whatever the mode of the statement. What a list doesn't say is UNKNOWN. With --strict it is FALSE if an item says less than an advisory
-asks for. Remarks name the items that have no entry, or only a removed one.
+A fleet decides like `scan.py`. In every mode, all statements are asked by the names of the items, and by the names to which these lead.
+What a list doesn't say is UNKNOWN. With --strict it is FALSE if an item says less than an advisory asks for. Remarks name the items that
+have no entry, or only a removed one.
 
-A fleet writes only verdicts, so it has no gates and no other forms. `affected.sh` and `report.py` take --kev and --epss for what it wrote;
---fail-on, --since and --format are of `scan.py`.
+A fleet writes only verdicts, so it has no gates and no other forms. `affected.sh` and `report.py` take --kev and --epss with the output of
+a fleet. Only `scan.py` has --fail-on, --since and --format.
 
-It writes a line `MACHINE STATEMENT TRUTH` for each verdict, in the order of the machines and of the statements, and `MACHINE no items` for
-a machine without items, of which nothing is known. The last line, `machines COUNT`, is written if every machine was.
+It writes a line `MACHINE STATEMENT TRUTH` for each verdict, in the order of the machines and of the statements. For a machine without items
+it writes `MACHINE no items`. If every machine was written, the last line is `machines COUNT`.
 
-Each worker reads the records once. The variable WORKERS is the number of workers (else there are as many as processors). If a worker dies,
-its machines are done again from the start, up to three times. What is refused is reported, and the status is 1. The status is 5 if
-machines are missing.
+Each worker reads the records once. The variable WORKERS is the number of workers; without it there are as many workers as processors. If a
+worker dies, its machines are done again from the start, up to three times. Refused records are reported, and the status is 1. If machines
+are missing, the status is 5.
 """
 from __future__ import annotations
 

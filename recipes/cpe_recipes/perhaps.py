@@ -1,19 +1,19 @@
-"""Which items perhaps are what an advisory names, though they say less than it asks for.
+"""Lists the items that say less than an advisory asks for, and so may be the product that the advisory names.
 
     sh perhaps.sh RECORDS MACHINES [--names FILE] [--ranges FILE [--letters FILE]]
 
 RECORDS are those of a dictionary and of advisories. MACHINES has a line for each machine: its name, and the names of its items. The recipe
-looks at each fact of a statement and each item of the same vendor and product. If the name of the item covers that of the fact (its
-relation is SUBSET by `cpe compare`), it writes
+compares each fact of a statement with each item of the same vendor and product. If the item's name covers the fact's name, and they aren't
+equal, it writes
 
     perhaps MACHINE ID ITEM FACT
 
-By NIST IR 7696 such a fact is FALSE: `log4j:2.0` in any update isn't known to be `log4j:2.0` without an update, and `log4j` in any version
-isn't known to be 2.0. The names to which the dictionary leads are compared, or the names as they are if the statement is in mode plain.
+By NIST IR 7696 such a fact is FALSE. For example, `log4j:2.0` in any update isn't known to be `log4j:2.0` without an update, and `log4j` in
+any version isn't known to be 2.0. In mode plain the names are compared, in mode follow their ends.
 
-The fact of a range has no version, so an item with a version says more in this attribute. If it says less in another attribute, such as a
-plugin without its platform, neither name covers the other. With --ranges, which `advisories.sh --ranges` wrote, such an item is compared
-by its version, and listed unless the version is surely outside the range. --letters is that of `decide.py`.
+The fact of a range has no version, so an item with a version says more in this attribute. The item may say less in another attribute, such
+as a plugin without its platform. Then neither name covers the other. With the file --ranges of `advisories.sh`, such an item is compared by
+its version. It is listed unless the version is surely outside the range. The option --letters is that of `decide.py`.
 """
 from __future__ import annotations
 

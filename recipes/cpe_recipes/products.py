@@ -1,21 +1,21 @@
-"""Advisories of the products that the machines have.
+"""Cuts a feed to the advisories that may concern a product of the machines.
 
     sh products.sh --machines FILE [--records FILE] [--matches FILE].. [--names FILE] [--partial] [--large] [FILE..] > page
 
-`cpe` takes 100,000 statements, and NVD has more advisories. This recipe cuts NVD's feeds (the JSON of /rest/json/cves/2.0) to the
-advisories that could be other than FALSE on a machine. It writes them as one page of the same form, for `advisories.sh` or `scan.py`.
+`cpe` takes 100,000 statements, and NVD has more advisories. This recipe cuts NVD's feeds (JSON of /rest/json/cves/2.0) to the advisories
+that could be other than FALSE on a machine. It writes these advisories as one page of the same form, for `advisories.sh` or `scan.py`.
 
-It looks at the vulnerable matches of an advisory, and at all its matches if it has a vulnerable operating system, firmware or hardware
-(concern.py). An advisory is kept if one of them
+The recipe reads the vulnerable matches of an advisory. It reads all matches if the advisory has a vulnerable operating system, firmware or
+hardware (concern.py). An advisory is kept if one of the read matches
 
-- has a vendor and product that an item of a machine has, or to which the dictionary of --records leads the item, or may lead it; or
+- has the vendor and product of an item, or of a name to which the dictionary of --records leads, or may lead, the item; or
 - has a vendor or product with a special, or is no name; or
 - has the product of an item whose vendor is a pattern, or the vendor of an item whose product is a pattern.
 
-An advisory is kept too if the match feed (--matches) lists such an item for one of its matches, since the item has the name of the match
-too; or if `advisories.sh` has to report something of it, such as that it isn't analysed. All others name products that the machines don't
-have: they are FALSE on every machine, and a remark counts them. A feed of which pages are missing by their own numbers is refused;
---partial accepts it, and what is missing is reported. --large accepts pages that unpack to any size (unpack.py).
+An advisory is kept too if the match feed (--matches) lists an item of a machine for one of its matches. The item then has the name of the
+match too. An advisory is also kept if `advisories.sh` has to report something, such as that the advisory isn't analysed. All other
+advisories name products that the machines don't have. They are FALSE on every machine, and a remark counts them. A feed with missing pages
+is refused; with --partial the missing pages are only reported. --large accepts pages that unpack to any size (unpack.py).
 """
 from __future__ import annotations
 

@@ -1,21 +1,21 @@
-"""One page to look at, of what `scan.py --json` wrote, or a fleet, or `cpe evaluate`.
+"""Makes a page of HTML from the output of `scan.py --json`, of a fleet, or of `cpe evaluate`.
 
     python3 report.py [--title TEXT] [--before FILE] [--details FILE] [--suppress FILE] [--settled FILE] [--records FILE]
         [--ranges FILE] [--decided FILE] [--kev FILE] [--epss FILE] [FILE] > page.html
 
-It is one file of HTML without outside parts: it opens from a disk, on a telephone too, in light and in dark, and loads nothing. At its top
-is what was left out, and how many rows there are of each verdict. Then follow the advisories: the known exploited first if the verdicts
-have that, and then the highest score. Each has the machines on which it isn't FALSE, and what the verdict depends on if that is known. The
-last part has the machines with their counts. A filter selects rows by texts, machines and verdicts; without scripts only the filter is
-missing. It is part of the address, as in `page.html#q=openssl&machine=web-1&truth=UNKNOWN`.
+The page is one file, which loads nothing. It opens from a disk, on a telephone too, in light and in dark. Its top has what was left out,
+and the number of rows of each verdict. Then follow the advisories: known exploited advisories first, if the input names them, and then the
+highest score. Each advisory has the machines on which it isn't FALSE, and what the verdict depends on if this is known. The last part has
+the machines with their counts. A filter selects rows by texts, machines and verdicts. The filter is part of the address, as in
+`page.html#q=openssl&machine=web-1&truth=UNKNOWN`. Without scripts only the filter is missing.
 
 - --title: the title of the page, such as whose machines these are and the day.
-- --before: verdicts of an earlier day, in the same form. The page then has what changed since, as `changes.sh` writes it, with the reason
-  if a verdict is `none` now. It needs a FILE.
-- the others: those of `affected.sh`, for verdicts of a fleet or of `cpe evaluate`. What `scan.py` wrote has all that already.
+- --before: verdicts of an earlier day, in the same form. The page then has the changes since that day, as `changes.sh` writes them, with
+  the reason if a verdict is `none` now. This option needs a FILE.
+- the others are the options of `affected.sh`, for verdicts of a fleet or of `cpe evaluate`. The output of `scan.py` already has these data.
 
-The status is 1 if something was left out or a machine has no items, which is reported too. It is 2 if the table isn't whole: then nothing
-was written, except what fits on a full disk.
+If something was left out, or a machine has no items, the status is 1, and this is reported. If there is no result, the status is 2, and
+nothing is written, except what fits on a full disk.
 """
 from __future__ import annotations
 

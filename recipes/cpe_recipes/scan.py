@@ -1,4 +1,4 @@
-"""The whole way, from feeds and software lists to the advisories that concern each machine.
+"""Writes which advisories concern which machine, from feeds and software lists.
 
     python3 scan.py --store FOLDER | --dictionary FILE.. --advisories FILE.. [--matches FILE..] | --records FILE.. --advisories FILE.. [..]
         --machines FILE | --lists FILE.. [--names FILE] [--suppress FILE] [--settled FILE] [--letters FILE] [--partial] [--large]
@@ -9,52 +9,54 @@ What is read:
 
 - --dictionary, --advisories, --matches: pages of NVD's API 2.0, or its feeds, plain, packed or in archives. Advisories may be CVE records
   of format 5 too (cve5.py).
-- --records: in place of --dictionary, what dictionary.sh wrote of it before.
-- --store: in place of all of these, a folder in which store.py keeps them. The scan reads only what concerns the machines.
-- --lists: software lists, one for each machine (lists/ has the forms: CycloneDX, SPDX, Syft's, Trivy's and plain ones, package URLs, and
-  the output of package managers). --machines: in place of --lists, a line for each machine, as inventory.sh --machines writes it.
-- --partial: pages of a feed may be missing. What is missing is reported, and each FALSE that may be another verdict for this reason is
+- --records, in place of --dictionary: the output of dictionary.sh.
+- --store, in place of all feeds: a folder in which store.py keeps them. The scan reads only what concerns the machines.
+- --lists: software lists, one for each machine: CycloneDX, SPDX, Syft's and Trivy's JSON, plain lists of names or package URLs, and the
+  output of package managers (lists/).
+- --machines, in place of --lists: the output of inventory.sh --machines.
+- --partial: pages of a feed may be missing. Missing pages are reported, and each FALSE that may be another verdict for this reason is
   marked.
-- --large: a page may unpack to any size; unpack.py has the limits without it.
+- --large: a page may unpack to any size; unpack.py has the limits without this option.
 
-What you know beside that:
+What you know in addition:
 
-- --names: tables of what packages are called (names_table.py), which count before names.txt.
+- --names: tables with the names of packages (names_table.py), which count before names.txt.
 - --letters: the products whose letters in versions count upward, in place of letters.txt.
 - --platform NAME: the operating system of the machines whose lists name none; platforms.py says what is FALSE without it.
-- --hardware none: there is no hardware to ask for, as in containers. Without it a verdict is UNKNOWN if it depends on hardware that a list
-  doesn't name.
-- --suppress: accepted advisories, lines `ID MACHINE REASON`, where * is every machine. They are written below the table.
-- --settled: UNKNOWNs that a user settled, lines `MACHINE ID TRUE|FALSE REASON`, where * is every machine (settled.py).
+- --hardware none: the machines have no hardware of their own, as in containers. Without this option a verdict is UNKNOWN if it depends on
+  hardware that a list doesn't name.
+- --suppress: accepted advisories, lines `ID MACHINE REASON`; * is every machine. They are written below the table.
+- --settled: UNKNOWNs that a user settled, lines `MACHINE ID TRUE|FALSE REASON`; * is every machine (settled.py).
 - --kev, --epss: CISA's list of known exploited vulnerabilities, and EPSS (threats.py).
 
 What is written:
 
-- --all: the verdicts that are FALSE too, and below the table the advisories that aren't analysed.
+- --all: also the verdicts that are FALSE, and below the table the advisories that aren't analysed.
 - --strict: a verdict is FALSE if it would be UNKNOWN only because an item says less than an advisory asks for.
-- --format: table, json, csv, sarif, cyclonedx-vex or openvex (formats/ has how each writes a result). --json is --format json, of which
-  report.py makes a page. --time is the time at which the result was made.
+- --format: table, json, csv, sarif, cyclonedx-vex or openvex (formats/). --json is --format json, which report.py reads. --time is the time
+  at which the result was made.
 - --why: the items that make a verdict TRUE (`decidedBy`), in all forms except the table (deciding.py).
-- --fail-on: the status is 3 if a verdict fits one of these gates (gates.py, gating.py). --since is the kept result for the term `new`.
+- --fail-on: the status is 3 if a verdict fits one of these gates (gates.py, gating.py). --since is the earlier result for the term `new` of
+  a gate.
 
-cases.py chooses which statements are evaluated for which machine. cpe evaluates them in one run. If cpe can't take all of them at once, it
-evaluates them in portions, with the same verdicts (portions.py). In this case, and always with a store, advisories that can't concern any
-of the machines are FALSE without being evaluated (concern.py), unless --all asks for each of them.
+cases.py chooses which statements are evaluated for which machine. One run of cpe evaluates them. If there are more statements than cpe can
+take, it gets them in portions, with the same verdicts (portions.py). In this case, and always with a store, advisories that can't concern
+any of the machines are FALSE without being evaluated (concern.py). With --all they are evaluated too.
 
-A statement holds for a machine if it holds of the names of items and facts as written, or of those to which the dictionary leads them.
-calling.py says which names an item has in this way, and which it perhaps has. What is negated holds only if it holds in each of these
-ways.
+A statement holds for a machine if it holds by the written names of items and facts, or by the names to which the dictionary leads from
+these. The module calling.py says which names an item has in this way, and which names it may have. A negated test holds only if it holds by
+all these names.
 
-A component may have several names. A verdict is TRUE if one of them makes it so, and FALSE only if all do. negations.py has the rule for
-negated tests.
+A component may have several names. A verdict is TRUE if one name makes it TRUE, and FALSE only if all names make it FALSE. negations.py has
+the rule for negated tests.
 
-What a list doesn't say is UNKNOWN. A fact may mean an item that is known in part, since its name has a pattern. It may also mean an item
-that says less than the fact, such as a plugin without its platform. reasons.py writes what isn't said beside such a verdict. Verdicts that
-depend on an item that says less are counted apart, as `perhaps`. With --strict these verdicts are FALSE, as NIST IR 7696 has it, but still
-counted. If no version that an item may have is in a range, the range is FALSE for the item (decide.py).
+What a list doesn't say is UNKNOWN. A fact may match an item that is known in part, because the item's name has a pattern. A fact may also
+match an item that says less than the fact, such as a plugin without its platform. reasons.py writes the missing attributes beside such a
+verdict. Verdicts that depend on an item that says less are counted separately, as `perhaps`. With --strict these verdicts are FALSE, as
+NIST IR 7696 says, but still counted. If no version that an item may have is in a range, the range is FALSE for the item (decide.py).
 
-The status is 0 if every verdict is there and nothing was left out, and 1 if something was, which is reported. It is 2 if there is no
-result: then nothing was written except why. It is 3 if a verdict fits a gate, whether or not something was left out.
+The status is 0 if every verdict is written and nothing was left out. It is 1 if something was left out, which is reported. It is 2 if there
+is no result; then only the reason is written. It is 3 if a verdict fits a gate, even if something was left out.
 """
 from __future__ import annotations
 

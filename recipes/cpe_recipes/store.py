@@ -1,4 +1,4 @@
-"""A store of feeds: pages are read into it once, and a scan takes from it what concerns its machines.
+"""Keeps feeds in a store: each page is read once, and a scan takes from the store what concerns its machines.
 
     python3 store.py add --store FOLDER [--large] [--jobs NUMBER] [PAGES..]
     python3 store.py status --store FOLDER
@@ -7,22 +7,22 @@
     python3 store.py forget --store FOLDER FILES..
 
 - add: adds pages of NVD's API 2.0 or its feeds (products, advisories, matches), and CVE records of format 5, plain, packed or in archives.
-  If the folder isn't there, it is made. If a record is there several times, the one that was modified last counts. So pages of changes
-  replace older records, older pages change nothing, and a page that is there already is passed over. Each page is added whole or not at
-  all. If a run was stopped or killed, or the disk was full, run it again with the same pages. Until then each scan reports them as left
-  out. A scan also reports what could not be read, until a good page is added. Without pages, add finishes the work that a stopped run
-  left. --jobs is how many processes read pages while this one writes. If it is left out, this one does both.
-- status: writes how much is in the store, when something was last added, which pages of a feed are missing, which runs of add have not
-  ended, and what could not be read.
-- check: reads the whole store again. It compares what was derived of the pages with the pages, and the records of each page with a
-  checksum of those that were added.
-- changes: writes which verdicts differ from those of the scan before, by their feeds and lists alone, as changes.sh does, each with the
-  time of its scan. --since leaves out earlier ones. A scan with --all finds no changes.
-- forget: after this no scan reports these files, which could not be read or not be added to their end, and which you can't add again.
+  It makes the folder if needed. If there are several versions of a record, the version that was modified last counts. So pages of changes
+  replace older records, older pages change nothing, and a known page is ignored. Each page is added whole or not at all. If a run was
+  stopped or killed, or the disk was full, run add again with the same pages. Until then each scan reports these pages as left out. A scan
+  also reports what could not be read, until a good page is added. Without pages, add finishes the work of a stopped run. --jobs is the
+  number of further processes that read pages. Without it, one process reads and writes.
+- status: writes how much is in the store, and when something was last added. It lists missing pages, unfinished runs of add, and what could
+  not be read.
+- check: reads the whole store. It compares the derived tables with the records, and the records of each page with a checksum of the added
+  records.
+- changes: writes like changes.sh, for each scan, which verdicts differ from the scan before, with the time of the scan. It compares
+  verdicts by feeds and lists alone. --since leaves out earlier scans. A scan with --all finds no changes.
+- forget: ends the reports of these files. Use it for files that could not be read or added, and that you can't add again.
 
-`scan.py --store FOLDER` scans from it (kept.py, adding.py and stored.py say how). The status is 0 if all was added, or if nothing is
-missing or wrong. It is 1 if something was left out, is missing or wrong, which is reported. It is 2 if there is no store, or it can't be
-read or written.
+`scan.py --store FOLDER` scans from the store (kept.py, adding.py and stored.py say how). The status is 0 if all was added, or if nothing is
+missing or wrong. It is 1 if something was left out, is missing or wrong, which is reported. It is 2 if there is no store, or the store
+can't be read or written.
 """
 from __future__ import annotations
 

@@ -1,4 +1,4 @@
-"""Which items no entry of the dictionary has, and which packages have no name, or only perhaps have one.
+"""Lists the items without an entry in the dictionary, and the packages without a sure name.
 
     sh unlisted.sh RECORDS MACHINES [--names FILE]
     sh unlisted.sh --store FOLDER | --dictionary FILE.. | --records FILE.. --machines FILE | --lists FILE.. [--names FILE] [--partial] [--large]
@@ -13,9 +13,9 @@ scan.py. The recipe writes
 
 Put LINE into a table for --names to settle which product a package is, if only the dictionary names it (naming.py).
 
-The dictionary leads an item without an entry nowhere, so no advisory finds it that calls its product by another name. If entries of its
-product are deprecated and lead to other products, these are written after `now called`. Of a component with several names it is enough that
-one of them has an entry. An item under a removed name leads nowhere, so an advisory finds it only by this name. What can't be an item is
+An item without an entry has no chain. So an advisory that uses another name of the product doesn't find the item. If entries of its product
+are deprecated and lead to other products, these products are written after `now called`. A component with several names isn't listed if one
+of the names has an entry. An item under a removed name has no end, so an advisory finds it only by this name. What can't be an item is
 reported, and the status is 1.
 """
 from __future__ import annotations

@@ -1,4 +1,4 @@
-"""Why verdicts are so, as text for people, from the certificates that `cpe explain` writes: sh why.sh [--records FILE] [FILE].
+"""The reasons of verdicts as readable text, from the certificates of `cpe explain`: sh why.sh [--records FILE] [FILE].
 
     mysql is TRUE
       AND is TRUE, by all 2 of:
@@ -6,9 +6,9 @@
         ..
 
 --records names the records that were explained. They have what a certificate doesn't have: the operator of a test, the fact that covers no
-item, the check, and the kinds of deprecations. `cpe` reads them. Lines that are no certificates, such as the answers before them, are
-passed over. Certificates are not tested here; `cpe check` does that. The status is 1 if a line has the word `proof` and isn't of the form
-of a certificate, and 2 if there is no certificate at all.
+item, the check, and the kinds of deprecations. Lines that are no certificates, such as the answers before them, are ignored. This recipe
+doesn't test certificates; `cpe check` does that. The status is 1 if a line with the word `proof` isn't a certificate, and 2 if there is no
+certificate at all.
 """
 from __future__ import annotations
 
