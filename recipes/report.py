@@ -1,5 +1,5 @@
 #!/usr/bin/env python3
-"""One page to look at, of what scan.py --json wrote: cpe_recipes/report.py says how.
+"""Makes a page of HTML from the output of scan.py --json: the code is cpe_recipes/report.py.
 
     python3 report.py [--title TEXT] [FILE] > page.html
 """

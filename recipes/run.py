@@ -1,7 +1,7 @@
 #!/usr/bin/env python3
-"""Runs a recipe of the package beside this file: python3 run.py NAME WORDS.. The short recipes, NAME.sh, do so.
+"""Runs a recipe of the package beside this file: python3 run.py NAME WORDS.. The scripts NAME.sh call it.
 
-(They give -B: where a disk is full, this Python writes compiled files that are torn, and reads them again.)
+(They pass -B to Python. Without it, Python writes broken compiled files on a full disk, and reads them again later.)
 """
 import importlib
 import sys

@@ -1,5 +1,5 @@
 #!/usr/bin/env python3
-"""A store of feeds, from which scan.py takes what concerns its machines: cpe_recipes/store.py says how.
+"""Keeps feeds in a store, which scan.py can read: the code is cpe_recipes/store.py.
 
     python3 store.py add --store FOLDER PAGES.. | status --store FOLDER | check --store FOLDER
 """

@@ -1,4 +1,4 @@
-"""Evaluates an inventory of many machines on all processors of this one, with GNU parallel.
+"""Evaluates the inventories of many machines on all processors of this computer, with GNU parallel.
 
     sh parallel.sh RECORDS MACHINES [--strict] [--hardware none] [--ranges FILE [--letters FILE] [--matches FILE..] | --decided FILE]
 
@@ -14,7 +14,7 @@
 
 A fleet decides like `scan.py`. In every mode, all statements are asked by the names of the items, and by the names to which these lead.
 What a list doesn't say is UNKNOWN. With --strict it is FALSE if an item says less than an advisory asks for. Remarks name the items that
-have no entry, or only a removed one.
+have no entry, or only a removed entry.
 
 A fleet writes only verdicts, so it has no gates and no other forms. `affected.sh` and `report.py` take --kev and --epss with the output of
 a fleet. Only `scan.py` has --fail-on, --since and --format.

@@ -1,12 +1,12 @@
 #!/usr/bin/python3
-"""Evaluates an inventory of many machines on the workers of a Dask cluster.
+"""Evaluates the inventories of many machines on the workers of a Dask cluster.
 
     python3 dask_fleet.py RECORDS MACHINES [OPTION..] [--workers N] [--block N]     workers on this machine
     python3 dask_fleet.py RECORDS MACHINES [OPTION..] --scheduler tcp://..          those of a cluster elsewhere
 
 The input, the other options, the output and the status are those of parallel.sh. The records are sent to the workers. `cpe` must be on the
 path of each worker (or be given with --cpe). Each worker reads the records once, and then takes machine after machine. If a worker dies,
-another one does its machines.
+another worker does its machines.
 """
 from __future__ import annotations
 

@@ -1,11 +1,13 @@
 //! Certificates: why a statement has its verdict (NIST IR 7698), in a form that is tested by the rows alone.
 //!
-//! A certificate goes down the test of a statement, level by level: where children decide a logical test, it has theirs; where a fact
-//! is TRUE, it names an item that the fact covers, and how deprecations lead to what is compared; where a fact is UNKNOWN, it names in the
-//! same way an item that the fact may cover; where a fact is FALSE, or of a check, it says so, and the rows tell whether it is.
-//! [`check_proof`] tests one over any [`PlainRows`], and [`law::good_proofs_are_right`] says that the truth of a good one is the verdict.
+//! A certificate follows the test of its statement, level by level. For a logical test that some children decide, it
+//! has the certificates of these children. For a fact that is TRUE, it names an item that the fact covers, and the
+//! deprecations that lead to the compared names. For a fact that is UNKNOWN, it names in the same way an item that the
+//! fact may cover. For a fact that is FALSE, and for a check, it has only the truth, and the rows show whether this is
+//! right. [`check_proof`] tests a certificate over any [`PlainRows`]. By [`law::good_proofs_are_right`], the truth of a
+//! good certificate is the verdict.
 //!
-//! What finds a certificate stands above (`cpe_explain`), and is trusted by none who tests one.
+//! `cpe_explain` finds certificates. Nobody who tests a certificate has to trust that crate.
 #![tactic(auto)]
 
 mod check;

@@ -1,4 +1,4 @@
-//! The program `cpe`: lines of standard input, and what they say to standard output.
+//! The program `cpe`: it reads lines from standard input, and writes the answers to standard output.
 #![tactic(auto)]
 
 ghost use Rattle.std.specs.Prelude.{◌≡◌, ◌<◌};

@@ -1,7 +1,8 @@
-//! The library for C, as it is proved: names in other forms, how two names relate, and sessions that are given their lines one by
-//! one. What C calls are the functions of `library/cpe.c`, which test what a caller may get wrong and then call these.
+//! The library for C, its proved part: calls on one name, calls on two names, and sessions that get their lines one by
+//! one. C programs call the functions of `library/cpe.c`. These test for mistakes of a caller, and then call the
+//! functions here.
 //!
-//! What the calls come to is said below, in `talks`. Here they are exported.
+//! The crate `talks` defines what the calls do. This crate exports them.
 #![tactic(auto)]
 
 mod forms;

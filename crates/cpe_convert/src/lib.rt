@@ -1,4 +1,4 @@
-//! The command that writes records anew, in the second format: one form of each, line by line.
+//! The command `convert`: it writes each record in one form of the second format, line by line.
 #![tactic(auto)]
 
 mod convert;

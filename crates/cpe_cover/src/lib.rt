@@ -1,5 +1,6 @@
-//! A list of names reduced to those that no other of them covers ([`Names`]), and the command that does it ([`cover`]): each
-//! line is a name, and at the end it writes the names that no other covers.
+//! A list of names, reduced to the names that no other name of the list covers ([`Names`]), and the command for this
+//! ([`cover`]). Each line of its input is a name. At the end of the input the command writes the names that no other
+//! name covers.
 #![tactic(auto)]
 
 mod fault;

@@ -1,5 +1,5 @@
-//! Lines of records that are made by number, as many as are wanted and the same on any machine: a dictionary, an inventory,
-//! statements over both, and questions. [`drill`] reads them as records, one after the other, and tells what they came to.
+//! Records that are made by number, the same on any machine: a dictionary, an inventory, statements over both, and
+//! questions. [`drill`] reads these records one after the other, and counts the results.
 #![tactic(auto)]
 
 mod drilled;

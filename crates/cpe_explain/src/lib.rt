@@ -1,9 +1,10 @@
-//! Finding certificates: of each statement the one that shows its verdict (NIST IR 7698), where more than one may be good.
+//! Finds certificates: for each statement one that shows its verdict (NIST IR 7698), although several may be good.
 //!
-//! [`explain`] makes it over any [`ExplainedRows`], which are rows by which certificates are tested (`checked_certificates`), and that also
-//! find the first item of a fact and the ends of a name. Of the children of a logical test it takes the first that decides, or else all;
-//! of the items that show a fact the first, and of the ends that meet the first of the item's, then of the fact's.
-//! [`law::certificates_are_good`] says that what is made has the verdict, and in lawful rows is good.
+//! [`explain`] makes the certificate over any [`ExplainedRows`]. These are rows by which certificates are tested
+//! (`checked_certificates`), and which can also find the first item of a fact and the ends of a name. Of the children
+//! of a logical test, [`explain`] takes the first that decides, or all if no child decides. It takes the first item
+//! that shows a fact. It takes the first end of this item that fits, and then the first end of the fact. By
+//! [`law::certificates_are_good`], the certificate has the verdict, and in lawful rows it is good.
 #![tactic(auto)]
 
 mod certificate;

@@ -1,7 +1,7 @@
-//! Advisories over the items of an inventory: which items each affects, and which advisories affect a name.
+//! Advisories and items: which items an advisory affects, and which advisories affect a name.
 //!
-//! An [`Advisory`] names a product and a range of its versions. [`Advisories`] keeps them and the items, from edit to edit.
-//! The records of edits and questions are lines of JSON, and [`advise`] is the command that answers them line by line.
+//! An [`Advisory`] names a product and a range of its versions. [`Advisories`] keeps advisories and items from edit to
+//! edit. Edits and questions are records, which are lines of JSON. The command [`advise`] answers them line by line.
 #![tactic(auto)]
 
 mod advised;

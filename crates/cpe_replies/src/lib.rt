@@ -1,5 +1,5 @@
-//! What records write: the answers to queries as lines, the verdicts that an edit changes, certificates and what is
-//! said of them, and the reasons why a line is refused.
+//! Answers as lines: answers to questions, the verdicts that an edit changes, certificates and the results of their
+//! tests, and the reasons of refusals.
 #![tactic(auto)]
 
 mod chain;

@@ -1,17 +1,19 @@
-//! A graph of deprecations (NIST IR 7697): which nodes replace a node, and at which active ones it ends.
+//! A graph of deprecations (NIST IR 7697): which nodes replace a node, and which active nodes are its ends.
 //!
-//! Nodes are numbers from 0 without gaps. A node is active, or it is inactive and has a list of successors, which may be
-//! empty. A path is a list of nodes in which each is a successor of the one before. The chain of a node is what paths
-//! lead to from it, itself included; its ends are the active nodes of its chain; its sources are the nodes whose chain
-//! has it. There is never a cycle, and no node has more than [`MOST_ENDS`] ends: [`DeprecationGraph::check`] decides whether
-//! a change keeps this, and [`DeprecationGraph::set_edges`] makes a change that is allowed, without memory.
+//! Nodes are numbers from 0 without gaps. A node is active, or it is inactive and has a list of successors, which may
+//! be empty. On a path, each node after the first is a successor of the node before it. The chain of a node has the
+//! node itself and all nodes to which paths lead from it. The ends of a node are the active nodes of its chain. The
+//! sources of a node are the nodes whose chain has it. There is never a cycle, and no node has more than [`MOST_ENDS`]
+//! ends. [`DeprecationGraph::check`] decides whether a change keeps these rules. [`DeprecationGraph::set_edges`] makes
+//! an allowed change without taking memory.
 //!
-//! Edges are kept both ways. A search costs what it finds, and not the number of nodes. Nodes are also kept in groups that no
-//! edge leaves, each with the number of its active nodes. If these are few, a change needs no search.
+//! Each edge is kept in both directions. So the cost of a search depends on what it finds, and not on the number of
+//! nodes. Nodes are also kept in groups that no edge leaves, each with the number of its active nodes. If this number
+//! is small, a change needs no search.
 //!
-//! [`fill`] makes a graph of given nodes, whose edges may be in any order. It gives a node its successors after these have
-//! theirs. So each graph in between is lawful if the last one is, and a graph that is refused shows that the given nodes make
-//! none.
+//! [`fill`] makes a graph of given nodes, whose edges may be in any order. It gives a node its successors only after
+//! these have their own successors. So if the last graph is lawful, each graph before it is lawful too. And if a graph
+//! is refused, the given nodes make no lawful graph.
 //!
 //! Laws are functions without effect: [`chains_are_paths`](law::chains_are_paths),
 //! [`changes_are_local`](law::changes_are_local), [`additions_are_local`](law::additions_are_local).

@@ -1,8 +1,8 @@
-//! The snapshot of an engine, both ways: what it keeps as bytes, and an engine that keeps what bytes say.
+//! The snapshot of an engine, both ways: the rows of an engine as bytes, and an engine from these bytes.
 //!
-//! It is written row by row, in time by its length ([`write_snapshot`]). It is read row by row too ([`read_snapshot`]): the edit that puts
-//! a row is made before the next is read. So no rows stand beside the engine, its own are lawful as those of any engine, and what isn't
-//! the snapshot of lawful rows is refused.
+//! [`write_snapshot`] writes row by row, in time proportional to the length of the snapshot. [`read_snapshot`] reads
+//! row by row too: it adds each row to the engine before it reads the next. So there is no second copy of the rows, and
+//! the engine's rows are always lawful. Bytes that aren't the snapshot of lawful rows are refused.
 #![tactic(auto)]
 
 mod boxed;

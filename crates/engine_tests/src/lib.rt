@@ -1,4 +1,5 @@
-//! A test of engines through their public calls, of what no contract says: one goes on after memory ran out.
+//! A test of engines through their public calls, of a property that no contract states: an engine can be used after
+//! memory ran out.
 #![tactic(auto)]
 
 #[cfg(test)]

@@ -1,15 +1,17 @@
-//! Names by number, and indexes of them by product, so that a search looks at few of them.
+//! Names by number, and indexes of names by product, so that a search compares few names.
 //!
-//! A [`NameTable`] keeps different names in lower case, each with a count of its holds and the number of its product. A
-//! [`NameIndex`] holds some of its numbers, by product. [`NameIndex::near`] walks over those whose products are near a name's,
-//! and [`NameIndex::covered_by`] gives those that a name covers, with one look at each name whose product its own covers.
+//! A [`NameTable`] keeps different names in lower case. For each name it counts the holds, and keeps the number of its
+//! product. A [`NameIndex`] has some numbers of a table, by product. [`NameIndex::near`] visits the numbers whose
+//! products are near a given name's product. [`NameIndex::covered_by`] returns the numbers whose names a given name
+//! covers. It takes one look at each name whose product the given name's product covers.
 //!
-//! A look is a call of [`NameTable::look`], which counts a step: a name that a search compares is looked at so. To find a name by its
-//! hash, to look a product up, to compare two products, and to tell the name of a number that is known ([`NameTable::name`],
-//! [`NameTable::get`]) is no look.
+//! A look is a call of [`NameTable::look`], which counts a step. A search gets each name that it compares by a look.
+//! Four things are not counted as looks: finding a name by its hash, finding a product, comparing two products, and
+//! reading the name of a known number ([`NameTable::name`], [`NameTable::get`]).
 //!
-//! An index fits a table where each number that it holds is live there, with the product number that is kept for it.
-//! [`fitting_laws`] says which changes leave it so: a number is let go before its name is released for the last time.
+//! An index fits a table if each number of the index is live in the table, with the product number that the index has
+//! for it. [`fitting_laws`] says which changes keep this: a number is removed from the index before its name is
+//! released for the last time.
 #![tactic(auto)]
 
 mod index;

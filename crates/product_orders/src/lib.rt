@@ -1,14 +1,16 @@
-//! Products of names by number, kept in two orders, so that those near a product are found without going over the rest.
+//! Products of names by number, kept in two orders, so that a search finds the products near to a given one without
+//! visiting all.
 //!
-//! Each order lists all products by their shapes (ANY, NA, a plain text, a text with a trail alone, with a lead alone, with
-//! both) and then by their bodies, one from the front and one from the back. So the products of a shape whose bodies begin or
-//! end with a text, or are it, stand side by side, and two binary searches find them. What is near is defined in
-//! `cpe_relation`. The orders lie in blocks (`number_blocks`), so that a product that comes or goes
-//! moves few numbers, however many there are.
+//! Each order groups the products by their shape: ANY, NA, a plain text, a text with only a trail, with only a lead, or
+//! with both. Within a shape the products are sorted by their bodies: in one order from the front, in the other from
+//! the back. So all products of a shape whose bodies begin or end with a given text are neighbours, and two binary
+//! searches find them. `cpe_relation` defines which products are near. The orders are kept in blocks (`number_blocks`),
+//! so adding or removing a product moves few numbers.
 //!
-//! [`Products::near`] gives each near product once, in no order that is promised: its contract says that the answer and the
-//! filter of all products have the same elements. [`same_elements_rearrange`] is the law that this is so exactly where one is
-//! the other in another order. [`Products::is_covered`] tells of each whether a product covers it.
+//! [`Products::near`] returns each near product once, in any order: by its contract, the answer and the filter of all
+//! products have the same elements. By the law [`same_elements_rearrange`], two lists have the same elements exactly if
+//! one is a rearrangement of the other. [`Products::is_covered`] says of each near product whether a given product
+//! covers it.
 #![tactic(auto)]
 
 mod covered;

@@ -1,16 +1,17 @@
 //! Certificates as lines of JSON (RFC 8259), both ways.
 //!
-//! The line of a certificate is `{"do":"proof","id":ID,"why":W}`, without spaces and with the members of each object sorted by their
-//! keys. W is an object that goes down the test of a statement (NIST IR 7698), and is told by its members:
+//! The line of a certificate is `{"do":"proof","id":ID,"why":W}`. It has no spaces, and the members of each object are
+//! sorted by their keys. W follows the test of a statement (NIST IR 7698) from the top down. It is an object with the
+//! members of one of three cases:
 //!
-//! | Members | Of |
+//! | Members | Case |
 //! |---|---|
-//! | `of`, `truth` | A logical test. `of` is an array with what is said of each child in its place: another W, or `null` where nothing is. |
-//! | `fact`, `item`, `truth` | A fact reference that has its truth by an item. Both are arrays of names, one at least. |
-//! | `truth` | A fact reference or a check reference that has its truth by no item. |
+//! | `of`, `truth` | A logical test. `of` is an array with a W, or `null`, for each child. |
+//! | `fact`, `item`, `truth` | A fact that is TRUE or UNKNOWN because of an item. `fact` and `item` are arrays of one or more names. |
+//! | `truth` | A fact that is FALSE, or a check. |
 //!
-//! `truth` is `TRUE`, `FALSE`, `ERROR` or `UNKNOWN`. Names are URIs or formatted strings, and are put in lower case; they are written as
-//! formatted strings. A W nests at most 32 logical tests.
+//! `truth` is `TRUE`, `FALSE`, `ERROR` or `UNKNOWN`. Names are URIs or formatted strings. They are put in lower case,
+//! and written as formatted strings. A W nests at most 32 logical tests.
 #![tactic(auto)]
 
 mod fault;

@@ -1,5 +1,6 @@
-//! The commands whose lines are records: a record edits the rows that an engine keeps, or asks about them ([`RecordCommand`]). Beside these
-//! stands the table of verdicts, which is told of rows that come from elsewhere, too ([`pour_verdicts`]).
+//! The commands whose lines are records: a record edits the rows that an engine keeps, or asks about them
+//! ([`RecordCommand`]). The table of verdicts ([`pour_verdicts`]) is also written of rows that were loaded from a
+//! snapshot.
 #![tactic(auto)]
 
 mod changes;

@@ -1,15 +1,17 @@
-//! What calls of the library for C come to: calls of names, and sessions that are given their lines one by one.
+//! The calls of the library for C, in Rust: calls on names, and sessions that get their lines one by one.
 //!
-//! A name is given another form ([`give_form`]), and two names are related ([`relate`], [`tell_covers`]). Texts are bytes, and what is
-//! written goes into room that the caller gives ([`give`]). What a call comes to is one of a few cases ([`Told`]), of which C gets a code
-//! and a number ([`Answer`]). Such a call keeps nothing.
+//! A call on one name writes it in another form ([`give_form`]). A call on two names relates them ([`relate`],
+//! [`tell_covers`]). Texts are bytes, and a result is written into a buffer of the caller ([`give`]). The result of a
+//! call is one of a few cases ([`Told`]); C gets a code and a number for it ([`Answer`]). A call on names keeps
+//! nothing.
 //!
-//! A session ([`Talk`]) is begun for the words of a command that answers lines ([`begin`]), and answers each line as a run of this command
-//! does ([`say`]), and what stands at the end ([`end`]). It keeps who speaks ([`Speaking`]) and how far it has come, but no input: whoever
-//! holds it hands in a line, and room for the answer. An answer that has no room is given again ([`repeat`]).
+//! A session ([`Talk`]) begins with the words of a command that answers lines ([`begin`]). It answers each line as a
+//! run of this command does ([`say`]), and then writes the output of the end ([`end`]). It keeps the state of the
+//! command ([`Speaking`]) and the number of lines so far, but no input. The caller passes a line, and a buffer for the
+//! answer. If an answer doesn't fit into the buffer, the session can write it again ([`repeat`]).
 //!
-//! All answers, one after the other, are what a run writes for the lines ([`law::joined_answers`]). Between its calls C keeps a session as
-//! the pointer of its box ([`KeptTalk`]); the calls themselves are above (`cpe_c`).
+//! All answers, one after the other, are what a run writes for the lines ([`law::joined_answers`]). Between its calls C
+//! keeps a session as the pointer of its box ([`KeptTalk`]). The crate `cpe_c` exports the calls.
 #![tactic(auto)]
 
 mod beginning;

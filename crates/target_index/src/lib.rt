@@ -1,10 +1,12 @@
-//! The numbers of targets by product, some of which are known only in part.
+//! An index of targets by product. A target is the name of an item (or of an end of an item), by its number. Some
+//! targets are known only in part.
 //!
-//! A target is open where its name has a special. No name covers it, but a name may. A [`TargetIndex`] holds targets of both kinds.
-//! Those whose product has no special lie in an index by product; those whose product has one stand in a list, since each product
-//! meets them, and whoever asks goes over all of these. How many targets a name covers, and how many it may cover, is counted
-//! ([`TargetIndex::count`]), or the two are told apart and listed ([`TargetIndex::met`]). Targets fit the table of their names still
-//! where others hold and release names of it: [`targets_stay`](law::targets_stay).
+//! A target is open if its name has a special. No name covers an open target, but a name may cover it. A
+//! [`TargetIndex`] has targets of both kinds. Targets whose product has no special are in an index by product. Targets
+//! whose product has a special are in a list. Every search visits the whole list, because each product meets these
+//! targets. [`TargetIndex::count`] counts the targets that a name covers, and the targets that it may cover.
+//! [`TargetIndex::met`] lists both. The targets still fit their table of names if others hold and release names of the
+//! table ([`targets_stay`](law::targets_stay)).
 #![tactic(auto)]
 
 ghost use Rattle.std.specs.Prelude.{◌≡◌, ℕ, ◌<◌, ◌≤◌, filter, length, Some, IfOk, OnOk, count_by};
