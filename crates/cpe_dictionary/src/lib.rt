@@ -1,16 +1,20 @@
-//! A dictionary of products (NIST IR 7697): entries by their names, and where their deprecations lead.
+//! A dictionary of products (NIST IR 7697): entries by their names, and their deprecations.
 //!
-//! A [`KeptDictionary`] keeps numbers of its entries' names, in a table of names that others use, too; beside the table it is a
-//! [`Dictionary`] ([`KeptDictionary::with`]), which has all that is asked. Entries are kept in the order in which they came, by
-//! [`GrowingEntries`](entries_in_order::GrowingEntries), and are found by the hashes of their names: what is added, looked up or shown
-//! costs the same whatever their number, but for the place of a product that is new. A change of a deprecation is planned first: that tells
-//! its fault or that it is allowed, and leaves all as it is. Of a plan it may be asked which names lead to its entry, and which ends names
-//! would have once it is made. Then it is made, and is refused only where memory runs out. A plan costs as much as the entries that lead to
-//! the changed one and those to which that leads, and a chain as much as it has entries. A search looks at the entries whose product that
-//! of the asked name covers, and at no other: it counts a step for each look.
+//! A [`KeptDictionary`] keeps the numbers of its entries' names in a shared table of names. Together with the table it
+//! is a [`Dictionary`] ([`KeptDictionary::with`]), which answers all questions.
+//! [`GrowingEntries`](entries_in_order::GrowingEntries) keeps the entries in the order in which they were added, and
+//! finds them by the hashes of their names. Adding, finding or showing an entry costs the same for any number of
+//! entries, except that a new product has to be put into its place.
 //!
-//! Deprecations are kept a second time by numbers: node k of a graph is entry k. The laws of [`chains_by_number`] and those beside it say
-//! that both have one notion of a path, what a change of one is to the other, and when the graph may be asked for it.
+//! A change of a deprecation is planned first. Planning decides whether the change is allowed, or finds its fault. It
+//! changes nothing. A plan says which names lead to its entry, and which ends names would have after the change. Then
+//! all memory for the change is taken, and the change is made; it can't fail. The cost of a plan grows with the number of entries that
+//! lead to the changed entry or to which it leads. The cost of a chain grows with the number of its entries. A search
+//! looks only at entries whose product the given name's product covers. It counts a step for each look.
+//!
+//! Deprecations are kept a second time by numbers: node k of a graph is entry k. By the laws of [`chains_by_number`]
+//! and those beside it, entries and graph have the same paths, and change in the same way. The laws also say when the
+//! graph may be asked.
 #![tactic(auto)]
 
 mod adding;

@@ -1,7 +1,7 @@
-//! Formatted strings, the binding of well-formed names to texts of eleven components (NIST IR 7695, 6.2).
+//! Formatted strings: the binding of names to texts of eleven components (NIST IR 7695, 6.2).
 //!
-//! A text is scanned once, from the left: that takes no memory, tells whether it is a formatted string,
-//! and finds where its components lie. From there the name is made, or its text is written at once.
+//! A text is scanned once, from the left. The scan takes no memory. It decides whether the text is a formatted string,
+//! and finds its components. From these the name is made, or another form of the text is written.
 #![tactic(auto)]
 
 ghost use Rattle.std.specs.Prelude.{◌≡◌, ℕ, List, ◌+◌, ◌*◌, ◌≤◌, length, Ok, Err, Some, None, IfOk, IfErr, MatchResult};

@@ -1,6 +1,7 @@
-//! What the bindings of names share: where a text leaves a grammar, how scanners are put together, and scanners of given bytes.
+//! What the bindings of names share: the place where a text stops fitting a grammar, the composition of scanners, and
+//! scanners of given bytes.
 //!
-//! The definitions serve the clauses of the bindings, and the lemmas their proofs.
+//! The definitions are for contracts of the bindings, and the lemmas for the proofs of these contracts.
 #![tactic(auto)]
 
 mod scan;

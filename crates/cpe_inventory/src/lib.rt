@@ -1,8 +1,11 @@
-//! What an inventory keeps beside a dictionary and beside statements: its items, and the results of checks.
+//! The parts of an inventory beside its statements: its items, and the results of checks.
 //!
-//! Each keeps its rows in the order in which they came, and finds them by their hashes: the cost of putting and of finding a
-//! row is the same whatever the number of rows, and that of one that goes nearly so, in the mean. Results have rising tickets, so that
-//! none is renumbered where another goes. Items are numbers of a table of names that others use, too: [`ItemSlots`] is a view of both.
+//! Each list keeps its rows in the order in which they were added, and finds them by their hashes. Adding and finding a
+//! row costs the same for any number of rows, and so, on average, does removing one. Results have rising tickets, so no
+//! result is renumbered if another is removed. Items are numbers of a shared table of names. [`ItemSlots`] is a view of
+//! both, the numbers and the table.
+//!
+//! A result is set in two stages: [`Checks::reserve`] takes all memory, and [`Checks::set`] cannot fail.
 #![tactic(auto)]
 
 mod checks;

@@ -1,16 +1,18 @@
-//! Members of records: the forms that a value may have at a member of a JSON object, and the fault where it has another.
+//! Members of records: the forms that a value may have at a member of a JSON object, and the fault if it has another
+//! form.
 //!
-//! A record is a JSON object that edits a dictionary or an inventory, or asks about them. Here stand the members that several
-//! kinds of records share: their format, texts, flags, dates, words of a list, names, successors and provenance. Names are read as
-//! URIs or formatted strings, in the second format also as objects of their attributes, and are put in lower case.
+//! A record is a JSON object that edits a dictionary or an inventory, or asks about them. This crate reads the members
+//! that several kinds of records share: format, texts, flags, dates, words of a list, names, successors and provenance.
+//! Names are read as URIs or formatted strings, and in the second format also as objects of their attributes. They are
+//! put in lower case.
 //!
-//! Each reader takes the whole object and answers what stands at its member, or the fault of that member. What may be absent
-//! has a default; a member that is there has its form or is refused, `null` too.
+//! Each reader takes the whole object. It returns the value of its member, or the fault of that member. A member that
+//! may be missing has a default. If the member is there, it has the right form or is refused, also if it is `null`.
 //!
-//! The test of an applicability statement (NIST IR 7698) is an object that is told by its members. With `op` it is a logical test: it
-//! joins what stands in the array `of`, at least one thing, by `AND` or by `OR`, and swaps the outcome where `negate` is there and
-//! `true`. Without `op`, one with `fact` refers to a fact, by a name. Without either, one with `check` refers to a check, by the texts
-//! `system`, `href` and `id` in an object.
+//! The test of a statement (NIST IR 7698) is an object. Its members show which kind of test it is. With `op` it is a
+//! logical test. It joins the children in the array `of`, one or more, by `AND` or by `OR`. If `negate` is `true`, it
+//! swaps TRUE and FALSE. Without `op`, an object with `fact` is a fact, with a name. Without either, an object with
+//! `check` is a check, with the texts `system`, `href` and `id` in an object.
 #![tactic(auto)]
 
 mod draft;

@@ -1,5 +1,5 @@
-//! Well-formed names (NIST IR 7695, 5): eleven values, of which the part and the language have shapes of their own,
-//! and the text of a name.
+//! Well-formed names (NIST IR 7695, 5), and their text. A name has eleven values. The part and the language have
+//! special shapes.
 #![tactic(auto)]
 
 mod attribute;

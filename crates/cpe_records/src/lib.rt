@@ -1,13 +1,13 @@
 //! Records: lines of JSON that edit a dictionary and an inventory, or ask about them.
 //!
-//! A record is a JSON object. Its member `do` says what it asks for, and each kind has its own members, which are tested in one
-//! order: the first that fails is the fault. A member that the kind does not know is ignored, and of members of one name the
-//! last counts. A member that may be absent has a default. If it is there, it has its form or is refused, `null` too. Names
-//! are URIs or formatted strings, and are put in lower case.
+//! A record is a JSON object. Its member `do` is its kind, and each kind has its own members. These are tested in a
+//! fixed order; the first bad member is the fault. A member that the kind does not have is ignored. If a member is
+//! there twice, the last one counts. A member that may be missing has a default. If it is there, it has the right form
+//! or is refused, also if it is `null`. Names are URIs or formatted strings, and are put in lower case.
 //!
-//! A record whose member `v` is the text `2` is of the second format, and one without `v` of the first. In the second a name may
-//! be an object too: its members are attributes, each with the component that its value has in a formatted string, and an absent
-//! one is ANY. `v` is tested right after `do`.
+//! A record whose member `v` is the text `2` has the second format, and a record without `v` the first. In the second
+//! format a name may be an object too. Its members are attributes, each a component as in a formatted string; a missing
+//! attribute is ANY. `v` is tested right after `do`.
 //!
 //! | `do` | Members in order |
 //! |---|---|
@@ -23,11 +23,11 @@
 //! | `search` | `name`; `active`, else `false` |
 //! | `verdict` | `id` |
 //!
-//! The `id` of a statement has 1 to 256 visible characters of ASCII; `system`, `href` and `id` of a check are any texts. The form
-//! of a statement's `test` is described at `cpe_members`, and the written form of a record at `written_records`.
+//! The `id` of a statement has 1 to 256 visible characters of ASCII; `system`, `href` and `id` of a check are any
+//! texts. `cpe_members` describes the form of a statement's `test`, and `written_records` the written form of a record.
 //!
-//! [`json_law`] has laws of the kit's JSON (RFC 8259): the strings of a value that was read of UTF-8 are UTF-8, and so is what
-//! is printed of such strings.
+//! [`json_law`] has laws of the kit's JSON (RFC 8259). The strings of a value that was read from UTF-8 are UTF-8. What
+//! is printed of such strings is UTF-8 too.
 #![tactic(auto)]
 
 pub mod json_law;

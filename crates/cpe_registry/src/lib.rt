@@ -1,13 +1,17 @@
-//! The names that are known, and who holds them: one table of names, and the entries of a dictionary and the items of an inventory
-//! (NIST IR 7697, 7698), which keep numbers of it.
+//! The known names, and who holds them: one table of names, the entries of a dictionary (NIST IR 7697), and the items
+//! of an inventory (NIST IR 7698). Entries and items are numbers of this table.
 //!
-//! A [`Registry`] holds a name once for each entry and each item that it is; others, an edit on its way or a statement, may hold names
-//! besides. A name is moved in and found by its hash once ([`Registry::hold`], [`Registry::find`]); what comes later goes by its
-//! number, where a name leads and what leads to it too ([`Registry::ends_of`], [`Registry::sources_of`]). That the table has these
-//! names and no other is one fact, `AreHeld`, which each call says how it changes.
+//! A [`Registry`] holds a name once for each entry and each item that has it. An edit in progress, or a statement, may
+//! hold further names. A name is moved into the table or found by its hash once ([`Registry::hold`],
+//! [`Registry::find`]). After that its number is used, also for the ends of a name and for the names that lead to it
+//! ([`Registry::ends_of`], [`Registry::sources_of`]). One fact, `AreHeld`, says that the table has exactly the held
+//! names. Each call says how it changes this fact.
 //!
-//! Of the items it keeps the order alone, and no index by product. Items that were found elsewhere it puts in order
-//! ([`Registry::items_in_order`], [`Registry::first_item_of`]).
+//! A registry keeps the order of the items, and no index of them by product. It puts items that others found into this
+//! order ([`Registry::items_in_order`], [`Registry::first_item_of`]).
+//!
+//! All memory for an entry, an item or a changed deprecation is taken first ([`Registry::reserve_entry`],
+//! [`Registry::reserve_item`], [`Registry::reserve_change`]). Then the change is made, and can't fail.
 #![tactic(auto)]
 
 mod ends;

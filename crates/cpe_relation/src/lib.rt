@@ -1,35 +1,36 @@
-//! The relation of two names (NIST IR 7696): of each attribute, of the names as a whole, and whether one name covers the
-//! other. Letters are compared in lower case. Each call answers for any two values or names. Only [`deciding_order`] takes
-//! memory.
+//! The relation of two names (NIST IR 7696): of each attribute, of the names as a whole, and whether one name covers
+//! the other. Letters are compared in lower case. Each call answers for any two values or names. Only
+//! [`deciding_order`] takes memory.
 //!
-//! [`compare_values`] is the report's table. A source that is a pattern has `*` or `?` before or after its body. It matches
-//! a plain text that consists of characters which the lead allows, the body, and characters which the trail allows. `*`
-//! allows any number of characters, `??` at most two, and nothing allows none. So `sp??` matches `sp`, `sp1` and `sp12`.
-//! Every such split is found: `*ab` matches `abab`.
+//! [`compare_values`] is the report's table. A source that is a pattern has `*` or `?` before or after its body. It
+//! matches a plain text that consists of characters that the lead allows, the body, and characters that the trail
+//! allows. `*` allows any number of characters, `??` at most two, and an empty lead or trail none. So `sp??` matches
+//! `sp`, `sp1` and `sp12`. Each way to split the text is tried: `*ab` matches `abab`.
 //!
-//! [`compare_borrowed`] does the same for values whose text lies elsewhere, as in a line, and [`compare_lent`] for names of
-//! such values. [`relation_of_names`] makes the relation of two names of the relations of their attributes ([`Relations`]).
+//! [`compare_borrowed`] does the same for values whose text is stored elsewhere, such as in a line, and
+//! [`compare_lent`] for names of such values. [`relation_of_names`] computes the relation of two names from the
+//! relations of their attributes ([`Relations`]).
 //!
 //! If a name is compared with many targets, [`covers_in_order`] compares the deciding attributes first.
 //! [`deciding_order`] finds their order once.
 //!
-//! [`near`] compares products alone, and more coarsely: a name covers no name to whose product its own is not near. The
-//! products near to one are found by the prefixes and the ends of their texts.
+//! [`near`] is a coarser relation of products: a name covers no name to whose product its own product is not near. The
+//! products near to a given one are found by the prefixes and the ends of their texts.
 //!
-//! A target whose attributes are known only in part has specials. No name covers it, but a name may cover it ([`maybe`]):
-//! no attribute is DISJOINT, and one is UNDEFINED.
+//! A target whose attributes are known only in part has specials. No name covers such a target, but a name may cover it
+//! ([`maybe`]): no attribute is DISJOINT, and one is UNDEFINED.
 //!
 //! Some laws are functions without effect: [`one_relation`](law::one_relation), [`cover_laws`](law::cover_laws),
 //! [`relation_laws`](law::relation_laws) and [`maybe_laws`](law::maybe_laws). Two things do not hold:
-//! - [`covers`] is not reflexive for names with specials. `8.*` against itself is UNDEFINED, as each attribute is whose
-//!   target has a special.
-//! - With specials, a relation does not give the relation of the swapped names. `8.*` to `8.0` is SUPERSET, but `8.0` to
-//!   `8.*` UNDEFINED. `sp??` to `sp123` is DISJOINT, and swapped UNDEFINED.
+//! - [`covers`] is not reflexive for names with specials. The relation of `8.*` to itself is UNDEFINED, as is each
+//!   relation to a target with a special.
+//! - With specials, a relation does not give the relation of the swapped names. `8.*` to `8.0` is SUPERSET, but `8.0`
+//!   to `8.*` is UNDEFINED. `sp??` to `sp123` is DISJOINT, but `sp123` to `sp??` is UNDEFINED.
 //!
-//! A body is found in a text by the Two-Way algorithm (Crochemore and Perrin, "Two-way string-matching", Journal of the ACM
-//! 38, 1991; `standing`). It takes no memory, and the number of bytes that it compares is linear in the text and the body
-//! together. Each place is tried by itself if the body is short or the places are few. The bound is a known property of the
-//! algorithm, and no clause says it. What is proved is the answer.
+//! A body is found in a text by the Two-Way algorithm (Crochemore and Perrin, "Two-way string-matching", Journal of the
+//! ACM 38, 1991; module `standing`). It takes no memory. The number of compared bytes is linear in the length of text
+//! and body together. If the body is short or the places are few, each place is tried instead. This bound is a known
+//! property of the algorithm, and no clause states it. The answer is proved.
 #![tactic(auto)]
 
 mod above;

@@ -1,4 +1,4 @@
-//! Writing into a room: a slice that is the caller's and long enough, from a place on. Nothing here takes memory.
+//! Writing into a room: a slice of the caller that is long enough, from a given place on. Nothing here takes memory.
 #![tactic(auto)]
 
 ghost use Rattle.std.specs.Prelude.{◌≡◌, ◌≤◌, ◌+◌, ◌++◌, ◌∷◌, [], length, take, drop};

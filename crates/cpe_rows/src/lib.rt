@@ -1,12 +1,12 @@
 //! The rows of a dictionary and of an inventory, and what they mean.
 //!
-//! A dictionary (NIST IR 7697) has entries with provenance and deprecations. An inventory has items, and applicability
-//! statements (NIST IR 7698) are tests over them. The definitions say what an edit makes of these rows, what a query
-//! answers and which verdict a statement has: [`Edit`], [`Query`], [`Reply`] and [`EditFault`] are what they speak of.
-//! An engine above keeps the rows.
+//! A dictionary (NIST IR 7697) has entries with provenance and deprecations. An inventory has items. Statements (NIST
+//! IR 7698) are tests over these items. The definitions say which rows an edit leaves, what a question answers, and
+//! which verdict a statement has. They are about the types [`Edit`], [`Query`], [`Reply`] and [`EditFault`]. An engine
+//! above keeps the rows.
 //!
-//! An edit changes the verdicts of few statements. The laws of [`touching`] say which: a test of which no fact reference and
-//! no check reference is touched keeps its truth.
+//! An edit changes the verdicts of few statements. The laws of [`touching`] say which: if an edit touches no fact and
+//! no check of a test, the test keeps its truth.
 #![tactic(auto)]
 
 mod boxed;

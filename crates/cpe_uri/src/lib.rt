@@ -1,29 +1,30 @@
 //! URIs, the binding of well-formed names that CPE 2.2 had (NIST IR 7695, 6.1), and texts in either binding.
 //!
-//! Each name has one canonical URI, as the standard binds it (6.1.2): [`bind_uri`] and [`write_bound_uri`] give it, and no other.
-//! Letters, digits, `_`, `.` and `-` stand bare; each other character is a percent sign and its code in two hexadecimal digits with
-//! small letters; the special `?` is `%01`, and `*` is `%02`. Letters stay as they are in the name.
+//! Each name has one canonical URI, to which the standard binds it (6.1.2): [`bind_uri`] and [`write_bound_uri`] write
+//! this URI. Letters, digits, `_`, `.` and `-` are bare. Each other character is a percent sign and its code in two
+//! hexadecimal digits with small letters. The special `?` is `%01`, and `*` is `%02`. Letters keep their case.
 //!
-//! [`unbind_uri`] and its likes read a URI back (6.1.3). Letters are put in lower case, and a component that is missing is ANY. More
-//! spellings than the canonical one are accepted. Which these are is this project's own rule, and no statement of the standard:
+//! [`unbind_uri`] and similar calls read a URI (6.1.3). Letters are put in lower case, and a missing component is ANY.
+//! More spellings than the canonical URI are accepted. The list of these spellings is this project's own rule, and not
+//! in the standard:
 //!
 //! - the prefix and the part in either case, and hexadecimal digits in either case;
 //! - `%2d` and `%2e` for `-` and `.`;
-//! - a bare `~` for `%7e`, but not in a packed field, nor as the first byte of the component of the edition, where it begins the
-//!   five packed fields;
+//! - a bare `~` for `%7e`, except in a packed field. At the beginning of the edition a bare `~` begins the five packed
+//!   fields;
 //! - empty components at the end, up to seven components in all;
 //! - a packed edition whose last four fields are empty;
-//! - `-` as the part, which is NA there as elsewhere.
+//! - `-` as the part, which is NA there too.
 //!
-//! Every other percent form is refused. So are, by rules of this project's own too,
+//! Every other percent form is refused. These are refused too, also by this project's own rules:
 //!
-//! - `%2d` as a whole component or packed field: it would be the text that is one hyphen, which no value is;
-//! - `%01` and `%02` inside a text: the specials stand at its edges alone.
+//! - `%2d` as a whole component or packed field: it would be the text that is one hyphen, which is no value;
+//! - `%01` and `%02` inside a text: specials are only at its beginning and end.
 //!
-//! The place of a refusal ([`UriFault::At`]) is this project's own as well.
+//! The place of a refusal ([`UriFault::At`]) is this project's own rule as well.
 //!
-//! A text is read as a URI where its first five bytes are `cpe:/` in any letter case, and as a formatted string otherwise
-//! ([`unbind_any`]).
+//! If the first five bytes of a text are `cpe:/`, in any letter case, it is read as a URI, and otherwise as a formatted
+//! string ([`unbind_any`]).
 #![tactic(auto)]
 
 ghost use Rattle.std.specs.Prelude.{◌≡◌, ℕ, List, ◌+◌, ◌*◌, ◌≤◌, length, Ok, Some, None};

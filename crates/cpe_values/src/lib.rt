@@ -1,9 +1,9 @@
 //! The values of an attribute (NIST IR 7695, 5.3): ANY, NA, or a text of a lead, a body and a trail.
 //!
-//! [`Pattern::new`] makes a text, or names what is wrong with it. [`ValueRef`] is to [`Value`] as `&str` is to `String`: a
-//! value whose text lies elsewhere. `spelling` says how a text is spelled in a well-formed name (5.3) and in a formatted
-//! string (6.2), and `scan` has the scanners of such texts. The style of the spelling is a parameter of each scanner that
-//! depends on it. Scanners take no memory.
+//! [`Pattern::new`] makes a text, or says what is wrong with it. A [`ValueRef`] is a value whose text is stored
+//! elsewhere; it is to [`Value`] as `&str` is to `String`. The module `spelling` says how a text is spelled in a
+//! well-formed name (5.3) and in a formatted string (6.2). The module `scan` has the scanners of such texts. If a
+//! scanner depends on the style of the spelling, the style is its parameter. Scanners take no memory.
 #![tactic(auto)]
 
 ghost use Rattle.std.specs.Prelude.{◌≡◌, ◌++◌, ℕ, List, Ok};

@@ -1,8 +1,9 @@
-//! The weight of rows, by which their memory is bounded.
+//! The weight of rows, which bounds their memory.
 //!
-//! A row weighs 32 and the bytes of its texts, and so does each part of it that is counted: the notes and successors of an entry,
-//! and the tests of a statement. A name counts by its formatted string. The functions add what one row or part weighs to a
-//! number, and the laws say what an edit does to the weight of all rows: so it can be kept as a running number.
+//! A row weighs 32 plus the bytes of its texts. So does each part of a row that is counted: the notes and successors of
+//! an entry, and the tests of a statement. The text of a name is its formatted string. The functions add the weight of
+//! a row or part to a number. The laws say how an edit changes the weight of all rows. So the total weight can be kept
+//! from edit to edit.
 #![tactic(auto)]
 
 pub mod law;

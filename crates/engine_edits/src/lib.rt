@@ -1,10 +1,14 @@
 //! The lists of rows of an engine ([`Parts`]), and edits of them.
 //!
 //! The names of entries, items and fact references lie in one table, each once (`cpe_registry`). The verdict of each statement
-//! is kept beside it (`verdicts`). An edit gets its numbers first: a new name is held for it, and one that has to be there is
-//! found, each by its hash, once. Then the edit is looked at, which finds its fault and changes nothing. An edit without
-//! fault is made. A refused edit releases the names that it held. `edits` has these steps for all kinds, `entries`, `items`,
-//! `statements` and `checks` what they are for the edits of one list.
+//! is kept beside it (`verdicts`).
+//!
+//! An edit has two stages. The first ([`Parts::ready`]) leaves the rows unchanged. It holds the new names of the edit, finds the
+//! first fault, and takes all memory. A refused edit releases its names. The second ([`Parts::make`]) makes the edit and can't
+//! fail. Each name is found by its hash once.
+//!
+//! `applied` has the stages, and `edits` the numbers, faults and weights of all kinds of edits. `entries`, `items`, `statements`
+//! and `checks` have what is special to the edits of one list.
 #![tactic(auto)]
 
 mod applied;

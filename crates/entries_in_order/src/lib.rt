@@ -1,10 +1,14 @@
-//! Entries of a dictionary in the order in which they came: their names, by their numbers in a table that others use, too, and beside each
-//! what its entry has.
+//! Entries of a dictionary in the order in which they were added. They are kept as the numbers of their names in a
+//! shared table of names, each with the other parts of its entry.
 //!
-//! A [`GrowingEntries`] keeps the entries; beside its table ([`GrowingEntries::with`]) it is a list of entries ([`Entries`]), each found by
-//! the hash of its name, by its place and by its product. What is added, looked up or lent costs the same whatever their number, but for
-//! the place of a product that is new. None of them goes, and none is moved: what is added comes last, and what is written or given to one
-//! stays at its place. Whether a deprecation is lawful, and where it leads, is for others to say: here it is only kept.
+//! A [`GrowingEntries`] keeps the entries. Together with its table ([`GrowingEntries::with`]) it is a list of entries
+//! ([`Entries`]). An entry is found by the hash of its name, by its place or by its product. Adding, finding or lending
+//! an entry costs the same for any number of entries, except that a new product has to be put into its place. No entry
+//! is removed or moved: a new entry is the last, and a changed entry keeps its place. This crate only keeps
+//! deprecations. Other crates decide whether a deprecation is lawful, and where it leads.
+//!
+//! All memory for an entry or a note is taken first ([`GrowingEntries::reserve`], [`GrowingEntries::note_room`]). Then the
+//! change is made, and can't fail.
 #![tactic(auto)]
 
 mod at_numbers;

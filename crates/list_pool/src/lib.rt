@@ -1,11 +1,11 @@
-//! Many lists of numbers in one vector of slots, for owners of lists that must grow without memory.
+//! Many lists of numbers in one vector of slots, for owners whose lists must grow without taking memory.
 //!
-//! A [`Pool`] takes memory in [`Pool::reserve`] alone. Contracts see the list of each live name, position by position with the
-//! cell that stands there, and the number `spare`: how many lists and cells may be added without memory. What is taken
-//! out or dropped gives its slots back, and they are used again. A slot is 16 bytes; a list takes one, and one more for
-//! each of its values.
+//! Only [`Pool::reserve`] takes memory. In contracts a [`Pool`] shows the list of each live name, with the cell of each
+//! element. It also shows the number `spare`: how many lists and cells can be added without memory. Slots of removed
+//! elements and lists are used again. A slot has 16 bytes. A list takes one slot, and one more for each of its
+//! elements.
 //!
-//! A walk goes from [`Pool::first`] by [`Pool::next`], and reads each cell by [`Pool::value`]; it copies nothing.
+//! [`Pool::first`] and [`Pool::next`] visit the cells of a list, and [`Pool::value`] reads a cell. Nothing is copied.
 #![tactic(auto)]
 
 mod pool;

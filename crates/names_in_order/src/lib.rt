@@ -1,12 +1,15 @@
-//! Names in an order, by their numbers in one table that others use, too; and by product, so that a search for those that a name covers
-//! looks at few of them.
+//! Lists of names by their numbers in a shared table of names. Each list keeps the order in which its names were added.
+//! A search by product returns the names that a given name covers, and compares only few names.
 //!
-//! A [`GrowingNames`] keeps the numbers of names in the order in which they came, and none of them goes. Beside its table
-//! ([`GrowingNames::with`]) it is a list of names, each found by its hash, by its place and by its product. Of a [`ChangingNames`] any
-//! may go; a [`MarkedNumbers`] keeps their numbers alone, for who finds names by more than what covers them. What is so of a list stays
-//! so where others hold and release names of the table: [`orders_stay`]. What a list is without a number that has gone,
-//! [`orders_without`] says. A list that has a table for itself holds each name once: [`add_name`] appends one to either kind of list
-//! ([`PushHeld`]).
+//! A [`GrowingNames`] keeps the numbers of names, and none of them is ever removed. Together with its table
+//! ([`GrowingNames::with`]) it is a list of names. A name is found by its hash, by its place or by its product. From a
+//! [`ChangingNames`], names can also be removed. A [`MarkedNumbers`] keeps only numbers, for callers that find names by
+//! other means than what covers them. By the law [`orders_stay`], a list stays as it is if others hold and release
+//! names of the table. [`orders_without`] says what a list is after a number was removed. A list that has a table for
+//! itself holds each name once: [`add_name`] appends a name to either kind of list ([`PushHeld`]).
+//!
+//! A call that reserves takes all memory for a name, and the call that adds this name can't fail
+//! ([`GrowingNames::reserve`], [`GrowingNames::push`]).
 #![tactic(auto)]
 
 mod added;

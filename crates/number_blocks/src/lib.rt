@@ -1,9 +1,10 @@
-//! A list of numbers in blocks, so that one more number moves 1,024 others at most, and the places of the blocks after it.
+//! A list of numbers in blocks, so that adding a number moves at most 1,024 other numbers, and the places of the blocks
+//! after it.
 //!
-//! Contracts see the list. Where a number goes, and which numbers are asked for, is told by a [`Test`] that holds of a prefix
-//! of the list: binary searches over the blocks and in one of them find where it ends. A [`Piece`] is a walk over numbers
-//! that stand side by side; it takes no memory. Where numbers are taken out, two blocks side by side that would fill no more
-//! than half a block become one, so the memory stays in proportion to the numbers.
+//! In contracts the list is a plain list. A [`Test`] that holds for a prefix of the list says where a number belongs,
+//! or which numbers are wanted. Two binary searches, over the blocks and in one block, find the end of this prefix. A
+//! [`Piece`] visits numbers that are neighbours, without taking memory. After a removal, two neighbouring blocks that
+//! together fill at most half a block become one block. So the memory stays in proportion to the numbers.
 #![tactic(auto)]
 
 mod blocks;

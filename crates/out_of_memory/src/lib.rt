@@ -1,4 +1,4 @@
-//! That memory ran out: one type for it, which each crate that takes memory hands on.
+//! One type for the error that memory ran out. Each crate that takes memory hands it on.
 #![tactic(auto)]
 
 use std::alloc::{AllocError, AllocFailed};

@@ -1,8 +1,8 @@
-//! A list whose elements have tickets, numbers that rise from the first element to the last. Any element may go, and one that goes
-//! moves few others, so it costs nearly the same whatever the length of the list.
+//! A list whose elements have tickets: numbers that rise from the first element to the last. Any element can be
+//! removed. A removal moves few other elements, so its cost hardly depends on the length of the list.
 //!
-//! Contracts see the list. An element is found by its ticket or by its place, each by a binary search. Who keeps the tickets of
-//! elements and no places has nothing to renumber when one goes.
+//! In contracts the list is a plain list. An element is found by its ticket or by its place, by a binary search. A
+//! caller that keeps tickets, and no places, has nothing to renumber after a removal.
 #![tactic(auto)]
 
 mod list;

@@ -1,14 +1,15 @@
-//! Verdicts (NIST IR 7698): statements, the results of checks and the facts of both modes, kept from edit to edit.
+//! Verdicts (NIST IR 7698): statements, the results of checks, and the facts of both modes, kept from edit to edit.
 //!
-//! [`Verdicts`] has the facts ([`facts::Facts`]) and the statements with their verdicts ([`statement_rows::StatementRows`]).
-//! Each call is an edit of the rows. It changes the facts, and then judges the statements that use a fact whose truth was
-//! replaced, and no others. After each call every verdict is that of the rows.
+//! [`Verdicts`] has the facts ([`facts::Facts`]) and the statements with their verdicts
+//! ([`statement_rows::StatementRows`]). Each call is an edit of the rows. It changes the facts, and then evaluates only
+//! the statements that use a fact whose truth was replaced. After each call every verdict is that of the rows.
 //!
-//! A statement is added or removed, and a deprecation is changed, in two stages: the first takes all memory and changes no verdict
-//! ([`Verdicts::ready_statement`], [`Verdicts::ready_removal`], [`Verdicts::ready_lead`]); the second cannot fail.
+//! Each edit that needs memory has two stages. The first stage takes all memory and changes no verdict
+//! ([`Verdicts::reserve_item`], [`Verdicts::ready_statement`], [`Verdicts::ready_removal`], [`Verdicts::ready_lead`],
+//! [`Verdicts::ready_result`]). The second stage cannot fail.
 //!
-//! The boards of facts have all items by product, and their ends. So they also find the items that a name meets
-//! ([`Verdicts::items_met`], [`Verdicts::items_covered`]); the registry has the order of items.
+//! The boards of facts have all items by product, and the ends of items. So they also find the items that a name covers
+//! or may cover ([`Verdicts::items_met`], [`Verdicts::items_covered`]). The registry has the order of the items.
 #![tactic(auto)]
 
 mod addition;
