@@ -1,6 +1,7 @@
 pub mod Numbering
 pub mod Fitting
 pub mod Moving
+pub mod Rooms
 pub mod Places
 pub mod Edited
 pub mod Faulted

@@ -19,12 +19,19 @@ pub record IsKept (entries : List Entry) (nodes : List Node) : Type 0 where
   pub few : length entries ≤ most limit.Entries
   pub numbered : nodes ≡ nodes_of_entries entries
 
--- a dictionary as it is kept beside a table of names: the numbers of its entries' names, what stands beside each, and the nodes of
--- its graph
+-- what is reserved beside the room for names: for how many more of what stands beside names, and for how many nodes and edges more
+pub record StoredRoom : Type 0 where
+  pub details : ℕ
+  pub nodes : ℕ
+  pub edges : ℕ
+
+-- a dictionary as it is kept beside a table of names: the numbers of its entries' names, what stands beside each, the nodes of its
+-- graph, and the room for more
 pub record Stored : Type 0 where
   pub names : Roll
   pub details : List Details
   pub nodes : List Node
+  pub room : StoredRoom
 
 -- its entries, by the names of the table
 abbrev pub entries_in : Names → Stored → List Entry

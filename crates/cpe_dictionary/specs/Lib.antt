@@ -7,5 +7,5 @@ pub mod Causes
 pub mod Plans
 pub mod Sources
 pub mod Given
-pub mod Moved
+pub mod Room
 pub use Rattle.deprecation_graph.specs as deprecation_graph

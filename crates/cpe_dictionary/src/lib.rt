@@ -34,6 +34,7 @@ pub use by_number::{
 };
 pub use deprecation_graph::FillFault;
 pub use dictionary::Dictionary;
+pub use entries_in_order::NoteRoom;
 pub use plans::Plan;
 pub use sources::Sources;
 pub use store::KeptDictionary;

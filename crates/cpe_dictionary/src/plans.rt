@@ -11,7 +11,7 @@ use crate::successors::find_successors;
 use cpe_rows::{Deprecation, EditFault, List, Wfn};
 
 /// A change of an entry's deprecation that its dictionary allows, by numbers. It is made by
-/// [`Dictionary::commit`](Dictionary::commit).
+/// [`KeptDictionary::commit`](crate::KeptDictionary::commit).
 #[derive(Debug, Drop)]
 pub struct Plan {
     /// The number of the entry.

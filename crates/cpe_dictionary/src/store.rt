@@ -1,20 +1,21 @@
 // A dictionary as it is kept beside a table of names.
-ghost use Rattle.std.specs.Prelude.{◌≡◌, ◌+◌, ◌++◌, ◌∷◌, [], ◌≤◌, IfOk, length, map, option_map, position, slice_get, false};
+ghost use Rattle.std.specs.Prelude.{◌≡◌, ◌+◌, ◌++◌, ◌∷◌, [], ◌≤◌, IfOk, OnOk, length, map, option_copied, option_map, position, slice_get, false};
 ghost use Rattle.std.specs.List.{filter_map, list_any};
 ghost use Rattle.name_index.specs.Prelude.{IsLive, kept_at};
 ghost use Rattle.cpe_rows.specs.Prelude.{chain, is_named, IsDictionary, most};
 ghost use Rattle.cpe_rows.specs.declared.fault.Which.TheVariants as Which;
 ghost use Rattle.cpe_dictionary.specs.Kept.{entries_in, FitsTable, new_entry, rewritten, written};
-ghost use Rattle.cpe_dictionary.specs.Moved.{ChangedTo};
 ghost use Rattle.cpe_rows.specs.Lent.{entry_lent};
 ghost use Rattle.cpe_dictionary.specs.Plans.{IsAllowed, numbered};
+ghost use Rattle.cpe_dictionary.specs.Room.{MayAddEntry, MayChange, SameStored};
+ghost use Rattle.deprecation_graph.specs.Graph.{successors};
 
 use crate::by_number::{changes_by_number, edits_by_number};
 use crate::dictionary::Dictionary;
 use crate::plans::Plan;
 use cpe_rows::{Deprecation, EntryRef, Memory, Note, Provenance, Text, Wfn};
 use deprecation_graph::DeprecationGraph;
-use entries_in_order::GrowingEntries;
+use entries_in_order::{GrowingEntries, NoteRoom};
 use name_index::{NameId, NameTable};
 use std::alloc::Global;
 use std::marker::Model;
@@ -29,25 +30,31 @@ pub struct KeptDictionary {
 }
 
 impl Model for KeptDictionary {
-    ghost use Rattle.cpe_rows.specs.declared.fault.Which.TheVariants as Which;
     ghost use Rattle.cpe_dictionary.specs.Kept.{Stored};
+    ghost use Rattle.cpe_dictionary.specs.Room.{stored_of};
 
     ghost Value = { Stored };
 
-    ghost view = { λ d. record { names = d.entries.names; details = d.entries.details; nodes = d.graph.nodes } };
+    ghost view = { λ d. stored_of d.entries d.graph };
 }
 
-// Lets go what an entry would have had for which memory ran out.
-fn let_go(title: Text, provenance: Provenance, memory: Memory) -> Memory {
-    drop(title);
-    drop(provenance);
-    memory
+// How many successors there are.
+fn count(next: Option<&[u32]>) -> usize
+    ensures { result ≡ length (successors (option_copied next.entry)) }
+{
+    match next {
+        Some(next) => next.len(),
+        None => 0,
+    }
 }
 
 impl KeptDictionary {
     /// The dictionary without entries. It takes no memory.
     pub fn new(alloc: Global) -> KeptDictionary
-        ensures { result ≡ record { names = record { held = []; numbers = [] }; details = []; nodes = [] } }
+        ensures held { result.names.held ≡ [] }
+        ensures numbers { result.names.numbers ≡ [] }
+        ensures details { result.details ≡ [] }
+        ensures nodes { result.nodes ≡ [] }
     {
         KeptDictionary {
             alloc,
@@ -120,64 +127,83 @@ impl KeptDictionary {
         self.entries.ids_at(alloc, numbers)
     }
 
-    /// Puts an active entry last whose name has this number in the table, and which no entry has. What it brings is moved.
+    /// Takes the memory to add an entry whose name has this number in the table, which [`add`](KeptDictionary::add) then needs. The
+    /// entries stay.
     ///
     /// # Errors
-    /// Only that memory ran out; the dictionary is then as it was.
-    pub fn add(
-        &mut self,
-        table: &NameTable,
-        id: NameId,
-        title: Text,
-        provenance: Provenance,
-    ) -> Result<(), Memory>
+    /// Only that memory ran out.
+    pub fn reserve_entry(&mut self, table: &NameTable, id: NameId) -> Result<(), Memory>
+        requires fits { FitsTable table.now self.old }
+        requires live { IsLive table.now id.0 }
+        requires few { length (entries_in table.now self.old) + 1 ≤ most Which.Entries }
+        ensures same { SameStored self.old self.new }
+        ensures fits { FitsTable table.now self.new }
+        ensures entries { entries_in table.now self.new ≡ entries_in table.now self.old }
+        ensures ok { OnOk result (MayAddEntry table.now self.new id.0) }
+    {
+        edits_by_number();
+        self.graph.reserve(1, 0)?;
+        self.entries.reserve(table, id)
+    }
+
+    /// Puts an active entry last whose name has this number in the table, which no entry has, and for which there is room. What it
+    /// brings is moved, and it takes no memory.
+    pub fn add(&mut self, table: &NameTable, id: NameId, title: Text, provenance: Provenance)
         requires fits { FitsTable table.now self.old }
         requires live { IsLive table.now id.0 }
         requires absent { list_any (is_named (kept_at table.now id.0).name) (entries_in table.now self.old) ≡ false }
         requires few { length (entries_in table.now self.old) + 1 ≤ most Which.Entries }
         requires lawful { IsDictionary (entries_in table.now self.old ++ new_entry (kept_at table.now id.0).name title provenance ∷ []) }
-        ensures { ChangedTo table.now self.old self.new (entries_in table.now self.old ++ new_entry (kept_at table.now id.0).name title provenance ∷ []) result }
+        requires room { MayAddEntry table.now self.old id.0 }
+        ensures fits { FitsTable table.now self.new }
+        ensures entries { entries_in table.now self.new ≡ entries_in table.now self.old ++ new_entry (kept_at table.now id.0).name title provenance ∷ [] }
     {
-        edits_by_number();
         changes_by_number();
-        if self.graph.reserve(1, 0).is_err() {
-            return Err(let_go(title, provenance, Memory));
-        }
-        self.entries.push(table, id, title, provenance)?;
+        self.entries.push(table, id, title, provenance);
         self.graph.add_node();
-        Ok(())
     }
 
-    /// Makes a planned change: the entry gets this deprecation, or none, and a note, if there is one, that goes last.
+    /// Takes the memory to make a planned change, which [`commit`](KeptDictionary::commit) then needs: for its edges, and for a note.
+    /// The entries stay.
     ///
     /// # Errors
-    /// Only that memory ran out; the dictionary is then as it was.
+    /// Only that memory ran out.
+    pub fn reserve_change(&mut self, table: &NameTable, plan: &Plan) -> Result<NoteRoom, Memory>
+        requires fits { FitsTable table.now self.old }
+        requires allowed { IsAllowed (entries_in table.now self.old) plan.now.number plan.now.next }
+        ensures same { SameStored self.old self.new }
+        ensures fits { FitsTable table.now self.new }
+        ensures entries { entries_in table.now self.new ≡ entries_in table.now self.old }
+        ensures ok { IfOk result (λ room. MayChange self.new plan.now room) }
+    {
+        let _ = table;
+        edits_by_number();
+        self.graph.reserve(0, count(plan.next()) as u32)?;
+        self.entries.note_room(self.alloc, plan.number as usize)
+    }
+
+    /// Makes a planned change for which there is room: the entry gets this deprecation, or none, and a note, if there is one, that goes
+    /// last. It takes no memory.
     pub fn commit(
         &mut self,
         table: &NameTable,
         plan: &Plan,
         deprecation: Option<Deprecation>,
         note: Option<Note>,
-    ) -> Result<(), Memory>
+        room: NoteRoom,
+    )
         requires fits { FitsTable table.now self.old }
         requires numbers { plan.now.next ≡ numbered (entries_in table.now self.old) deprecation }
         requires allowed { IsAllowed (entries_in table.now self.old) plan.now.number plan.now.next }
         requires lawful { IsDictionary (written (rewritten deprecation note) plan.now.number (entries_in table.now self.old)) }
-        ensures { ChangedTo table.now self.old self.new (written (rewritten deprecation note) plan.now.number (entries_in table.now self.old)) result }
+        requires room { MayChange self.old plan.now room }
+        ensures fits { FitsTable table.now self.new }
+        ensures entries { entries_in table.now self.new ≡ written (rewritten deprecation note) plan.now.number (entries_in table.now self.old) }
     {
         let _ = table;
-        edits_by_number();
         changes_by_number();
-        let edges = match plan.next() {
-            Some(next) => next.len() as u32,
-            None => 0,
-        };
-        if self.graph.reserve(0, edges).is_err() {
-            return Err(Memory);
-        }
         self.entries
-            .rewrite_at(plan.number as usize, deprecation, note)?;
+            .rewrite_at(plan.number as usize, deprecation, note, room);
         self.graph.set_edges(plan.number, plan.next());
-        Ok(())
     }
 }

@@ -1,5 +1,5 @@
 // The engine, its edits and its answers.
-ghost use Rattle.std.specs.Prelude.{◌≡◌, ◌+◌, ◌≤◌, IfOk, length, map, position, slice_get, true, option_map};
+ghost use Rattle.std.specs.Prelude.{◌≡◌, ◌+◌, ◌≤◌, IfOk, OnErr, length, map, position, slice_get, true, option_map};
 ghost use Rattle.std.specs.List.{filter_map, list_any};
 ghost use Rattle.cpe_rows.specs.Prelude.{answer, Applied, chain, changes, has_key, is_lower, is_named, is_valid_edit, IsLawful, no_rows, verdict};
 ghost use Rattle.cpe_rows.specs.Counts.{counts_of};
@@ -177,16 +177,17 @@ impl Engine {
         self.parts.verdicts.at(k)
     }
 
-    /// Makes an edit, and answers which verdicts it changes, in the order of the statements. What it brings is moved in.
+    /// Makes an edit, and returns which verdicts it changes, in the order of the statements. All memory is taken before the first
+    /// change.
     ///
-    /// A step is a look at a name through an index. An edit takes those that keep the verdicts: an item, or a fact reference of a
-    /// statement that is put, looks for what is near it and its ends, a change of a deprecation for what is near the ends, before and
-    /// after it, of all that leads to the entry, and each other edit for nothing. An edit that has a fault takes no step.
+    /// A step is a look at a name through an index. A new or removed item looks for the names near it and near its ends. A new
+    /// statement does so for each of its fact references, and a changed deprecation for the ends, before and after it, of all names
+    /// that lead to the entry. All other edits take no step. An edit that is refused, or that runs out of memory, takes none.
     ///
     /// The edit is in order ([`Edit::valid`]), so the rows stay lawful ([`rows_stay_lawful`]).
     ///
     /// # Errors
-    /// The first fault of the edit in the order of [`EditFault`], or that memory ran out. After either the rows are as they were.
+    /// The first fault of the edit in the order of [`EditFault`], or that memory ran out. The rows are then unchanged.
     pub fn apply<L: Ledger>(
         &mut self,
         edit: Edit,
@@ -196,6 +197,7 @@ impl Engine {
         ensures applied { Applied self.old self.new edit result }
         ensures changes { IfOk result (λ cs. cs ≡ changes self.old edit) }
         ensures steps { StepsWithin steps.old steps.new (edit_looks self.old edit) }
+        ensures refused { OnErr result (steps.new ≡ steps.old) }
     {
         self.parts.apply(self.alloc, edit, steps)
     }

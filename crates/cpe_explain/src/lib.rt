@@ -2,8 +2,8 @@
 //!
 //! [`explain`] makes the certificate over any [`ExplainedRows`]. These are rows by which certificates are tested
 //! (`checked_certificates`), and which can also find the first item of a fact and the ends of a name. Of the children
-//! of a logical test, [`explain`] takes the first that decides, or all if no child decides. It takes the first item
-//! that shows a fact. It takes the first end of this item that fits, and then the first end of the fact. By
+//! of a logical test, [`explain`] takes the first that decides, or all if no child decides. For a fact that is TRUE it
+//! takes the first item that makes it so, with the first ends of the item and of the fact that fit together. By
 //! [`law::certificates_are_good`], the certificate has the verdict, and in lawful rows it is good.
 #![tactic(auto)]
 

@@ -1,6 +1,6 @@
 -- The results that are kept by tickets, as contracts see them, and that they stay kept so.
 use Rattle.std.proofs.Common.{◌≡◌, ℕ, ◌+◌, ◌<◌, ◌||◌, Bool, true, false, not, cond, List, [], ◌∷◌, ◌++◌, map, find, is_some, refl, sym, ap, subst, ◌∙◌, arith}
-use Rattle.std.specs.Prelude.{Option, Some, None}
+use Rattle.std.specs.Prelude.{IfOk, OnOk, Option, Some, None, Result, Ok, Err}
 use Rattle.std.specs.List.{AllByRecursion, filter, list_any}
 use Rattle.std.specs.Map.{lookup}
 use Rattle.std.specs.Option.{option_map_or}
@@ -13,8 +13,9 @@ use Rattle.cpe_rows.proofs.KeyTests.{key_is, other_key}
 use Rattle.ticket_list.specs.Rising.{IsRisingBy}
 use Rattle.ticket_list.specs.TicketList.{has_ticket, with_change, without_ticket}
 use Rattle.cpe_inventory.specs.Kept.{kept_truth}
-use Rattle.cpe_inventory.specs.Results.{AreKept, is_for, one_or_none, retold, seen, ticket_of, tickets}
+use Rattle.cpe_inventory.specs.Results.{AreKept, ChecksNow, IsReadyResult, is_for, one_or_none, retold, seen, ticket_of, tickets}
 use Rattle.cpe_inventory.specs.declared.kept.KeptResult.{KeptResult}
+use Rattle.cpe_inventory.specs.declared.ready_result.ReadyResult.{ReadyResult}
 use Rattle.cpe_inventory.proofs.TicketLemmas.{changed_by, first_left, found_by, left_by, none_changed, none_pass, some_pass}
 
 -- ---- what a key finds among the results as contracts see them
@@ -71,6 +72,10 @@ module _ (k : CheckKey) where
 module _ (rs : List KeptResult) (es : List (CheckKey × ℕ)) (n : ℕ) (h : AreKept rs es n) (k : CheckKey) where
   pub has_by_key : is_some (lookup (same_key k) es) ≡ list_any (has_key k) (map seen rs)
   has_by_key = some_pass ticket_of (is_for k) (lookup (same_key k) es) rs (h.found k) ∙ sym (any_seen k rs)
+
+  -- a key without a ticket has no result
+  pub none_kept : lookup (same_key k) es ≡ None → list_any (has_key k) (map seen rs) ≡ false
+  none_kept e = sym has_by_key ∙ ap (λ (o : Option ℕ). is_some o) e
 
   one_of : (t : ℕ) → lookup (same_key k) es ≡ Some t → tickets (is_for k) rs ≡ t ∷ []
   one_of t e = sym (h.found k) ∙ ap one_or_none e
@@ -229,3 +234,26 @@ AreKept-same rs next es next_es n h e same = subst (λ (us : List KeptResult). A
   below = h.below;
   found = λ q. ap one_or_none (same q) ∙ h.found q;
 })
+
+-- ---- keys that are ready
+
+-- a key that has a result needs no copy
+pub ready_known : (c : ChecksNow) (k : CheckKey) → list_any (has_key k) c.list ≡ true → IsReadyResult c k (record { key = k; copy = None })
+ready_known c k there = record { key = refl; new = λ none. absurd (let wrong : true ≡ false = sym there ∙ none in cc) }
+
+-- a new key is ready, or memory ran out
+pub ready_by : {Fault : Type 0} (c : ChecksNow) (k : CheckKey) (result : Result ReadyResult Fault) → IfOk result (λ r. r.key ≡ k) → IfOk result (λ r. r.copy ≡ Some k) → OnOk result (c.ready ≡ true) → IfOk result (IsReadyResult c k)
+ready_by c k (Ok r) key copy room = record { key = key; new = λ none. (copy, room) }
+ready_by c k (Err e) key copy room = tt
+
+-- a ready key without a ticket has its copy, and there is room
+module _ (rs : List KeptResult) (es : List (CheckKey × ℕ)) (n : ℕ) (h : AreKept rs es n) (room : Bool) (c : ChecksNow) (list : map seen rs ≡ c.list) (ready : room ≡ c.ready)
+    (k : CheckKey) (r : ReadyResult) (is : IsReadyResult c k r) (new : lookup (same_key r.key) es ≡ None) where
+  unkept : list_any (has_key k) c.list ≡ false
+  unkept = sym (λ i. list_any (has_key (is.key i)) (list i)) ∙ none_kept rs es n h r.key new
+
+  pub copied : r.copy ≡ Some r.key
+  copied = (is.new unkept).0 ∙ ap (λ (q : CheckKey). Some q) (sym is.key)
+
+  pub roomy : room ≡ true
+  roomy = ready ∙ (is.new unkept).1

@@ -1,5 +1,5 @@
 // The results that are kept for checks.
-ghost use Rattle.std.specs.Prelude.{◌≡◌, ◌<◌, ◌++◌, ◌∷◌, [], true, cond, find, map, Some, None, IfOk, OnOk, OnErr, length, option_map, slice_get};
+ghost use Rattle.std.specs.Prelude.{◌≡◌, ◌<◌, ◌++◌, ◌∷◌, [], true, cond, find, map, Some, None, IfOk, OnOk, length, option_map, slice_get};
 ghost use Rattle.std.specs.Bool.{OnFalse};
 ghost use Rattle.std.specs.HashMap.{spare};
 ghost use Rattle.std.specs.List.{list_any};
@@ -11,17 +11,18 @@ ghost use Rattle.cpe_rows.specs.declared.truth.Truth.TheVariants.{Unknown};
 ghost use Rattle.ticket_list.specs.Rising.{IsRisingBy};
 ghost use Rattle.ticket_list.specs.TicketList.{has_ticket, with_change, without_ticket};
 ghost use Rattle.cpe_inventory.specs.Kept.{kept_truth};
-ghost use Rattle.cpe_inventory.specs.Results.{AreKept, retold, seen, ticket_of};
+ghost use Rattle.cpe_inventory.specs.Results.{AreKept, IsReadyResult, has_room, retold, seen, ticket_of};
 
 use crate::kept::{KeptResult, SetTruth};
+use crate::ready_result::ReadyResult;
 use cpe_rows::{CheckKey, Memory, Truth};
 use std::alloc::Global;
 use std::collections::HashMap;
 use std::marker::Model;
 use ticket_list::TicketList;
 
-/// The results that are kept for checks, in the order in which their keys came. Contracts see them as the list of the keys,
-/// each with its result.
+/// The results that are kept for checks, in the order in which their keys were added. Contracts see the list of the keys, each with
+/// its result, and whether there is room for one more.
 #[derive(Drop)]
 pub struct Checks {
     alloc: Global,
@@ -32,22 +33,21 @@ pub struct Checks {
 }
 
 impl Model for Checks {
-    ghost use Rattle.std.specs.Prelude.{List, map};
-    ghost use Rattle.cpe_rows.specs.declared.test.CheckKey.{CheckKey};
-    ghost use Rattle.cpe_rows.specs.declared.truth.Truth.{Truth};
-    ghost use Rattle.cpe_inventory.specs.Results.{AreKept, seen};
+    ghost use Rattle.std.specs.Prelude.{map};
+    ghost use Rattle.std.specs.HashMap.{spare};
+    ghost use Rattle.cpe_inventory.specs.Results.{AreKept, ChecksNow, has_room, seen};
 
-    ghost Value = { List (CheckKey × Truth) };
+    ghost Value = { ChecksNow };
 
-    ghost view = { λ c. map seen c.results.items };
+    ghost view = { λ c. record { list = map seen c.results.items; ready = has_room c.results.ready (spare c.by_key) c.next } };
 
     ghost invariant = { λ c. AreKept c.results.items c.by_key.entries c.next };
 }
 
 impl Checks {
-    /// No results. It takes no memory.
+    /// No results. Allocates: no.
     pub fn new(alloc: Global) -> Checks
-        ensures { result ≡ [] }
+        ensures { result.list ≡ [] }
     {
         Checks {
             alloc,
@@ -59,14 +59,14 @@ impl Checks {
 
     /// For how many keys a result is kept.
     pub fn len(&self) -> usize
-        ensures { result ≡ length self.now }
+        ensures { result ≡ length self.now.list }
     {
         self.results.len()
     }
 
-    /// The key at a place from 0, with its result. There is none exactly where the place is the number of keys or more.
+    /// The key at a place from 0, with its result. There is none exactly if the place is the number of keys or more.
     pub fn at(&self, place: usize) -> Option<(&CheckKey, Truth)>
-        ensures { option_map (λ p. (p.0.now, p.1)) result ≡ slice_get self.now place }
+        ensures { option_map (λ p. (p.0.now, p.1)) result ≡ slice_get self.now.list place }
     {
         match self.results.at(place) {
             Some(kept) => Some((&kept.key, kept.truth)),
@@ -76,41 +76,60 @@ impl Checks {
 
     /// Whether a result is kept for the key.
     pub fn has(&self, key: &CheckKey) -> bool
-        ensures { result ≡ list_any (has_key key.now) self.now }
+        ensures { result ≡ list_any (has_key key.now) self.now.list }
     {
         self.by_key.contains_key(key)
     }
 
-    /// Keeps a result: in the place of that of the same key where there is one, and last otherwise.
+    /// A key that is ready: all memory is taken to keep a result for it. The results are unchanged.
     ///
     /// # Errors
-    /// Only that memory ran out; the results are then as they were.
-    pub fn set(&mut self, key: CheckKey, truth: Truth) -> Result<(), Memory>
-        ensures ok { OnOk result (self.new ≡ with_check key truth self.old) }
-        ensures err { OnErr result (self.new ≡ self.old) }
+    /// Only that memory ran out.
+    pub fn reserve(&mut self, key: CheckKey) -> Result<ReadyResult, Memory>
+        ensures list { self.new.list ≡ self.old.list }
+        ensures ok { IfOk result (IsReadyResult self.new key) }
     {
+        if self.has(&key) {
+            Ok(ReadyResult { key, copy: None })
+        } else {
+            ready_new(
+                &mut self.results,
+                &mut self.by_key,
+                self.next,
+                self.alloc,
+                key,
+            )
+        }
+    }
+
+    /// Keeps a result for a key that is ready: in the place of its earlier result, or else at the end. Allocates: no.
+    pub fn set(&mut self, ready: ReadyResult, truth: Truth)
+        requires { (k : CheckKey) × IsReadyResult self.old k ready }
+        ensures { (k : CheckKey) → IsReadyResult self.old k ready → self.new.list ≡ with_check k truth self.old.list }
+    {
+        let ReadyResult { key, copy } = ready;
         match ticket_by(&self.by_key, &key) {
             Some(ticket) => {
                 drop(key);
+                drop(copy);
                 change_truth(&mut self.results, ticket, truth);
-                Ok(())
             }
             None => put_new(
                 &mut self.results,
                 &mut self.by_key,
                 &mut self.next,
-                self.alloc,
                 key,
+                copy,
                 truth,
             ),
         }
     }
 
-    /// Takes the result of a key out, and tells whether there was one. It moves few others in the mean, however many there are.
+    /// Removes the result of a key, and returns whether there was one. It moves few others in the mean, however many there are.
     pub fn remove(&mut self, key: &CheckKey) -> bool
-        ensures found { result ≡ list_any (has_key key.now) self.old }
-        ensures results { self.new ≡ without_first (has_key key.now) self.old }
-        ensures unchanged { OnFalse result (self.new ≡ self.old) }
+        ensures found { result ≡ list_any (has_key key.now) self.old.list }
+        ensures results { self.new.list ≡ without_first (has_key key.now) self.old.list }
+        ensures unchanged { OnFalse result (self.new.list ≡ self.old.list) }
     {
         match forget(&mut self.by_key, key) {
             Some(ticket) => {
@@ -121,9 +140,9 @@ impl Checks {
         }
     }
 
-    /// The truth of a check: the result that is kept for its key, or unknown where none is. It takes no memory.
+    /// The truth of a check: the result that is kept for its key, or unknown if there is none. Allocates: no.
     pub fn truth(&self, key: &CheckKey) -> Truth
-        ensures { result ≡ kept_truth self.now key.now }
+        ensures { result ≡ kept_truth self.now.list key.now }
     {
         match ticket_by(&self.by_key, key) {
             Some(ticket) => truth_of(&self.results, ticket),
@@ -158,7 +177,7 @@ fn change_truth(results: &mut TicketList<KeptResult>, ticket: u64, truth: Truth)
     results.change(ticket, &SetTruth { truth });
 }
 
-// Takes out the result of a ticket.
+// Removes the result of a ticket.
 fn take_out(results: &mut TicketList<KeptResult>, ticket: u64)
     ensures rising { IsRisingBy ticket_of results.old.items }
     ensures results { results.new.items ≡ without_ticket ticket_of ticket results.old.items }
@@ -174,32 +193,60 @@ fn forget(by_key: &mut HashMap<CheckKey, u64>, key: &CheckKey) -> Option<u64>
     by_key.remove(key)
 }
 
-// Keeps a result for a new key, last.
+// Keeps a result for a new key, at the end.
 fn put_new(
     results: &mut TicketList<KeptResult>,
     by_key: &mut HashMap<CheckKey, u64>,
     next: &mut u64,
-    alloc: Global,
     key: CheckKey,
+    copy: Option<CheckKey>,
     truth: Truth,
-) -> Result<(), Memory>
+)
     requires kept { AreKept results.old.items by_key.old.entries next.old }
     requires new { lookup (same_key key) by_key.old.entries ≡ None }
+    requires copy { copy ≡ Some key }
+    requires room { has_room results.old.ready (spare by_key.old) next.old ≡ true }
     ensures kept { AreKept results.new.items by_key.new.entries next.new }
-    ensures ok { OnOk result (map seen results.new.items ≡ map seen results.old.items ++ (key, truth) ∷ []) }
-    ensures err { OnErr result (results.new.items ≡ results.old.items) }
+    ensures results { map seen results.new.items ≡ map seen results.old.items ++ (key, truth) ∷ [] }
 {
-    match make_room(results, by_key, *next, alloc, &key) {
-        Ok(copy) => {
-            insert_key(by_key, copy, *next);
-            results.push(KeptResult {
-                ticket: *next,
-                key,
-                truth,
-            });
-            *next += 1;
-            Ok(())
-        }
+    insert_key(by_key, copy_in(copy), *next);
+    results.push(KeptResult {
+        ticket: *next,
+        key,
+        truth,
+    });
+    *next += 1;
+}
+
+fn copy_in(copy: Option<CheckKey>) -> CheckKey
+    requires { (k : CheckKey) × (copy ≡ Some k) }
+    ensures { Some result ≡ copy }
+{
+    match copy {
+        Some(copy) => copy,
+        None => unreachable!(),
+    }
+}
+
+// Makes a new key ready.
+fn ready_new(
+    results: &mut TicketList<KeptResult>,
+    by_key: &mut HashMap<CheckKey, u64>,
+    next: u64,
+    alloc: Global,
+    key: CheckKey,
+) -> Result<ReadyResult, Memory>
+    ensures key { IfOk result (λ r. r.key ≡ key) }
+    ensures copy { IfOk result (λ r. r.copy ≡ Some key) }
+    ensures room { OnOk result (has_room results.new.ready (spare by_key.new) next ≡ true) }
+    ensures results { results.new.items ≡ results.old.items }
+    ensures tickets { (q : CheckKey) → lookup (same_key q) by_key.new.entries ≡ lookup (same_key q) by_key.old.entries }
+{
+    match make_room(results, by_key, next, alloc, &key) {
+        Ok(copy) => Ok(ReadyResult {
+            key,
+            copy: Some(copy),
+        }),
         Err(memory) => {
             drop(key);
             Err(memory)
@@ -216,9 +263,7 @@ fn make_room(
     key: &CheckKey,
 ) -> Result<CheckKey, Memory>
     ensures key { IfOk result (λ k. k ≡ key.now) }
-    ensures last { OnOk result (next < 18446744073709551615) }
-    ensures ready { OnOk result (results.new.ready ≡ true) }
-    ensures room { OnOk result (0 < spare by_key.new) }
+    ensures room { OnOk result (has_room results.new.ready (spare by_key.new) next ≡ true) }
     ensures results { results.new.items ≡ results.old.items }
     ensures tickets { (q : CheckKey) → lookup (same_key q) by_key.new.entries ≡ lookup (same_key q) by_key.old.entries }
 {

@@ -11,7 +11,7 @@ use cpe_rows::{CheckKey, EditFault, MOST_CHECKS, Which};
 /// Why a result can't be set for a key: the first cause in the order of [`EditFault`], without the weight. Whatever the result is,
 /// there would be too many, or not. It takes no memory.
 pub fn check_fault(checks: &Checks, key: &CheckKey) -> Option<EditFault>
-    ensures { (truth : Truth) → result ≡ first_some (check_causes checks.now key.now truth) }
+    ensures { (truth : Truth) → result ≡ first_some (check_causes checks.now.list key.now truth) }
 {
     if has_too_many_checks(checks, key) {
         return Some(EditFault::Full(Which::Checks));
@@ -21,7 +21,7 @@ pub fn check_fault(checks: &Checks, key: &CheckKey) -> Option<EditFault>
 
 // Whether there would be too many results with that of the key.
 fn has_too_many_checks(checks: &Checks, key: &CheckKey) -> bool
-    ensures { (truth : Truth) → result ≡ nat_lt (most which.Checks) (length (with_check key.now truth checks.now)) }
+    ensures { (truth : Truth) → result ≡ nat_lt (most which.Checks) (length (with_check key.now truth checks.now.list)) }
 {
     if checks.has(key) {
         checks.len() > MOST_CHECKS

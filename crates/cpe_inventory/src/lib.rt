@@ -12,9 +12,11 @@ mod checks;
 mod faults;
 mod kept;
 pub mod law;
+mod ready_result;
 mod slots;
 
 pub use checks::Checks;
 pub use faults::check_fault;
+pub use ready_result::ReadyResult;
 pub use slots::ItemSlots;
 pub use ticket_list::{Change, TicketList, Ticketed};

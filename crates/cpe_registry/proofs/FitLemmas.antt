@@ -11,6 +11,7 @@ use Rattle.name_index.specs.Table.{AreNames, find_kept, HasName, Holds, IsLive, 
 use Rattle.name_index.proofs.Fitting.{held_live, held_name}
 use Rattle.names_in_order.specs.InOrder.{AreInOrder, AreLive as AreLiveAt, IsSafe, names_numbered}
 use Rattle.names_in_order.specs.Laws.{OrdersStay}
+use Rattle.names_in_order.specs.Room.{NumberList}
 use Rattle.names_in_order.proofs.OrderLemmas.{kept_live}
 use Rattle.names_in_order.proofs.StayLemmas.{hold_stays, names_stay, names_without, release_stays}
 use Rattle.fact_laws.specs.Shown.{holds_in, Shows, times_named}
@@ -159,7 +160,7 @@ shows_still old new s items prefix stays shows =
     subst (Shows new (holds_in new)) (sym list) shows
 
 -- what a hold answers
-pub name_held : {E : Type 0} {x : Registered} (old new : Names) (s : Stored) (items : List NameId) (name : Values) (result : Result NameId E) → registered old s items ≡ x → Stays old new s items
+pub name_held : {E : Type 0} {x : Registered} (old new : Names) (s : Stored) (items : NumberList) (name : Values) (result : Result NameId E) → registered old s items ≡ x → Stays old new s items.numbers
     → IfOk result (λ id. Holds old new id.0 name) → OnErr result (new ≡ old) → ((id : ℕ) (list : List Values) → Holds old new id name → Shows old (holds_in old) list → Shows new (holds_in new) (name ∷ list))
     → NameHeld x (registered new s items) name result
 name_held old new s items name result view stay held same more = record {
@@ -169,14 +170,14 @@ name_held old new s items name result view stay held same more = record {
   entries = stay.entries ∙ ap (λ (y : Registered). y.entries) view;
   items = stay.items ∙ ap (λ (y : Registered). y.items) view;
   others = λ others was. let shows = subst (λ (y : Registered). AreHeld y others) (sym view) was in
-      ok_if (λ (id : NameId). Holds old new id.0 name) result (λ id h. shows_still old new s items (name ∷ others) stay (more id.0 (others ++ (names_of (entries_in old s) ++ names_numbered old items)) h shows)) held;
+      ok_if (λ (id : NameId). Holds old new id.0 name) result (λ id h. shows_still old new s items.numbers (name ∷ others) stay (more id.0 (others ++ (names_of (entries_in old s) ++ names_numbered old items.numbers)) h shows)) held;
   err = on_err result (λ e. ap (λ (t : Names). registered t s items) e ∙ view) same;
 }
 
 -- entries that keep their names keep what is held
-pub others_same : {x : Registered} (table : Names) (s next : Stored) (items : List NameId) → registered table s items ≡ x → names_of (entries_in table next) ≡ names_of (entries_in table s) → (others : List Values) → AreHeld x others → AreHeld (registered table next items) others
+pub others_same : {x : Registered} (table : Names) (s next : Stored) (items : NumberList) → registered table s items ≡ x → names_of (entries_in table next) ≡ names_of (entries_in table s) → (others : List Values) → AreHeld x others → AreHeld (registered table next items) others
 others_same table s next items view same others was =
-    subst (λ (ns : List Values). Shows table (holds_in table) (others ++ (ns ++ names_numbered table items))) (sym same) (subst (λ (y : Registered). AreHeld y others) (sym view) was)
+    subst (λ (ns : List Values). Shows table (holds_in table) (others ++ (ns ++ names_numbered table items.numbers))) (sym same) (subst (λ (y : Registered). AreHeld y others) (sym view) was)
 
 -- ---- entries by their names
 

@@ -29,31 +29,28 @@ pub record NameHeld {Fault : Type 0} (old new : Registered) (name : Values) (res
   -- without memory all is as it was
   pub err : OnErr result (new ≡ old)
 
--- An entry, whose name has this number, was put last; or memory ran out.
-pub record EntryAdded {Done Fault : Type 0} (old new : Registered) (id : NameId) (entry : Entry) (result : Result Done Fault) : Type 0 where
-  -- the table stays
+-- Table, entries and items are unchanged.
+pub record SameRegistry (old new : Registered) : Type 0 where
   pub table : new.table ≡ old.table
-  -- and so do the items
+  pub entries : new.entries ≡ old.entries
+  pub items : new.items ≡ old.items
+
+-- An entry was added, whose name has this number.
+pub record EntryAdded (old new : Registered) (id : NameId) (entry : Entry) : Type 0 where
+  pub table : new.table ≡ old.table
   pub items : new.items ≡ old.items
   -- the entry is the last one
-  pub ok : OnOk result (new.entries ≡ old.entries ++ entry ∷ [])
-  -- and has a hold of its name that was held besides
-  pub others : (besides : List Values) → AreHeld old (name_in old.table id ∷ besides) → OnOk result (AreHeld new besides)
-  -- without memory all is as it was
-  pub err : OnErr result (new ≡ old)
+  pub entries : new.entries ≡ old.entries ++ entry ∷ []
+  -- it takes over a hold of its name
+  pub others : (besides : List Values) → AreHeld old (name_in old.table id ∷ besides) → AreHeld new besides
 
--- An entry was changed, so that the entries are these; or memory ran out.
-pub record EntryChanged {Done Fault : Type 0} (old new : Registered) (changed : List Entry) (result : Result Done Fault) : Type 0 where
-  -- the table stays
+-- An entry was changed, so that the entries are these.
+pub record EntryChanged (old new : Registered) (changed : List Entry) : Type 0 where
   pub table : new.table ≡ old.table
-  -- and so do the items
   pub items : new.items ≡ old.items
-  -- the entries are these
-  pub ok : OnOk result (new.entries ≡ changed)
-  -- what is held besides stays so
+  pub entries : new.entries ≡ changed
+  -- what is held besides entries and items is unchanged
   pub others : KeepsHolds old new
-  -- without memory all is as it was
-  pub err : OnErr result (new ≡ old)
 
 -- Each entry was given the deprecation at its place, or none; or they would be no lawful dictionary, or memory ran out.
 pub record AllDeprecated {Done : Type 0} (old new : Registered) (deprecations : List (Option Deprecation)) (result : Result Done FillFault) : Type 0 where
@@ -70,15 +67,11 @@ pub record AllDeprecated {Done : Type 0} (old new : Registered) (deprecations : 
   -- what is refused leaves all as it was
   pub err : OnErr result (new ≡ old)
 
--- An item, whose name has this number, was put last; or memory ran out.
-pub record ItemAdded {Done Fault : Type 0} (old new : Registered) (id : NameId) (result : Result Done Fault) : Type 0 where
-  -- the table stays
+-- An item was added, whose name has this number.
+pub record ItemAdded (old new : Registered) (id : NameId) : Type 0 where
   pub table : new.table ≡ old.table
-  -- and so do the entries
   pub entries : new.entries ≡ old.entries
   -- the item is the last one
-  pub ok : OnOk result (new.items ≡ old.items ++ name_in old.table id ∷ [])
-  -- and has a hold of its name that was held besides
-  pub others : (besides : List Values) → AreHeld old (name_in old.table id ∷ besides) → OnOk result (AreHeld new besides)
-  -- without memory all is as it was
-  pub err : OnErr result (new ≡ old)
+  pub items : new.items ≡ old.items ++ name_in old.table id ∷ []
+  -- it takes over a hold of its name
+  pub others : (besides : List Values) → AreHeld old (name_in old.table id ∷ besides) → AreHeld new besides

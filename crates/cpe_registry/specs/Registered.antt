@@ -1,5 +1,5 @@
 -- A registry: one table of names, of which entries (NIST IR 7697) and items (NIST IR 7698) keep numbers.
-use Rattle.std.specs.Prelude.{◌≡◌, ◌∷◌, ◌++◌, [], Bool, List, filter, if◌then◌else◌, map}
+use Rattle.std.specs.Prelude.{◌≡◌, ◌∷◌, ◌++◌, [], ℕ, Bool, List, filter, if◌then◌else◌, map}
 use Rattle.std.specs.List.{AllByRecursion, list_any}
 use Rattle.cpe_rows.specs.cpe_name.Eleven.{Values}
 use Rattle.cpe_rows.specs.Chains.{leads_to}
@@ -9,17 +9,35 @@ use Rattle.cpe_rows.specs.declared.entry.Entry.{Entry}
 use Rattle.name_index.specs.declared.table.NameId.{NameId}
 use Rattle.name_index.specs.Table.{IsLive, Names, kept_at}
 use Rattle.names_in_order.specs.InOrder.{AreLive as AreLiveAt, names_numbered}
+use Rattle.names_in_order.specs.Room.{MayPut, NumberList}
 use Rattle.name_index.specs.product_orders.Elements.{SameElements}
 use Rattle.fact_laws.specs.Shown.{Shows, holds_in, names_at}
 use Rattle.cpe_dictionary.specs.Kept.{entries_in, FitsTable, names_of, Stored}
+use Rattle.cpe_dictionary.specs.Room.{MayAddEntry, MayChange}
+use Rattle.cpe_dictionary.specs.declared.plans.Plan.{Plan}
 
+-- the table, the entries and the items; and how both are kept, which says for what there is room
 pub record Registered : Type 0 where
   pub table : Names
   pub entries : List Entry
   pub items : List Values
+  pub stored : Stored
+  pub listed : NumberList
 
-abbrev pub registered : Names → Stored → List NameId → Registered
-registered table s numbers = record { table = table; entries = entries_in table s; items = names_numbered table numbers }
+abbrev pub registered : Names → Stored → NumberList → Registered
+registered table s list = record { table = table; entries = entries_in table s; items = names_numbered table list.numbers; stored = s; listed = list }
+
+-- All memory is taken for an entry whose name has this number.
+abbrev pub HasEntryRoom : Registered → NameId → Type 0
+HasEntryRoom r id = MayAddEntry r.table r.stored id.0
+
+-- All memory is taken for a planned change of a deprecation, with this many places for notes.
+abbrev pub HasChangeRoom : Registered → Plan → ℕ → Type 0
+HasChangeRoom r plan places = MayChange r.stored plan places
+
+-- All memory is taken for an item whose name has this number.
+abbrev pub HasItemRoom : Registered → NameId → Type 0
+HasItemRoom r id = MayPut r.listed id.0
 
 -- the dictionary fits the table, and each item is a name of it
 pub record AreFitting (table : Names) (s : Stored) (numbers : List NameId) : Type 0 where

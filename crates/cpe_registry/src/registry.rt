@@ -1,5 +1,5 @@
 // One table of names, and the entries and items that keep numbers of it.
-ghost use Rattle.std.specs.Prelude.{◌≡◌, ◌+◌, ◌++◌, ◌∷◌, [], ◌<◌, ◌≤◌, ℕ, IfOk, IfSome, IsNone, List, None, false, find, length, map, option_copied, option_map, position, slice_get, true};
+ghost use Rattle.std.specs.Prelude.{◌≡◌, ◌+◌, ◌++◌, ◌∷◌, [], ◌<◌, ◌≤◌, ℕ, IfOk, IfSome, IsNone, List, None, OnOk, Some, false, find, length, map, option_copied, option_map, position, slice_get, true};
 ghost use Rattle.std.specs.List.{filter_map, list_any};
 ghost use Rattle.cpe_rows.specs.Prelude.{chain, is_named, is_same, IsDictionary, IsLower, most, Values, without_first};
 ghost use Rattle.cpe_rows.specs.declared.fault.Which.TheVariants as limit;
@@ -7,11 +7,11 @@ ghost use Rattle.name_index.specs.Table.{AreNames, HasName, IsLive, kept_at, Rel
 ghost use Rattle.cpe_dictionary.specs.Kept.{new_entry, rewritten, written};
 ghost use Rattle.cpe_rows.specs.Lent.{entry_lent};
 ghost use Rattle.cpe_dictionary.specs.Plans.{IsAllowed, numbered};
-ghost use Rattle.cpe_registry.specs.Moved.{EntryAdded, EntryChanged, ItemAdded, NameHeld};
+ghost use Rattle.cpe_registry.specs.Moved.{EntryAdded, EntryChanged, ItemAdded, NameHeld, SameRegistry};
 ghost use Rattle.fact_laws.specs.Shown.{names_at};
-ghost use Rattle.cpe_registry.specs.Registered.{AreHeld, AreLive, name_in};
+ghost use Rattle.cpe_registry.specs.Registered.{AreHeld, AreLive, HasChangeRoom, HasEntryRoom, HasItemRoom, name_in};
 
-use cpe_dictionary::{Dictionary, KeptDictionary, Plan};
+use cpe_dictionary::{Dictionary, KeptDictionary, NoteRoom, Plan};
 use cpe_inventory::ItemSlots;
 use cpe_rows::{Deprecation, EntryRef, Memory, Note, Provenance, Text, Wfn};
 use name_index::{NameId, NameTable};
@@ -35,13 +35,15 @@ impl Model for Registry {
 
     ghost view = { λ r. registered r.table r.dictionary r.items };
 
-    ghost invariant = { λ r. AreFitting r.table r.dictionary r.items };
+    ghost invariant = { λ r. AreFitting r.table r.dictionary r.items.numbers };
 }
 
 impl Registry {
     /// A registry without names. It takes no memory.
     pub fn new(alloc: Global) -> Registry
-        ensures rows { result ≡ record { table = []; entries = []; items = [] } }
+        ensures table { result.table ≡ [] }
+        ensures entries { result.entries ≡ [] }
+        ensures items { result.items ≡ [] }
         ensures held { AreHeld result [] }
     {
         fact_laws::law::lists_are_shown();
@@ -204,57 +206,84 @@ impl Registry {
         self.table.release(id);
     }
 
-    /// Puts an active entry last, which takes over a hold of its name. No entry has the name.
+    /// Takes all memory for an entry whose name has this number.
     ///
     /// # Errors
-    /// Only that memory ran out; all is then as it was.
-    pub fn add_entry(
-        &mut self,
-        id: NameId,
-        title: Text,
-        provenance: Provenance,
-    ) -> Result<(), Memory>
+    /// Only that memory ran out.
+    pub fn reserve_entry(&mut self, id: NameId) -> Result<(), Memory>
+        requires live { IsLive self.old.table id.0 }
+        requires few { length self.old.entries + 1 ≤ most limit.Entries }
+        ensures same { SameRegistry self.old self.new }
+        ensures room { OnOk result (HasEntryRoom self.new id) }
+    {
+        self.dictionary.reserve_entry(&self.table, id)
+    }
+
+    /// Adds an active entry, which takes over a hold of its name. No entry has the name yet. Allocates: no.
+    pub fn add_entry(&mut self, id: NameId, title: Text, provenance: Provenance)
         requires live { IsLive self.old.table id.0 }
         requires absent { list_any (is_named (name_in self.old.table id)) self.old.entries ≡ false }
         requires few { length self.old.entries + 1 ≤ most limit.Entries }
         requires lawful { IsDictionary (self.old.entries ++ new_entry (name_in self.old.table id) title provenance ∷ []) }
-        ensures { EntryAdded self.old self.new id (new_entry (name_in self.old.table id) title provenance) result }
+        requires room { HasEntryRoom self.old id }
+        ensures { EntryAdded self.old self.new id (new_entry (name_in self.old.table id) title provenance) }
     {
         fact_laws::law::lists_are_shown();
-        self.dictionary.add(&self.table, id, title, provenance)
+        self.dictionary.add(&self.table, id, title, provenance);
     }
 
-    /// Makes a planned change: the entry gets this deprecation, or none, and a note, if there is one, that goes last.
+    /// Takes all memory for a planned change of a deprecation. It returns that for the note.
     ///
     /// # Errors
-    /// Only that memory ran out; all is then as it was.
+    /// Only that memory ran out.
+    pub fn reserve_change(&mut self, plan: &Plan) -> Result<NoteRoom, Memory>
+        requires { IsAllowed self.old.entries plan.now.number plan.now.next }
+        ensures same { SameRegistry self.old self.new }
+        ensures room { IfOk result (HasChangeRoom self.new plan.now) }
+    {
+        self.dictionary.reserve_change(&self.table, plan)
+    }
+
+    /// Makes a planned change: the entry gets this deprecation, or none, and the note at the end of its notes. Allocates: no.
     pub fn change(
         &mut self,
         plan: &Plan,
         deprecation: Option<Deprecation>,
-        note: Option<Note>,
-    ) -> Result<(), Memory>
+        note: Note,
+        room: NoteRoom,
+    )
         requires numbers { plan.now.next ≡ numbered self.old.entries deprecation }
         requires allowed { IsAllowed self.old.entries plan.now.number plan.now.next }
-        requires lawful { IsDictionary (written (rewritten deprecation note) plan.now.number self.old.entries) }
-        ensures { EntryChanged self.old self.new (written (rewritten deprecation note) plan.now.number self.old.entries) result }
+        requires lawful { IsDictionary (written (rewritten deprecation (Some note)) plan.now.number self.old.entries) }
+        requires room { HasChangeRoom self.old plan.now room }
+        ensures { EntryChanged self.old self.new (written (rewritten deprecation (Some note)) plan.now.number self.old.entries) }
     {
-        self.dictionary.commit(&self.table, plan, deprecation, note)
+        self.dictionary
+            .commit(&self.table, plan, deprecation, Some(note), room);
     }
 
-    /// Puts an item last, which takes over a hold of its name. No item has the name.
+    /// Takes all memory for an item whose name has this number.
     ///
     /// # Errors
-    /// Only that memory ran out; all is then as it was.
-    pub fn add_item(&mut self, id: NameId) -> Result<(), Memory>
+    /// Only that memory ran out.
+    pub fn reserve_item(&mut self, id: NameId) -> Result<(), Memory>
+        ensures same { SameRegistry self.old self.new }
+        ensures room { OnOk result (HasItemRoom self.new id) }
+    {
+        self.items.reserve(id)
+    }
+
+    /// Adds an item, which takes over a hold of its name. No item has the name yet. Allocates: no.
+    pub fn add_item(&mut self, id: NameId)
         requires live { IsLive self.old.table id.0 }
         requires absent { list_any (is_same (name_in self.old.table id)) self.old.items ≡ false }
-        ensures { ItemAdded self.old self.new id result }
+        requires room { HasItemRoom self.old id }
+        ensures { ItemAdded self.old self.new id }
     {
         cpe_inventory::law::item_laws();
         names_in_order::law::orders_stay();
         fact_laws::law::lists_are_shown();
-        self.items.push(id)
+        self.items.push(id);
     }
 
     /// Takes an item out. Its hold of the name is the caller's then, until it is [released](Registry::release). It takes no memory.

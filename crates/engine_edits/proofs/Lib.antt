@@ -6,3 +6,4 @@ pub mod MadeLemmas
 pub mod ChangeLemmas
 pub mod TurnedLemmas
 pub mod StatementLemmas
+pub mod ReadyLemmas

@@ -2,14 +2,17 @@
 use Rattle.std.proofs.Common.{find, if◌then◌else◌, ◌||◌, map, ◌≡◌, ◌≤◌, ◌∙◌, ℕ, ap, sym, subst, Bool, true, false, List, [], ◌∷◌, ◌++◌, length, arith, refl, Some}
 use Rattle.std.proofs.lemmas.List.{length-map}
 use Rattle.std.specs.List.{list_any}
-use Rattle.std.specs.Prelude.{Result, Ok, Err, OnErr}
+use Rattle.std.specs.Prelude.{None, not, Result, Ok, Err, OnErr}
 use Rattle.cpe_rows.specs.After.{after, without_first}
 use Rattle.cpe_rows.specs.Chains.{ends}
 use Rattle.cpe_rows.specs.Names.{is_same}
 use Rattle.cpe_rows.specs.declared.entry.Entry.{Entry}
 use Rattle.cpe_rows.specs.declared.edit.Edit.TheVariants as edit
 use Rattle.cpe_rows.specs.Changes.{differing, others}
+use Rattle.cpe_rows.specs.Faults.{when}
 use Rattle.cpe_rows.specs.Rows.{Rows}
+use Rattle.cpe_rows.specs.Step.{first_some}
+use Rattle.cpe_rows.specs.declared.fault.EditFault.TheVariants as fault
 use Rattle.cpe_rows.specs.Verdict.{verdict}
 use Rattle.cpe_rows.specs.declared.reply.Changed.{Changed}
 use Rattle.cpe_rows.specs.cpe_name.Eleven.{Values}
@@ -68,3 +71,8 @@ item_dropped old new w rows id t table entries items held at stands =
     let next = after rows (edit.DropItem n) in
     subst (λ (x : Names). AreOf new w next (name_at x id ∷ [])) (sym table)
     (by_lists old new w next (n ∷ []) table entries items held (subst (λ (x : Names). HasVerdicts x w (after rows (edit.DropItem (name_at x id)))) at stands))
+
+-- what is to be removed is there, if that isn't refused
+pub is_there : (found : Bool) → first_some (when (not found) fault.Unknown ∷ []) ≡ None → found ≡ true
+is_there true none = refl
+is_there false none = let wrong : ⊥ = cc in absurd wrong

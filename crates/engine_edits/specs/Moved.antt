@@ -1,12 +1,18 @@
--- What is so of the parts after a step of an edit.
-use Rattle.std.specs.Prelude.{◌≡◌, Result, IfErr, IfOk, OnErr}
+-- The parts after a step of an edit.
+use Rattle.std.specs.Prelude.{◌≡◌, [], None, Result, IfErr, IfOk, OnErr}
+use Rattle.cpe_rows.specs.Accepted.{IsAccepted}
+use Rattle.cpe_rows.specs.After.{after}
 use Rattle.cpe_rows.specs.Applied.{Refuses}
-use Rattle.cpe_rows.specs.Step.{step}
+use Rattle.cpe_rows.specs.Causes.{causes}
+use Rattle.cpe_rows.specs.Step.{first_some, step}
+use Rattle.verdicts.specs.Verdicts.{known_in}
 use Rattle.cpe_rows.specs.declared.edit.Edit.{Edit}
 use Rattle.cpe_rows.specs.declared.fault.EditFault.{EditFault}
-use Rattle.engine_edits.specs.Parts.{AreBeside, AreKept, edit_in, rows_in}
+use Rattle.engine_edits.specs.Parts.{AreBeside, AreKept, AreOf, edit_in, rows_in}
+use Rattle.engine_edits.specs.Ready.{edit_ready, HasAll}
 use Rattle.engine_edits.specs.declared.numbered.Numbered.{Numbered}
 use Rattle.engine_edits.specs.declared.parts.Parts.{Parts}
+use Rattle.engine_edits.specs.declared.ready.Ready.{Ready}
 
 -- An edit got its numbers; or there is no such name, or memory ran out.
 pub record EditNumbered (old new : Parts) (e : Edit) (result : Result Numbered EditFault) : Type 0 where
@@ -22,3 +28,25 @@ pub record EditNumbered (old new : Parts) (e : Edit) (result : Result Numbered E
   pub left : OnErr result (AreKept new)
   -- and for a reason that the step has
   pub err : IfErr result (λ f. Refuses f (step (rows_in old) e))
+
+-- An edit with its numbers has no fault.
+pub record MayBeReady (p : Parts) (n : Numbered) : Type 0 where
+  pub beside : AreBeside p n
+  pub accepted : IsAccepted (rows_in p) (edit_in p n) (after (rows_in p) (edit_in p n))
+  pub none : first_some (causes (rows_in p) (edit_in p n)) ≡ None
+
+-- The rows, their weight and what callers know of the verdicts are unchanged.
+pub record SameParts (old new : Parts) : Type 0 where
+  pub rows : rows_in new ≡ rows_in old
+  pub known : known_in new.verdicts ≡ known_in old.verdicts
+  pub weight : new.weight ≡ old.weight
+
+-- An edit with its numbers was made ready, or memory ran out.
+pub record MadeReady {Fault : Type 0} (old new : Parts) (n : Numbered) (result : Result Ready Fault) : Type 0 where
+  pub same : SameParts old new
+  -- what is ready is this edit
+  pub edit : IfOk result (λ r. edit_ready new.registry.table r ≡ edit_in old n)
+  -- and it has all that it needs
+  pub all : IfOk result (HasAll new)
+  -- without memory nothing is held for it
+  pub left : OnErr result (AreOf new.registry new.verdicts (rows_in old) [])

@@ -1,41 +1,135 @@
--- An edit that may be made, and places for the changes that it makes.
-use Rattle.std.specs.Prelude.{◌≡◌, ◌≤◌, [], ℕ, None, Option, length, map}
+-- An edit for which all memory is taken, and places for the verdicts that it changes.
+use Rattle.std.specs.Prelude.{◌≡◌, ◌≤◌, ◌∷◌, ◌++◌, [], ℕ, List, None, length, map}
 use Rattle.cpe_rows.specs.Accepted.{IsAccepted}
 use Rattle.cpe_rows.specs.After.{after}
 use Rattle.cpe_rows.specs.Causes.{causes}
 use Rattle.cpe_rows.specs.Filling.{Filling}
+use Rattle.cpe_rows.specs.Lawful.{IsLawful}
 use Rattle.cpe_rows.specs.Rows.{Rows}
 use Rattle.cpe_rows.specs.Step.{first_some}
 use Rattle.cpe_rows.specs.Verdict.{verdict}
+use Rattle.cpe_rows.specs.Weight.{weight}
+use Rattle.cpe_rows.specs.declared.edit.Edit.{Edit}
+use Rattle.cpe_rows.specs.declared.edit.Edit.TheVariants as edit
 use Rattle.cpe_rows.specs.declared.reply.Changed.{Changed}
-use Rattle.cpe_dictionary.specs.declared.plans.Plan.{Plan}
+use Rattle.cpe_rows.specs.declared.statement.Mode.TheVariants.{Follow}
+use Rattle.cpe_rows.specs.declared.statement.Statement.{Statement}
+use Rattle.cpe_dictionary.specs.Kept.{new_entry}
+use Rattle.cpe_dictionary.specs.Plans.{IsPlan}
+use Rattle.fact_laws.specs.Asked.{names_kept}
+use Rattle.fact_laws.specs.Shown.{holds_in, names_at, Shows}
+use Rattle.name_index.specs.declared.table.NameId.{NameId}
+use Rattle.name_index.specs.Table.{IsLive, Names}
+use Rattle.verdicts.specs.Addition.{HasVerdictsBeside, IsAddition}
+use Rattle.verdicts.specs.Items.{HasRoomForItem}
+use Rattle.verdicts.specs.Leads.{IsReadyLead}
+use Rattle.verdicts.specs.Removal.{IsRemoval}
 use Rattle.verdicts.specs.Verdicts.{known_in}
-use Rattle.engine_edits.specs.Parts.{AreBeside, edit_in, rows_in}
-use Rattle.engine_edits.specs.declared.numbered.Numbered.{Numbered}
-use Rattle.engine_edits.specs.declared.numbered.Numbered.TheVariants as numbered
+use Rattle.verdicts.specs.statement_rows.State.{IsReadyResult}
+use Rattle.verdicts.specs.cpe_registry.Registered.{HasChangeRoom, HasEntryRoom, HasItemRoom, name_in}
+use Rattle.verdicts.specs.declared.addition.Addition.{Addition}
+use Rattle.verdicts.specs.declared.removal.Removal.{Removal}
+use Rattle.verdicts.specs.facts.Facts.{LeadsTo}
+use Rattle.verdicts.specs.cpe_registry.cpe_inventory.declared.ready_result.ReadyResult.{ReadyResult}
+use Rattle.engine_edits.specs.Numbered.{AreNumbered, given, turned}
+use Rattle.engine_edits.specs.Parts.{AreOf, rows_in}
 use Rattle.engine_edits.specs.declared.parts.Parts.{Parts}
-use Rattle.engine_edits.specs.Planned.{IsPlanned}
+use Rattle.engine_edits.specs.declared.ready.Ready.{Ready}
+use Rattle.engine_edits.specs.declared.ready.Ready.TheVariants as ready
+use Rattle.engine_edits.specs.declared.ready.ReadyChange.{ReadyChange}
+use Rattle.engine_edits.specs.declared.ready.ReadyEdit.{ReadyEdit}
 
--- how many places the changes need at most: an entry changes no verdict, a statement that comes or goes is the one change, and else each
--- statement may be one
-abbrev pub places : Rows → Numbered → ℕ
-places rows (numbered.Entry id title provenance) = 0
-places rows (numbered.PutStatement s ids) = 1
-places rows (numbered.DropStatement id) = 1
+-- the statement that an addition adds
+abbrev pub added : Addition → Statement
+added a = a.statement.numbered.value.statement
+
+-- the edit that is ready, by the names of the table
+abbrev pub edit_ready : Names → Ready → Edit
+edit_ready table (ready.Entry id title provenance) = edit.Entry (new_entry (name_in table id) title provenance)
+edit_ready table (ready.Item id ends) = edit.Item (name_in table id)
+edit_ready table (ready.DropItem id ends) = edit.DropItem (name_in table id)
+edit_ready table (ready.Change c) = turned (name_in table c.change.id) c.change.turn c.change.date c.change.comment
+edit_ready table (ready.PutStatement addition ids) = edit.PutStatement (added addition)
+edit_ready table (ready.DropStatement id removal) = edit.DropStatement id
+edit_ready table (ready.SetCheck result truth) = edit.SetCheck result.key truth
+edit_ready table (ready.DropCheck key) = edit.DropCheck key
+
+-- The name of a new entry is held, and there is room for the entry.
+pub record IsReadyEntry (p : Parts) (id : NameId) : Type 0 where
+  pub are : AreOf p.registry p.verdicts (rows_in p) (name_in p.registry.table id ∷ [])
+  pub live : IsLive p.registry.table id.0
+  pub room : HasEntryRoom p.registry id
+
+-- The name of a new item is held and leads to these ends, and there is room for the item.
+pub record IsReadyItem (p : Parts) (id : NameId) (its_ends : List NameId) : Type 0 where
+  pub are : AreOf p.registry p.verdicts (rows_in p) (name_in p.registry.table id ∷ [])
+  pub live : IsLive p.registry.table id.0
+  pub ends : LeadsTo p.registry.table (rows_in p).entries Follow id.0 its_ends
+  pub room : HasItemRoom p.registry id
+  pub boards : HasRoomForItem p.verdicts.facts p.registry.table (length its_ends)
+
+-- An item leads to these ends.
+pub record IsReadyDrop (p : Parts) (id : NameId) (its_ends : List NameId) : Type 0 where
+  pub are : AreOf p.registry p.verdicts (rows_in p) []
+  pub live : IsLive p.registry.table id.0
+  pub ends : LeadsTo p.registry.table (rows_in p).entries Follow id.0 its_ends
+
+-- A change has its plan, the ends that it changes, and room for its edges and its note.
+pub record IsReadyChange (p : Parts) (c : ReadyChange) : Type 0 where
+  pub are : AreOf p.registry p.verdicts (rows_in p) []
+  pub live : IsLive p.registry.table c.change.id.0
+  pub plan : IsPlan (rows_in p).entries (name_in p.registry.table c.change.id) (given c.change.turn) c.plan
+  pub lead : IsReadyLead p.verdicts p.registry.table (rows_in p) (after (rows_in p) (edit_ready p.registry.table (ready.Change c))).entries (name_in p.registry.table c.change.id) c.lead
+  pub room : HasChangeRoom p.registry c.plan c.note
+
+-- The names of a new statement's fact references are held under these numbers, and all memory for it is taken.
+pub record IsReadyStatement (p : Parts) (a : Addition) (ids : List NameId) : Type 0 where
+  pub numbered : AreNumbered p.registry.table (added a) ids
+  pub held : Shows p.registry.table (holds_in p.registry.table) (names_at p.registry.table ids ++ names_kept (rows_in p))
+  pub addition : IsAddition p.verdicts p.registry.table (rows_in p).entries (added a) ids a
+  pub verdicts : HasVerdictsBeside p.registry.table p.verdicts (rows_in p) (added a) a
+
+-- Nothing else is held, and all memory for the result is taken.
+pub record IsReadyCheck (p : Parts) (r : ReadyResult) : Type 0 where
+  pub are : AreOf p.registry p.verdicts (rows_in p) []
+  pub room : IsReadyResult p.verdicts.statements r.key r
+
+-- Nothing else is held, and this is what is removed with the statement.
+pub record IsReadyRemoval (p : Parts) (id : List ℕ) (r : Removal) : Type 0 where
+  pub are : AreOf p.registry p.verdicts (rows_in p) []
+  pub removal : IsRemoval p.verdicts id r
+
+-- by kind: what was found and taken is right for the edit
+abbrev pub HasAll : Parts → Ready → Type 0
+HasAll p (ready.Entry id title provenance) = IsReadyEntry p id
+HasAll p (ready.Item id ends) = IsReadyItem p id ends.items
+HasAll p (ready.DropItem id ends) = IsReadyDrop p id ends.items
+HasAll p (ready.Change c) = IsReadyChange p c
+HasAll p (ready.PutStatement a ids) = IsReadyStatement p a ids.items
+HasAll p (ready.DropStatement id r) = IsReadyRemoval p id r
+HasAll p (ready.SetCheck r truth) = IsReadyCheck p r
+HasAll p (ready.DropCheck key) = AreOf p.registry p.verdicts (rows_in p) []
+
+-- The most places that the changed verdicts need: an entry changes none, a statement that is added or removed is the one change,
+-- and else each statement may be one.
+abbrev pub places : Rows → Edit → ℕ
+places rows (edit.Entry e) = 0
+places rows (edit.PutStatement s) = 1
+places rows (edit.DropStatement id) = 1
 places rows e = length rows.statements
 
--- callers know the verdicts as they are
-pub record IsReady (p : Parts) (n : Numbered) (room : Filling Changed) : Type 0 where
-  pub beside : AreBeside p n
-  pub accepted : IsAccepted (rows_in p) (edit_in p n) (after (rows_in p) (edit_in p n))
-  pub none : first_some (causes (rows_in p) (edit_in p n)) ≡ None
+-- Lawful rows, of which callers know the verdicts, and an edit of them without fault, with all that it needs.
+pub record IsReady (p : Parts) (r : Ready) (room : Filling Changed) : Type 0 where
+  pub lawful : IsLawful (rows_in p)
+  pub accepted : IsAccepted (rows_in p) (edit_ready p.registry.table r) (after (rows_in p) (edit_ready p.registry.table r))
+  pub none : first_some (causes (rows_in p) (edit_ready p.registry.table r)) ≡ None
   pub known : known_in p.verdicts ≡ map (verdict (rows_in p)) (rows_in p).statements
   pub empty : room.list ≡ []
-  pub spare : places (rows_in p) n ≤ room.spare
+  pub spare : places (rows_in p) (edit_ready p.registry.table r) ≤ room.spare
+  pub all : HasAll p r
 
--- and its plan, where it is a change of a deprecation
-pub record MayBeMade (p : Parts) (n : Numbered) (plan : Option Plan) (room : Filling Changed) : Type 0 where
-  -- it may be made
-  pub ready : IsReady p n room
-  -- and was planned
-  pub planned : IsPlanned (rows_in p).entries (edit_in p n) plan
+-- This edit is ready, and these rows will have the weight.
+pub record IsReadyEdit (p : Parts) (e : Edit) (r : ReadyEdit) : Type 0 where
+  pub is : edit_ready p.registry.table r.edit ≡ e
+  pub ready : IsReady p r.edit r.room
+  pub weight : r.weight ≡ weight (after (rows_in p) e)

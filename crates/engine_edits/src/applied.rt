@@ -1,24 +1,68 @@
-// Edits that have their numbers: they are foreseen, with room for what they change of the verdicts, and made, or refused.
-ghost use Rattle.std.specs.Prelude.{◌≡◌, ◌≤◌, [], IfErr, IfOk, OnErr, OnOk, map, true};
+// An edit in two stages: all memory is taken, and then the edit is made.
+ghost use Rattle.std.specs.Prelude.{◌≡◌, ◌≤◌, [], IfErr, IfOk, OnErr, map, true};
 ghost use Rattle.name_index.specs.cpe_steps.Within.{StepsWithin};
 ghost use Rattle.cpe_rows.specs.Prelude.{after, Applied, changes, is_valid_edit, Refuses, step, verdict};
+ghost use Rattle.cpe_rows.specs.declared.edit.Edit.{Edit};
 ghost use Rattle.verdicts.specs.Verdicts.{known_in};
 ghost use Rattle.engine_edits.specs.Checked.{IsChecked};
-ghost use Rattle.engine_edits.specs.Parts.{AreBeside, AreKept, edit_in, rows_in};
+ghost use Rattle.engine_edits.specs.Moved.{MadeReady, MayBeReady};
+ghost use Rattle.engine_edits.specs.Parts.{AreBeside, AreKept, AreOf, edit_in, rows_in};
+ghost use Rattle.engine_edits.specs.Planned.{IsPlanned};
 ghost use Rattle.engine_edits.specs.Looks.{edit_looks, made_looks};
-ghost use Rattle.engine_edits.specs.Ready.{places};
+ghost use Rattle.engine_edits.specs.Ready.{edit_ready, IsReady, IsReadyEdit, places};
 
 use crate::checked::Checked;
-use crate::made::make;
+use crate::checks::{make_check, make_dropped_check, ready_check};
+use crate::entries::{make_change, make_entry, ready_change, ready_entry};
+use crate::items::{make_drop, make_item, ready_drop, ready_item};
 use crate::numbered::Numbered;
 use crate::parts::Parts;
+use crate::ready::{Ready, ReadyEdit};
+use crate::statements::{make_removal, make_statement, ready_removal, ready_statement};
+use cpe_dictionary::Plan;
 use cpe_rows::{Changed, Edit, EditFault, List, Memory, Room};
 use name_index::Steps;
 use std::alloc::Global;
 use std::sync::ledger::Ledger;
 
 impl Parts {
-    /// Makes an edit, and returns which verdicts it changes. A refused edit takes no step.
+    /// Takes all memory for an edit without fault, and leaves the rows unchanged. What callers know of the verdicts is what they
+    /// are now. It looks at no name.
+    ///
+    /// # Errors
+    /// The first fault of the edit in the order of [`EditFault`], or that memory ran out. No name is held for the edit then.
+    pub fn ready(&mut self, alloc: Global, edit: Edit) -> Result<ReadyEdit, EditFault>
+        requires kept { AreKept self.old }
+        requires valid { is_valid_edit edit ≡ true }
+        ensures rows { rows_in self.new ≡ rows_in self.old }
+        ensures ready { IfOk result (IsReadyEdit self.new edit) }
+        ensures kept { OnErr result (AreKept self.new) }
+        ensures err { IfErr result (λ f. Refuses f (step (rows_in self.old) edit)) }
+    {
+        self.forget_changes();
+        let numbered = self.number(alloc, edit)?;
+        match foresee(self, alloc, &numbered) {
+            Ok((checked, room)) => Ok(ready_checked(self, alloc, numbered, checked, room)?),
+            Err(fault) => Err(self.refuse(numbered, fault)),
+        }
+    }
+
+    /// Makes an edit that is ready, and returns which verdicts it changes. It can't fail. Allocates: no.
+    pub fn make<L: Ledger>(&mut self, ready: ReadyEdit, steps: &mut Steps<L>) -> List<Changed>
+        requires { (e : Edit) × IsReadyEdit self.old e ready }
+        ensures kept { AreKept self.new }
+        ensures rows { (e : Edit) → IsReadyEdit self.old e ready → rows_in self.new ≡ after (rows_in self.old) e }
+        ensures changes { (e : Edit) → IsReadyEdit self.old e ready → result ≡ changes (rows_in self.old) e }
+        ensures steps { (e : Edit) → IsReadyEdit self.old e ready → StepsWithin steps.old steps.new (made_looks (rows_in self.old) e) }
+    {
+        cpe_rows::law::rows_stay_lawful();
+        let ReadyEdit { edit, weight, room } = ready;
+        let changes = make(self, edit, room, steps);
+        self.weight = weight;
+        changes
+    }
+
+    /// Makes an edit, and returns which verdicts it changes: [`Parts::ready`] and [`Parts::make`]. A refused edit takes no step.
     ///
     /// # Errors
     /// The first fault of the edit in the order of [`EditFault`], or that memory ran out. The rows are then the same, and no name
@@ -35,37 +79,16 @@ impl Parts {
         ensures applied { Applied (rows_in self.old) (rows_in self.new) edit result }
         ensures changes { IfOk result (λ cs. cs ≡ changes (rows_in self.old) edit) }
         ensures steps { StepsWithin steps.old steps.new (edit_looks (rows_in self.old) edit) }
+        ensures refused { OnErr result (steps.new ≡ steps.old) }
     {
-        self.forget_changes();
-        let numbered = self.number(alloc, edit)?;
-        apply_numbered(self, alloc, numbered, steps)
+        match self.ready(alloc, edit) {
+            Ok(ready) => Ok(self.make(ready, steps)),
+            Err(fault) => Err(fault),
+        }
     }
 }
 
-// Looks at an edit that has its numbers, and makes it if it has no fault.
-//
-// # Errors
-// The first fault of the edit, or that memory ran out. Its names are then released.
-fn apply_numbered<L: Ledger>(
-    parts: &mut Parts,
-    alloc: Global,
-    numbered: Numbered,
-    steps: &mut Steps<L>,
-) -> Result<List<Changed>, EditFault>
-    requires beside { AreBeside parts.old numbered }
-    requires known { known_in parts.old.verdicts ≡ map (verdict (rows_in parts.old)) (rows_in parts.old).statements }
-    ensures kept { AreKept parts.new }
-    ensures applied { Applied (rows_in parts.old) (rows_in parts.new) (edit_in parts.old numbered) result }
-    ensures changes { IfOk result (λ cs. cs ≡ changes (rows_in parts.old) (edit_in parts.old numbered)) }
-    ensures steps { StepsWithin steps.old steps.new (edit_looks (rows_in parts.old) (edit_in parts.old numbered)) }
-{
-    match foresee(parts, alloc, &numbered) {
-        Ok((checked, room)) => Ok(commit(parts, alloc, numbered, checked, room, steps)?),
-        Err(fault) => Err(parts.refuse(numbered, fault)),
-    }
-}
-
-// Looks at an edit, and makes room for the changes that it makes; it changes nothing.
+// Looks at an edit, and takes places for the verdicts that it changes. It changes nothing.
 //
 // # Errors
 // The first fault of the edit, or that memory ran out.
@@ -77,7 +100,7 @@ fn foresee(
     requires { AreBeside parts.now numbered.now }
     ensures checked { IfOk result (λ r. IsChecked (rows_in parts.now) (edit_in parts.now numbered.now) r.0) }
     ensures empty { IfOk result (λ r. r.1.list ≡ []) }
-    ensures spare { IfOk result (λ r. places (rows_in parts.now) numbered.now ≤ r.1.spare) }
+    ensures spare { IfOk result (λ r. places (rows_in parts.now) (edit_in parts.now numbered.now) ≤ r.1.spare) }
     ensures err { IfErr result (λ f. Refuses f (step (rows_in parts.now) (edit_in parts.now numbered.now))) }
 {
     let checked = parts.check(numbered)?;
@@ -85,13 +108,13 @@ fn foresee(
     Ok((checked, room))
 }
 
-// Room for the changes that an edit makes.
+// Places for the verdicts that an edit changes.
 //
 // # Errors
 // Only that memory ran out.
 fn room(parts: &Parts, alloc: Global, numbered: &Numbered) -> Result<Room<Changed>, Memory>
     ensures empty { IfOk result (λ r. r.list ≡ []) }
-    ensures spare { IfOk result (λ r. places (rows_in parts.now) numbered.now ≤ r.spare) }
+    ensures spare { IfOk result (λ r. places (rows_in parts.now) (edit_in parts.now numbered.now) ≤ r.spare) }
 {
     let mut room = Room::new(alloc);
     room.reserve(places(parts, numbered))?;
@@ -99,7 +122,7 @@ fn room(parts: &Parts, alloc: Global, numbered: &Numbered) -> Result<Room<Change
 }
 
 fn places(parts: &Parts, numbered: &Numbered) -> usize
-    ensures { result ≡ places (rows_in parts.now) numbered.now }
+    ensures { result ≡ places (rows_in parts.now) (edit_in parts.now numbered.now) }
 {
     match numbered {
         Numbered::Entry { .. } => 0,
@@ -108,31 +131,90 @@ fn places(parts: &Parts, numbered: &Numbered) -> usize
     }
 }
 
-// Makes an edit that has no fault, and answers which verdicts it changes.
+// Takes the rest of the memory for an edit that has no fault.
 //
 // # Errors
-// Only that memory ran out; the rows are then as they were.
-fn commit<L: Ledger>(
+// Only that memory ran out. The names of the edit are then released.
+fn ready_checked(
     parts: &mut Parts,
     alloc: Global,
     numbered: Numbered,
     checked: Checked,
     room: Room<Changed>,
-    steps: &mut Steps<L>,
-) -> Result<List<Changed>, Memory>
+) -> Result<ReadyEdit, Memory>
     requires beside { AreBeside parts.old numbered }
     requires checked { IsChecked (rows_in parts.old) (edit_in parts.old numbered) checked }
     requires known { known_in parts.old.verdicts ≡ map (verdict (rows_in parts.old)) (rows_in parts.old).statements }
     requires empty { room.list ≡ [] }
-    requires spare { places (rows_in parts.old) numbered ≤ room.spare }
-    ensures ok { OnOk result (rows_in parts.new ≡ after (rows_in parts.old) (edit_in parts.old numbered)) }
-    ensures err { OnErr result (rows_in parts.new ≡ rows_in parts.old) }
-    ensures kept { AreKept parts.new }
-    ensures changes { IfOk result (λ cs. cs ≡ changes (rows_in parts.old) (edit_in parts.old numbered)) }
-    ensures steps { StepsWithin steps.old steps.new (made_looks (rows_in parts.old) (edit_in parts.old numbered)) }
+    requires spare { places (rows_in parts.old) (edit_in parts.old numbered) ≤ room.spare }
+    ensures rows { rows_in parts.new ≡ rows_in parts.old }
+    ensures ready { IfOk result (IsReadyEdit parts.new (edit_in parts.old numbered)) }
+    ensures kept { OnErr result (AreKept parts.new) }
 {
-    cpe_rows::law::rows_stay_lawful();
-    let changes = make(parts, alloc, numbered, &checked.plan, room, steps)?;
-    parts.weight = checked.weight;
-    Ok(changes)
+    let Checked { plan, weight } = checked;
+    match ready_by_kind(parts, alloc, numbered, plan) {
+        Ok(edit) => Ok(ReadyEdit { edit, weight, room }),
+        Err(memory) => {
+            drop(room);
+            Err(memory)
+        }
+    }
+}
+
+// The same, by kind.
+fn ready_by_kind(
+    parts: &mut Parts,
+    alloc: Global,
+    numbered: Numbered,
+    plan: Option<Plan>,
+) -> Result<Ready, Memory>
+    requires ready { MayBeReady parts.old numbered }
+    requires planned { IsPlanned (rows_in parts.old).entries (edit_in parts.old numbered) plan }
+    ensures { MadeReady parts.old parts.new numbered result }
+{
+    match numbered {
+        Numbered::Entry {
+            id,
+            title,
+            provenance,
+        } => ready_entry(parts, id, title, provenance),
+        Numbered::Item(id) => ready_item(parts, alloc, id),
+        Numbered::DropItem(id) => ready_drop(parts, alloc, id),
+        Numbered::Change(change) => match plan {
+            Some(plan) => ready_change(parts, alloc, change, plan),
+            None => unreachable!(),
+        },
+        Numbered::PutStatement { statement, ids } => ready_statement(parts, alloc, statement, ids),
+        Numbered::DropStatement(id) => ready_removal(parts, alloc, id),
+        Numbered::SetCheck { key, result } => ready_check(parts, key, result),
+        Numbered::DropCheck(key) => Ok(Ready::DropCheck(key)),
+    }
+}
+
+// Makes an edit that is ready, by kind, and returns which verdicts it changes. It leaves the weight.
+fn make<L: Ledger>(
+    parts: &mut Parts,
+    edit: Ready,
+    room: Room<Changed>,
+    steps: &mut Steps<L>,
+) -> List<Changed>
+    requires { IsReady parts.old edit room }
+    ensures are { AreOf parts.new.registry parts.new.verdicts (after (rows_in parts.old) (edit_ready parts.old.registry.table edit)) [] }
+    ensures changes { result ≡ changes (rows_in parts.old) (edit_ready parts.old.registry.table edit) }
+    ensures steps { StepsWithin steps.old steps.new (made_looks (rows_in parts.old) (edit_ready parts.old.registry.table edit)) }
+{
+    match edit {
+        Ready::Entry {
+            id,
+            title,
+            provenance,
+        } => make_entry(parts, id, title, provenance, room),
+        Ready::Item { id, ends } => make_item(parts, id, ends, room, steps),
+        Ready::DropItem { id, ends } => make_drop(parts, id, ends, room, steps),
+        Ready::Change(change) => make_change(parts, change, room, steps),
+        Ready::PutStatement { addition, ids } => make_statement(parts, addition, ids, room, steps),
+        Ready::DropStatement { id, removal } => make_removal(parts, id, removal, room, steps),
+        Ready::SetCheck { key, truth } => make_check(parts, key, truth, room),
+        Ready::DropCheck(key) => make_dropped_check(parts, key, room),
+    }
 }

@@ -1,53 +1,55 @@
-// Results that are kept for checks, and dropped.
-ghost use Rattle.std.specs.Prelude.{◌≡◌, [], IfOk, OnErr, OnOk};
+// Results of checks that are set or removed.
+ghost use Rattle.std.specs.Prelude.{◌≡◌, []};
 ghost use Rattle.cpe_rows.specs.Prelude.{after, changes};
-ghost use Rattle.engine_edits.specs.Parts.{AreOf, edit_in, rows_in};
-ghost use Rattle.engine_edits.specs.Ready.{IsReady};
+ghost use Rattle.engine_edits.specs.Moved.{MadeReady, MayBeReady};
+ghost use Rattle.engine_edits.specs.Parts.{AreOf, rows_in};
+ghost use Rattle.engine_edits.specs.Ready.{edit_ready, IsReady};
 
 use crate::numbered::Numbered;
 use crate::parts::Parts;
+use crate::ready::Ready;
 use cpe_rows::{Changed, CheckKey, List, Memory, Room, Truth};
+use verdicts::ReadyResult;
 
-/// Keeps the result of a check.
+/// Takes all memory for the result of a check.
 ///
 /// # Errors
-/// Only that memory ran out; all is then as it was.
-pub(crate) fn set_check(
-    parts: &mut Parts,
-    key: CheckKey,
-    truth: Truth,
-    room: Room<Changed>,
-) -> Result<List<Changed>, Memory>
-    requires { IsReady parts.old (Numbered.SetCheck key truth) room }
-    ensures ok { OnOk result (AreOf parts.new.registry parts.new.verdicts (after (rows_in parts.old) (edit_in parts.old (Numbered.SetCheck key truth))) []) }
-    ensures err { OnErr result (AreOf parts.new.registry parts.new.verdicts (rows_in parts.old) []) }
-    ensures weight { parts.new.weight ≡ parts.old.weight }
-    ensures changes { IfOk result (λ cs. cs ≡ changes (rows_in parts.old) (edit_in parts.old (Numbered.SetCheck key truth))) }
+/// Only that memory ran out.
+pub(crate) fn ready_check(parts: &mut Parts, key: CheckKey, truth: Truth) -> Result<Ready, Memory>
+    requires { MayBeReady parts.old (Numbered.SetCheck key truth) }
+    ensures { MadeReady parts.old parts.new (Numbered.SetCheck key truth) result }
 {
-    match parts.verdicts.set_result(key, truth) {
-        Ok(()) => Ok(parts.verdicts.changes(room)),
-        Err(memory) => {
-            drop(room);
-            Err(memory)
-        }
+    match parts.verdicts.ready_result(key) {
+        Ok(key) => Ok(Ready::SetCheck { key, truth }),
+        Err(memory) => Err(memory),
     }
 }
 
-/// Drops the result of a check, which is there.
-///
-/// # Errors
-/// None.
-pub(crate) fn drop_check(
+/// Sets the result of a check, and changes the verdicts.
+pub(crate) fn make_check(
+    parts: &mut Parts,
+    key: ReadyResult,
+    truth: Truth,
+    room: Room<Changed>,
+) -> List<Changed>
+    requires { IsReady parts.old (Ready.SetCheck key truth) room }
+    ensures are { AreOf parts.new.registry parts.new.verdicts (after (rows_in parts.old) (edit_ready parts.old.registry.table (Ready.SetCheck key truth))) [] }
+    ensures changes { result ≡ changes (rows_in parts.old) (edit_ready parts.old.registry.table (Ready.SetCheck key truth)) }
+{
+    parts.verdicts.set_result(key, truth);
+    parts.verdicts.changes(room)
+}
+
+/// Removes the result of a check, and changes the verdicts.
+pub(crate) fn make_dropped_check(
     parts: &mut Parts,
     key: CheckKey,
     room: Room<Changed>,
-) -> Result<List<Changed>, Memory>
-    requires { IsReady parts.old (Numbered.DropCheck key) room }
-    ensures ok { OnOk result (AreOf parts.new.registry parts.new.verdicts (after (rows_in parts.old) (edit_in parts.old (Numbered.DropCheck key))) []) }
-    ensures err { OnErr result (AreOf parts.new.registry parts.new.verdicts (rows_in parts.old) []) }
-    ensures weight { parts.new.weight ≡ parts.old.weight }
-    ensures changes { IfOk result (λ cs. cs ≡ changes (rows_in parts.old) (edit_in parts.old (Numbered.DropCheck key))) }
+) -> List<Changed>
+    requires { IsReady parts.old (Ready.DropCheck key) room }
+    ensures are { AreOf parts.new.registry parts.new.verdicts (after (rows_in parts.old) (edit_ready parts.old.registry.table (Ready.DropCheck key))) [] }
+    ensures changes { result ≡ changes (rows_in parts.old) (edit_ready parts.old.registry.table (Ready.DropCheck key)) }
 {
     parts.verdicts.remove_result(&key);
-    Ok(parts.verdicts.changes(room))
+    parts.verdicts.changes(room)
 }

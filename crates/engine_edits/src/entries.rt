@@ -1,4 +1,4 @@
-// Entries that come, and changes of their deprecations: their numbers, faults and weight.
+// New entries, and changes of deprecations.
 ghost use Rattle.std.specs.Prelude.{◌≡◌, ◌≤◌, [], IfErr, IfOk, None, OnErr, true, OnOk};
 ghost use Rattle.cpe_rows.specs.Prelude.{causes, first_some, is_named, is_valid_edit, IsCause, most, after, changes, IsLawful};
 ghost use Rattle.cpe_rows.specs.declared.edit.Edit.TheVariants as edit;
@@ -12,13 +12,16 @@ ghost use Rattle.engine_edits.specs.Planned.{HasPlan};
 ghost use Rattle.name_index.specs.cpe_steps.Within.{StepsWithin};
 ghost use Rattle.engine_edits.specs.Prelude.{IsReadyLead, known_in};
 ghost use Rattle.cpe_dictionary.specs.Plans.{IsPlan};
+ghost use Rattle.verdicts.specs.cpe_registry.Registered.{HasChangeRoom};
 ghost use Rattle.engine_edits.specs.Looks.{made_looks};
-ghost use Rattle.engine_edits.specs.Ready.{IsReady};
+ghost use Rattle.engine_edits.specs.Moved.{MadeReady, MayBeReady, SameParts};
+ghost use Rattle.engine_edits.specs.Ready.{edit_ready, IsReady};
 
 use crate::holds::release_all;
 use crate::numbered::{Change, Numbered, Turn};
 use crate::parts::Parts;
-use cpe_dictionary::{Plan, edits_by_number};
+use crate::ready::{Ready, ReadyChange};
+use cpe_dictionary::{NoteRoom, Plan, edits_by_number};
 use cpe_rows::{Changed, Date, EditFault, Entry, List, Memory, Provenance, Room, Text, Wfn};
 use cpe_weight::with_deprecation;
 use name_index::{NameId, Steps};
@@ -140,134 +143,158 @@ fn let_go(title: Text, provenance: Provenance, memory: Memory) -> Memory {
     memory
 }
 
-/// Puts an entry last that has no fault, or lets its name go. It changes no verdict.
+// ---- the first stage: all memory
+
+/// Takes all memory for a new entry, whose name is held.
 ///
 /// # Errors
-/// Only that memory ran out; the rows are then as they were.
-pub(crate) fn add_entry(
+/// Only that memory ran out. The name is then released.
+pub(crate) fn ready_entry(
+    parts: &mut Parts,
+    id: NameId,
+    title: Text,
+    provenance: Provenance,
+) -> Result<Ready, Memory>
+    requires { MayBeReady parts.old (Numbered.Entry id title provenance) }
+    ensures { MadeReady parts.old parts.new (Numbered.Entry id title provenance) result }
+{
+    match parts.registry.reserve_entry(id) {
+        Ok(()) => Ok(Ready::Entry {
+            id,
+            title,
+            provenance,
+        }),
+        Err(memory) => {
+            release_all(&mut parts.registry, &[id]);
+            Err(let_go(title, provenance, memory))
+        }
+    }
+}
+
+/// Takes all memory for a planned change of a deprecation, and finds what it changes of items and facts.
+///
+/// # Errors
+/// Only that memory ran out.
+pub(crate) fn ready_change(
+    parts: &mut Parts,
+    alloc: Global,
+    change: Change,
+    plan: Plan,
+) -> Result<Ready, Memory>
+    requires ready { MayBeReady parts.old (Numbered.Change change) }
+    requires plan { IsPlan (rows_in parts.old).entries (name_in parts.old.registry.table change.id) (given change.turn) plan }
+    ensures { MadeReady parts.old parts.new (Numbered.Change change) result }
+{
+    cpe_rows::law::rows_stay_lawful();
+    match reserve_change(parts, alloc, &change, &plan) {
+        Ok((note, lead)) => Ok(Ready::Change(ReadyChange {
+            change,
+            plan,
+            lead,
+            note,
+        })),
+        Err(memory) => {
+            drop(change);
+            drop(plan);
+            Err(memory)
+        }
+    }
+}
+
+// The room for the note of a change, and what the change changes of items and facts.
+fn reserve_change(
+    parts: &mut Parts,
+    alloc: Global,
+    change: &Change,
+    plan: &Plan,
+) -> Result<(NoteRoom, Lead), Memory>
+    requires live { IsLive parts.old.registry.table change.now.id.0 }
+    requires lawful { IsLawful (rows_in parts.old) }
+    requires are { AreOf parts.old.registry parts.old.verdicts (rows_in parts.old) [] }
+    requires plan { IsPlan (rows_in parts.old).entries (name_in parts.old.registry.table change.now.id) (given change.now.turn) plan.now }
+    ensures same { SameParts parts.old parts.new }
+    ensures table { parts.new.registry.table ≡ parts.old.registry.table }
+    ensures are { AreOf parts.new.registry parts.new.verdicts (rows_in parts.old) [] }
+    ensures room { IfOk result (λ r. HasChangeRoom parts.new.registry plan.now r.0) }
+    ensures lead { IfOk result (λ r. IsReadyLead parts.new.verdicts parts.new.registry.table (rows_in parts.old) (after (rows_in parts.old) (edit_in parts.old (Numbered.Change change.now))).entries (name_in parts.old.registry.table change.now.id) r.1) }
+{
+    edits_by_number();
+    let note = parts.registry.reserve_change(plan)?;
+    let lead = parts
+        .verdicts
+        .ready_lead(alloc, &parts.registry, change.id, plan)?;
+    Ok((note, lead))
+}
+
+// ---- the second stage: the change
+
+/// Adds an entry, which takes over the hold of its name. It changes no verdict.
+pub(crate) fn make_entry(
     parts: &mut Parts,
     id: NameId,
     title: Text,
     provenance: Provenance,
     room: Room<Changed>,
-) -> Result<List<Changed>, Memory>
-    requires { IsReady parts.old (Numbered.Entry id title provenance) room }
-    ensures ok { OnOk result (AreOf parts.new.registry parts.new.verdicts (after (rows_in parts.old) (edit_in parts.old (Numbered.Entry id title provenance))) []) }
-    ensures err { OnErr result (AreOf parts.new.registry parts.new.verdicts (rows_in parts.old) []) }
-    ensures weight { parts.new.weight ≡ parts.old.weight }
-    ensures changes { IfOk result (λ cs. cs ≡ changes (rows_in parts.old) (edit_in parts.old (Numbered.Entry id title provenance))) }
+) -> List<Changed>
+    requires { IsReady parts.old (Ready.Entry id title provenance) room }
+    ensures are { AreOf parts.new.registry parts.new.verdicts (after (rows_in parts.old) (edit_ready parts.old.registry.table (Ready.Entry id title provenance))) [] }
+    ensures changes { result ≡ changes (rows_in parts.old) (edit_ready parts.old.registry.table (Ready.Entry id title provenance)) }
 {
     cpe_rows::touching::entries_change_nothing();
     fact_laws::law::entries_lead_to_themselves();
     fact_laws::law::lists_are_shown();
     cpe_rows::law::rows_stay_lawful();
     verdicts::law::new_entries_change_no_verdict();
-    match parts.registry.add_entry(id, title, provenance) {
-        Ok(()) => Ok(room.into_list()),
-        Err(memory) => {
-            drop(room);
-            release_all(&mut parts.registry, &[id]);
-            Err(memory)
-        }
-    }
+    parts.registry.add_entry(id, title, provenance);
+    room.into_list()
 }
 
-/// Makes the planned change of a deprecation.
-///
-/// # Errors
-/// Only that memory ran out; the rows are then as they were.
-pub(crate) fn change_entry<L: Ledger>(
+/// Changes the deprecation of an entry, and then the verdicts.
+pub(crate) fn make_change<L: Ledger>(
     parts: &mut Parts,
-    alloc: Global,
-    change: Change,
-    plan: &Option<Plan>,
+    change: ReadyChange,
     room: Room<Changed>,
     steps: &mut Steps<L>,
-) -> Result<List<Changed>, Memory>
-    requires ready { IsReady parts.old (Numbered.Change change) room }
-    requires planned { HasPlan (rows_in parts.old).entries (name_in parts.old.registry.table change.id) (given change.turn) plan.now }
-    ensures ok { OnOk result (AreOf parts.new.registry parts.new.verdicts (after (rows_in parts.old) (edit_in parts.old (Numbered.Change change))) []) }
-    ensures err { OnErr result (AreOf parts.new.registry parts.new.verdicts (rows_in parts.old) []) }
-    ensures weight { parts.new.weight ≡ parts.old.weight }
-    ensures changes { IfOk result (λ cs. cs ≡ changes (rows_in parts.old) (edit_in parts.old (Numbered.Change change))) }
-    ensures steps { StepsWithin steps.old steps.new (made_looks (rows_in parts.old) (edit_in parts.old (Numbered.Change change))) }
+) -> List<Changed>
+    requires { IsReady parts.old (Ready.Change change) room }
+    ensures are { AreOf parts.new.registry parts.new.verdicts (after (rows_in parts.old) (edit_ready parts.old.registry.table (Ready.Change change))) [] }
+    ensures changes { result ≡ changes (rows_in parts.old) (edit_ready parts.old.registry.table (Ready.Change change)) }
+    ensures steps { StepsWithin steps.old steps.new (made_looks (rows_in parts.old) (edit_ready parts.old.registry.table (Ready.Change change))) }
 {
     cpe_rows::law::rows_stay_lawful();
-    let Some(plan) = plan else {
-        unreachable!();
-    };
-    match make_change(parts, alloc, change, plan, steps) {
-        Ok(()) => Ok(parts.verdicts.changes(room)),
-        Err(memory) => {
-            drop(room);
-            Err(memory)
-        }
-    }
+    let ReadyChange {
+        change,
+        plan,
+        lead,
+        note,
+    } = change;
+    lead_change(parts, change, &plan, lead, note, steps);
+    parts.verdicts.changes(room)
 }
 
-// The same, without the changes of verdicts: what it moves is found before it is made.
-fn make_change<L: Ledger>(
-    parts: &mut Parts,
-    alloc: Global,
-    change: Change,
-    plan: &Plan,
-    steps: &mut Steps<L>,
-) -> Result<(), Memory>
-    requires live { IsLive parts.old.registry.table change.id.0 }
-    requires lawful { IsLawful (rows_in parts.old) }
-    requires are { AreOf parts.old.registry parts.old.verdicts (rows_in parts.old) [] }
-    requires plan { IsPlan (rows_in parts.old).entries (name_in parts.old.registry.table change.id) (given change.turn) plan.now }
-    requires left { IsLawful (after (rows_in parts.old) (edit_in parts.old (Numbered.Change change))) }
-    ensures ok { OnOk result (AreOf parts.new.registry parts.new.verdicts (after (rows_in parts.old) (edit_in parts.old (Numbered.Change change))) []) }
-    ensures err { OnErr result (AreOf parts.new.registry parts.new.verdicts (rows_in parts.old) []) }
-    ensures known { known_in parts.new.verdicts ≡ known_in parts.old.verdicts }
-    ensures weight { parts.new.weight ≡ parts.old.weight }
-    ensures steps { StepsWithin steps.old steps.new (made_looks (rows_in parts.old) (edit_in parts.old (Numbered.Change change))) }
-{
-    edits_by_number();
-    match parts
-        .verdicts
-        .ready_lead(alloc, &parts.registry, change.id, plan)
-    {
-        Ok(lead) => lead_change(parts, change, plan, lead, steps),
-        Err(memory) => {
-            drop(change);
-            Err(memory)
-        }
-    }
-}
-
-// Makes it, and moves what was found.
+// The same, without the changes of verdicts.
 fn lead_change<L: Ledger>(
     parts: &mut Parts,
     change: Change,
     plan: &Plan,
     lead: Lead,
+    note_room: NoteRoom,
     steps: &mut Steps<L>,
-) -> Result<(), Memory>
+)
     requires lawful { IsLawful (rows_in parts.old) }
     requires are { AreOf parts.old.registry parts.old.verdicts (rows_in parts.old) [] }
     requires plan { IsPlan (rows_in parts.old).entries (name_in parts.old.registry.table change.id) (given change.turn) plan.now }
     requires left { IsLawful (after (rows_in parts.old) (edit_in parts.old (Numbered.Change change))) }
     requires lead { IsReadyLead parts.old.verdicts parts.old.registry.table (rows_in parts.old) (after (rows_in parts.old) (edit_in parts.old (Numbered.Change change))).entries (name_in parts.old.registry.table change.id) lead }
-    ensures ok { OnOk result (AreOf parts.new.registry parts.new.verdicts (after (rows_in parts.old) (edit_in parts.old (Numbered.Change change))) []) }
-    ensures err { OnErr result (AreOf parts.new.registry parts.new.verdicts (rows_in parts.old) []) }
+    requires room { HasChangeRoom parts.old.registry plan.now note_room }
+    ensures are { AreOf parts.new.registry parts.new.verdicts (after (rows_in parts.old) (edit_in parts.old (Numbered.Change change))) [] }
     ensures known { known_in parts.new.verdicts ≡ known_in parts.old.verdicts }
-    ensures weight { parts.new.weight ≡ parts.old.weight }
     ensures steps { StepsWithin steps.old steps.new (made_looks (rows_in parts.old) (edit_in parts.old (Numbered.Change change))) }
 {
     edits_by_number();
     cpe_rows::touching::deprecations_touch();
     fact_laws::law::deprecations_lead_elsewhere();
     let (deprecation, note) = change.into_parts();
-    match parts.registry.change(plan, deprecation, Some(note)) {
-        Ok(()) => {
-            parts.verdicts.lead(parts.registry.table(), lead, steps);
-            Ok(())
-        }
-        Err(memory) => {
-            drop(lead);
-            Err(memory)
-        }
-    }
+    parts.registry.change(plan, deprecation, note, note_room);
+    parts.verdicts.lead(parts.registry.table(), lead, steps);
 }

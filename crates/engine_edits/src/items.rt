@@ -1,4 +1,4 @@
-// Items that come and go get their numbers.
+// Items that are added or removed.
 ghost use Rattle.std.specs.Prelude.{◌≡◌, ◌∷◌, [], IfErr, IfOk, OnErr, true, OnOk, false};
 ghost use Rattle.cpe_rows.specs.Prelude.{causes, first_some, is_lower, IsCause, after, changes, is_same, IsLawful};
 ghost use Rattle.cpe_rows.specs.declared.edit.Edit.TheVariants as edit;
@@ -11,11 +11,13 @@ ghost use Rattle.name_index.specs.cpe_steps.Within.{StepsWithin};
 ghost use Rattle.engine_edits.specs.Prelude.{known_in};
 ghost use Rattle.verdicts.specs.facts.Looks.{item_looks};
 ghost use Rattle.engine_edits.specs.Looks.{made_looks};
-ghost use Rattle.engine_edits.specs.Ready.{IsReady};
+ghost use Rattle.engine_edits.specs.Moved.{MadeReady, MayBeReady, SameParts};
+ghost use Rattle.engine_edits.specs.Ready.{edit_ready, IsReady, IsReadyItem};
 
 use crate::holds::release_all;
 use crate::numbered::Numbered;
 use crate::parts::Parts;
+use crate::ready::Ready;
 use cpe_rows::{Changed, EditFault, List, Memory, Room, Wfn};
 use name_index::{NameId, Steps};
 use std::alloc::Global;
@@ -65,114 +67,99 @@ impl Parts {
     }
 }
 
-/// Puts an item last that has no fault, or lets its name go.
+// ---- the first stage: all memory
+
+/// Takes all memory for a new item, whose name is held.
 ///
 /// # Errors
-/// Only that memory ran out; the rows are then as they were.
-pub(crate) fn add_item<L: Ledger>(
-    parts: &mut Parts,
-    alloc: Global,
-    id: NameId,
-    room: Room<Changed>,
-    steps: &mut Steps<L>,
-) -> Result<List<Changed>, Memory>
-    requires { IsReady parts.old (Numbered.Item id) room }
-    ensures ok { OnOk result (AreOf parts.new.registry parts.new.verdicts (after (rows_in parts.old) (edit_in parts.old (Numbered.Item id))) []) }
-    ensures err { OnErr result (AreOf parts.new.registry parts.new.verdicts (rows_in parts.old) []) }
-    ensures weight { parts.new.weight ≡ parts.old.weight }
-    ensures changes { IfOk result (λ cs. cs ≡ changes (rows_in parts.old) (edit_in parts.old (Numbered.Item id))) }
-    ensures steps { StepsWithin steps.old steps.new (made_looks (rows_in parts.old) (edit_in parts.old (Numbered.Item id))) }
+/// Only that memory ran out. The name is then released.
+pub(crate) fn ready_item(parts: &mut Parts, alloc: Global, id: NameId) -> Result<Ready, Memory>
+    requires { MayBeReady parts.old (Numbered.Item id) }
+    ensures { MadeReady parts.old parts.new (Numbered.Item id) result }
 {
-    match bring_item(parts, alloc, id, steps) {
-        Ok(()) => Ok(parts.verdicts.changes(room)),
+    match reserve_item(parts, alloc, id) {
+        Ok(ends) => Ok(Ready::Item { id, ends }),
         Err(memory) => {
-            drop(room);
             release_all(&mut parts.registry, &[id]);
             Err(memory)
         }
     }
 }
 
-// Puts an item last that has no fault. Its name is held still where memory runs out.
-fn bring_item<L: Ledger>(
-    parts: &mut Parts,
-    alloc: Global,
-    id: NameId,
-    steps: &mut Steps<L>,
-) -> Result<(), Memory>
+// The ends of a new item, with room for it in the registry and on the boards. If memory ran out, its name is still held.
+fn reserve_item(parts: &mut Parts, alloc: Global, id: NameId) -> Result<Vec<NameId>, Memory>
     requires live { IsLive parts.old.registry.table id.0 }
     requires lawful { IsLawful (rows_in parts.old) }
     requires are { AreOf parts.old.registry parts.old.verdicts (rows_in parts.old) (name_in parts.old.registry.table id ∷ []) }
-    requires absent { list_any (is_same (name_in parts.old.registry.table id)) (rows_in parts.old).items ≡ false }
-    ensures ok { OnOk result (AreOf parts.new.registry parts.new.verdicts (after (rows_in parts.old) (edit.Item (name_in parts.old.registry.table id))) []) }
+    ensures same { SameParts parts.old parts.new }
     ensures table { parts.new.registry.table ≡ parts.old.registry.table }
-    ensures err { OnErr result (AreOf parts.new.registry parts.new.verdicts (rows_in parts.old) (name_in parts.old.registry.table id ∷ [])) }
-    ensures known { known_in parts.new.verdicts ≡ known_in parts.old.verdicts }
-    ensures weight { parts.new.weight ≡ parts.old.weight }
-    ensures steps { StepsWithin steps.old steps.new (item_looks (rows_in parts.old) (name_in parts.old.registry.table id)) }
+    ensures are { AreOf parts.new.registry parts.new.verdicts (rows_in parts.old) (name_in parts.old.registry.table id ∷ []) }
+    ensures ready { IfOk result (λ ends. IsReadyItem parts.new id ends.items) }
 {
-    fact_laws::law::items_arrive();
     fact_laws::law::lawful_rows_ask_few();
-    fact_laws::law::lists_are_shown();
     let ends = parts.registry.ends_of(alloc, id)?;
     parts.verdicts.reserve_item(parts.registry.table(), &ends)?;
-    parts.registry.add_item(id)?;
-    parts
-        .verdicts
-        .add_item(parts.registry.table(), id, &ends, steps);
-    Ok(())
+    parts.registry.reserve_item(id)?;
+    Ok(ends)
 }
 
-/// Drops an item, which is there, and lets its name go.
+/// Finds the ends of an item that is to be removed.
 ///
 /// # Errors
-/// Only that memory ran out; all is then as it was.
-pub(crate) fn drop_item<L: Ledger>(
-    parts: &mut Parts,
-    alloc: Global,
-    id: NameId,
-    room: Room<Changed>,
-    steps: &mut Steps<L>,
-) -> Result<List<Changed>, Memory>
-    requires { IsReady parts.old (Numbered.DropItem id) room }
-    ensures ok { OnOk result (AreOf parts.new.registry parts.new.verdicts (after (rows_in parts.old) (edit_in parts.old (Numbered.DropItem id))) []) }
-    ensures err { OnErr result (AreOf parts.new.registry parts.new.verdicts (rows_in parts.old) []) }
-    ensures weight { parts.new.weight ≡ parts.old.weight }
-    ensures changes { IfOk result (λ cs. cs ≡ changes (rows_in parts.old) (edit_in parts.old (Numbered.DropItem id))) }
-    ensures steps { StepsWithin steps.old steps.new (made_looks (rows_in parts.old) (edit_in parts.old (Numbered.DropItem id))) }
+/// Only that memory ran out.
+pub(crate) fn ready_drop(parts: &Parts, alloc: Global, id: NameId) -> Result<Ready, Memory>
+    requires { MayBeReady parts.now (Numbered.DropItem id) }
+    ensures { MadeReady parts.now parts.now (Numbered.DropItem id) result }
 {
-    match take_item(parts, alloc, id, steps) {
-        Ok(()) => Ok(parts.verdicts.changes(room)),
-        Err(memory) => {
-            drop(room);
-            Err(memory)
-        }
+    match parts.registry.ends_of(alloc, id) {
+        Ok(ends) => Ok(Ready::DropItem { id, ends }),
+        Err(memory) => Err(memory),
     }
 }
 
-// The same, without the changes.
-fn take_item<L: Ledger>(
+// ---- the second stage: the change
+
+/// Adds an item, which takes over the hold of its name, and changes the verdicts.
+pub(crate) fn make_item<L: Ledger>(
     parts: &mut Parts,
-    alloc: Global,
     id: NameId,
+    ends: Vec<NameId>,
+    room: Room<Changed>,
     steps: &mut Steps<L>,
-) -> Result<(), Memory>
-    requires live { IsLive parts.old.registry.table id.0 }
-    requires are { AreOf parts.old.registry parts.old.verdicts (rows_in parts.old) [] }
-    requires has { list_any (is_same (name_in parts.old.registry.table id)) (rows_in parts.old).items ≡ true }
-    ensures ok { OnOk result (AreOf parts.new.registry parts.new.verdicts (after (rows_in parts.old) (edit.DropItem (name_in parts.old.registry.table id))) []) }
-    ensures err { OnErr result (AreOf parts.new.registry parts.new.verdicts (rows_in parts.old) []) }
-    ensures known { known_in parts.new.verdicts ≡ known_in parts.old.verdicts }
-    ensures weight { parts.new.weight ≡ parts.old.weight }
-    ensures steps { StepsWithin steps.old steps.new (item_looks (rows_in parts.old) (name_in parts.old.registry.table id)) }
+) -> List<Changed>
+    requires { IsReady parts.old (Ready.Item id ends) room }
+    ensures are { AreOf parts.new.registry parts.new.verdicts (after (rows_in parts.old) (edit_ready parts.old.registry.table (Ready.Item id ends))) [] }
+    ensures changes { result ≡ changes (rows_in parts.old) (edit_ready parts.old.registry.table (Ready.Item id ends)) }
+    ensures steps { StepsWithin steps.old steps.new (made_looks (rows_in parts.old) (edit_ready parts.old.registry.table (Ready.Item id ends))) }
 {
     fact_laws::law::items_arrive();
     fact_laws::law::lists_are_shown();
-    let ends = parts.registry.ends_of(alloc, id)?;
+    parts.registry.add_item(id);
+    parts
+        .verdicts
+        .add_item(parts.registry.table(), id, &ends, steps);
+    parts.verdicts.changes(room)
+}
+
+/// Removes an item, releases its name, and changes the verdicts.
+pub(crate) fn make_drop<L: Ledger>(
+    parts: &mut Parts,
+    id: NameId,
+    ends: Vec<NameId>,
+    room: Room<Changed>,
+    steps: &mut Steps<L>,
+) -> List<Changed>
+    requires { IsReady parts.old (Ready.DropItem id ends) room }
+    ensures are { AreOf parts.new.registry parts.new.verdicts (after (rows_in parts.old) (edit_ready parts.old.registry.table (Ready.DropItem id ends))) [] }
+    ensures changes { result ≡ changes (rows_in parts.old) (edit_ready parts.old.registry.table (Ready.DropItem id ends)) }
+    ensures steps { StepsWithin steps.old steps.new (made_looks (rows_in parts.old) (edit_ready parts.old.registry.table (Ready.DropItem id ends))) }
+{
+    fact_laws::law::items_arrive();
+    fact_laws::law::lists_are_shown();
     parts
         .verdicts
         .remove_item(parts.registry.table(), id, &ends, steps);
     parts.registry.drop_item(id);
     release_all(&mut parts.registry, &[id]);
-    Ok(())
+    parts.verdicts.changes(room)
 }

@@ -18,10 +18,11 @@ mod edits;
 mod entries;
 mod holds;
 mod items;
-mod made;
 mod numbered;
 mod parts;
+mod ready;
 mod statements;
 
 pub use cpe_inventory::ItemSlots;
 pub use parts::Parts;
+pub use ready::ReadyEdit;

@@ -1,4 +1,4 @@
-// Statements that come and go: their numbers, faults and weight.
+// Statements that are added or removed.
 ghost use Rattle.std.specs.Prelude.{◌≡◌, ◌≤◌, [], IfErr, IfOk, None, OnErr, true, ◌<◌, ◌^◌, ◌∷◌, IfSome, OnOk, Some, slice_get, option_map};
 ghost use Rattle.std.specs.List.{list_any};
 ghost use Rattle.cpe_rows.specs.Prelude.{causes, first_some, has_id, is_valid_edit, IsCause, most, after, change, changes, IsLawful, Rows, verdict};
@@ -10,19 +10,22 @@ ghost use Rattle.engine_edits.specs.Numbered.{IsFound, names_coming};
 ghost use Rattle.engine_edits.specs.Parts.{AreKept, AreOf, edit_in, rows_in};
 ghost use Rattle.name_index.specs.Prelude.{Names, StepsWithin};
 ghost use Rattle.verdicts.specs.Verdicts.{HasVerdicts};
+ghost use Rattle.verdicts.specs.Removal.{IsRemoval};
 ghost use Rattle.engine_edits.specs.Looks.{made_looks};
-ghost use Rattle.engine_edits.specs.Ready.{IsReady};
+ghost use Rattle.engine_edits.specs.Moved.{MadeReady, MayBeReady};
+ghost use Rattle.engine_edits.specs.Ready.{edit_ready, IsReady};
 ghost use Rattle.engine_edits.specs.Told.{dropped_by, put_by};
 
 use crate::holds::{hold_facts, release_all};
 use crate::numbered::Numbered;
 use crate::parts::Parts;
+use crate::ready::Ready;
 use cpe_rows::{Changed, EditFault, List, Memory, Room, Statement, Text, Truth};
 use cpe_weight::with_statement;
 use name_index::{NameId, Steps};
 use std::alloc::Global;
 use std::sync::ledger::Ledger;
-use verdicts::Verdicts;
+use verdicts::{Addition, Removal, Verdicts};
 
 impl Parts {
     /// A statement that comes: the names of its fact references are held. Where it has a fault nothing is held.
@@ -98,101 +101,110 @@ impl Parts {
     }
 }
 
-/// Puts a statement last that has no fault, or lets the names of its fact references go. It alone changes, without a verdict
-/// before.
+// ---- the first stage: all memory
+
+/// Takes all memory for a new statement. The names of its fact references are held.
 ///
 /// # Errors
-/// Only that memory ran out; the rows are then as they were.
-pub(crate) fn put_statement<L: Ledger>(
+/// Only that memory ran out. The names are then released.
+pub(crate) fn ready_statement(
     parts: &mut Parts,
     alloc: Global,
     statement: Statement,
     ids: Vec<NameId>,
-    room: Room<Changed>,
-    steps: &mut Steps<L>,
-) -> Result<List<Changed>, Memory>
-    requires { IsReady parts.old (Numbered.PutStatement statement ids) room }
-    ensures ok { OnOk result (AreOf parts.new.registry parts.new.verdicts (after (rows_in parts.old) (edit_in parts.old (Numbered.PutStatement statement ids))) []) }
-    ensures err { OnErr result (AreOf parts.new.registry parts.new.verdicts (rows_in parts.old) []) }
-    ensures weight { parts.new.weight ≡ parts.old.weight }
-    ensures changes { IfOk result (λ cs. cs ≡ changes (rows_in parts.old) (edit_in parts.old (Numbered.PutStatement statement ids))) }
-    ensures steps { StepsWithin steps.old steps.new (made_looks (rows_in parts.old) (edit_in parts.old (Numbered.PutStatement statement ids))) }
+) -> Result<Ready, Memory>
+    requires { MayBeReady parts.old (Numbered.PutStatement statement ids) }
+    ensures { MadeReady parts.old parts.new (Numbered.PutStatement statement ids) result }
 {
-    fact_laws::law::statements_ask();
-    cpe_rows::law::statements_stand_alone();
-    fact_laws::law::lists_are_shown();
-    let place = parts.verdicts.len();
     match parts
         .verdicts
         .ready_statement(alloc, &parts.registry, statement, &ids)
     {
-        Ok(addition) => {
-            let table = parts.registry.table();
-            parts.verdicts.add_statement(table, addition, steps);
-            Ok(put_change(room, place, truth_at(&parts.verdicts, place)))
-        }
+        Ok(addition) => Ok(Ready::PutStatement { addition, ids }),
         Err(memory) => {
-            drop(room);
             release_all(&mut parts.registry, &ids);
             Err(memory)
         }
     }
 }
 
-/// Drops the statement of an id, which is there, and lets the names of its fact references go. It alone changes, without a
-/// verdict after.
+/// Finds what is removed with the statement of this id.
 ///
 /// # Errors
-/// Only that memory ran out; all is then as it was.
-pub(crate) fn drop_statement<L: Ledger>(
-    parts: &mut Parts,
-    alloc: Global,
-    id: Text,
-    room: Room<Changed>,
-    steps: &mut Steps<L>,
-) -> Result<List<Changed>, Memory>
-    requires { IsReady parts.old (Numbered.DropStatement id) room }
-    ensures ok { OnOk result (AreOf parts.new.registry parts.new.verdicts (after (rows_in parts.old) (edit_in parts.old (Numbered.DropStatement id))) []) }
-    ensures err { OnErr result (AreOf parts.new.registry parts.new.verdicts (rows_in parts.old) []) }
-    ensures weight { parts.new.weight ≡ parts.old.weight }
-    ensures changes { IfOk result (λ cs. cs ≡ changes (rows_in parts.old) (edit_in parts.old (Numbered.DropStatement id))) }
-    ensures steps { StepsWithin steps.old steps.new (made_looks (rows_in parts.old) (edit_in parts.old (Numbered.DropStatement id))) }
+/// Only that memory ran out.
+pub(crate) fn ready_removal(parts: &Parts, alloc: Global, id: Text) -> Result<Ready, Memory>
+    requires { MayBeReady parts.now (Numbered.DropStatement id) }
+    ensures { MadeReady parts.now parts.now (Numbered.DropStatement id) result }
 {
-    cpe_rows::law::statements_stand_alone();
-    let place = parts.verdicts.place_of(&id);
-    let truth = parts.verdicts.verdict(&id);
-    let changes = dropped_change(room, place, truth);
-    match take_statement(parts, alloc, &id, steps) {
-        Ok(()) => Ok(changes),
+    match parts.verdicts.ready_removal(alloc, &id) {
+        Ok(removal) => Ok(Ready::DropStatement { id, removal }),
         Err(memory) => {
-            drop(changes);
+            drop(id);
             Err(memory)
         }
     }
 }
 
-// The same, without the change.
-fn take_statement<L: Ledger>(
+// ---- the second stage: the change
+
+/// Adds a statement. Its verdict alone changes, which was none.
+pub(crate) fn make_statement<L: Ledger>(
     parts: &mut Parts,
-    alloc: Global,
-    id: &Text,
+    addition: Addition,
+    ids: Vec<NameId>,
+    room: Room<Changed>,
     steps: &mut Steps<L>,
-) -> Result<(), Memory>
+) -> List<Changed>
+    requires { IsReady parts.old (Ready.PutStatement addition ids) room }
+    ensures are { AreOf parts.new.registry parts.new.verdicts (after (rows_in parts.old) (edit_ready parts.old.registry.table (Ready.PutStatement addition ids))) [] }
+    ensures changes { result ≡ changes (rows_in parts.old) (edit_ready parts.old.registry.table (Ready.PutStatement addition ids)) }
+    ensures steps { StepsWithin steps.old steps.new (made_looks (rows_in parts.old) (edit_ready parts.old.registry.table (Ready.PutStatement addition ids))) }
+{
+    fact_laws::law::statements_ask();
+    cpe_rows::law::statements_stand_alone();
+    fact_laws::law::lists_are_shown();
+    let place = parts.verdicts.len();
+    let table = parts.registry.table();
+    parts.verdicts.add_statement(table, addition, steps);
+    drop(ids);
+    put_change(room, place, truth_at(&parts.verdicts, place))
+}
+
+/// Removes the statement of an id, and releases the names of its fact references. Its verdict alone changes: there is none any
+/// more.
+pub(crate) fn make_removal<L: Ledger>(
+    parts: &mut Parts,
+    id: Text,
+    removal: Removal,
+    room: Room<Changed>,
+    steps: &mut Steps<L>,
+) -> List<Changed>
+    requires { IsReady parts.old (Ready.DropStatement id removal) room }
+    ensures are { AreOf parts.new.registry parts.new.verdicts (after (rows_in parts.old) (edit_ready parts.old.registry.table (Ready.DropStatement id removal))) [] }
+    ensures changes { result ≡ changes (rows_in parts.old) (edit_ready parts.old.registry.table (Ready.DropStatement id removal)) }
+    ensures steps { StepsWithin steps.old steps.new (made_looks (rows_in parts.old) (edit_ready parts.old.registry.table (Ready.DropStatement id removal))) }
+{
+    cpe_rows::law::statements_stand_alone();
+    let place = parts.verdicts.place_of(&id);
+    let truth = parts.verdicts.verdict(&id);
+    take_statement(parts, &id, removal, steps);
+    dropped_change(room, place, truth)
+}
+
+// The same, without the change.
+fn take_statement<L: Ledger>(parts: &mut Parts, id: &Text, removal: Removal, steps: &mut Steps<L>)
     requires lawful { IsLawful (rows_in parts.old) }
     requires are { AreOf parts.old.registry parts.old.verdicts (rows_in parts.old) [] }
     requires has { list_any (has_id id.now) (rows_in parts.old).statements ≡ true }
-    ensures ok { OnOk result (AreOf parts.new.registry parts.new.verdicts (after (rows_in parts.old) (edit.DropStatement id.now)) []) }
-    ensures err { OnErr result (AreOf parts.new.registry parts.new.verdicts (rows_in parts.old) []) }
-    ensures weight { parts.new.weight ≡ parts.old.weight }
+    requires removal { IsRemoval parts.old.verdicts id.now removal }
+    ensures are { AreOf parts.new.registry parts.new.verdicts (after (rows_in parts.old) (edit.DropStatement id.now)) [] }
     ensures steps { steps.new ≡ steps.old }
 {
     fact_laws::law::statements_ask();
     fact_laws::law::lists_are_shown();
-    let removal = parts.verdicts.ready_removal(alloc, id)?;
     let table = parts.registry.table();
     let ids = parts.verdicts.remove_statement(table, id, removal, steps);
     release_all(&mut parts.registry, &ids);
-    Ok(())
 }
 
 // The verdict of the statement at a place, if there is one.

@@ -25,10 +25,12 @@ entries_of [] ds = []
 entries_of (n ∷ ns) [] = []
 entries_of (n ∷ ns) (d ∷ ds) = entry_from (n, d) ∷ entries_of ns ds
 
--- entries as they are kept beside a table of names: the numbers of their names, and what stands beside each
+-- entries as they are kept beside a table of names: the numbers of their names, and what stands beside each; and for how many more of
+-- what stands beside names there is room
 pub record Listed : Type 0 where
   pub names : Roll
   pub details : List Details
+  pub spare : ℕ
 
 -- the entries, by the names of the table
 abbrev pub entries_listed : Names → Listed → List Entry

@@ -1,16 +1,19 @@
 // Entries as they are kept beside a table of names.
-ghost use Rattle.std.specs.Prelude.{◌≡◌, ◌++◌, ◌∷◌, [], IfOk, OnOk, OnErr, length, map, option_map, position, slice_get, false};
+ghost use Rattle.std.specs.Prelude.{◌≡◌, ◌<◌, ◌++◌, ◌∷◌, [], IfOk, OnOk, length, map, option_map, position, slice_get, vec_capacity, false};
 ghost use Rattle.std.specs.List.{cons_option, filter_map, list_any};
 ghost use Rattle.name_index.specs.Prelude.{IsLive, kept_at, same_name};
 ghost use Rattle.cpe_rows.specs.Prelude.{is_named};
 ghost use Rattle.cpe_rows.specs.Lent.{entry_lent};
 ghost use Rattle.names_in_order.specs.InOrder.{AreInOrder, names_numbered};
+ghost use Rattle.names_in_order.specs.Room.{MayPush};
 ghost use Rattle.entries_in_order.specs.Given.{details_given};
 ghost use Rattle.entries_in_order.specs.Listed.{AreListed, details_written, entries_at, entries_listed, entries_of, entry_from, new_entry};
+ghost use Rattle.entries_in_order.specs.Room.{HasNoteRoom, MayPushEntry, SameEntries};
 
 use crate::entries::{Entries, details_at};
 use crate::entry_ref::lent;
 use crate::kept::{Details, rewrite};
+use crate::note_room::NoteRoom;
 use cpe_rows::{Deprecation, EntryRef, List, Memory, Note, Provenance, Text};
 use name_index::{NameId, NameTable};
 use names_in_order::GrowingNames;
@@ -27,17 +30,12 @@ pub struct GrowingEntries {
 }
 
 impl Model for GrowingEntries {
+    ghost use Rattle.std.specs.Prelude.{◌-◌, length, vec_capacity};
     ghost use Rattle.entries_in_order.specs.Listed.{Listed};
 
     ghost Value = { Listed };
 
-    ghost view = { λ e. record { names = e.names; details = e.details.items } };
-}
-
-// Lets go what stands beside a name for which memory ran out.
-fn let_go(details: Details, memory: Memory) -> Memory {
-    drop(details);
-    memory
+    ghost view = { λ e. record { names = e.names; details = e.details.items; spare = vec_capacity e.details - length e.details.items } };
 }
 
 // Puts an entry last whose name has this number.
@@ -47,27 +45,29 @@ fn put_last(
     all: &mut Vec<Details>,
     id: NameId,
     details: Details,
-) -> Result<(), Memory>
+)
     requires order { AreInOrder table.now names.old.held names.old.numbers }
     requires even { length names.old.numbers ≡ length all.old.items }
     requires live { IsLive table.now id.0 }
     requires fresh { list_any (same_name (kept_at table.now id.0).name) (names_numbered table.now names.old.numbers) ≡ false }
+    requires room { MayPush table.now names.old id.0 }
+    requires spare { length all.old.items < vec_capacity all.old }
     ensures order { AreInOrder table.now names.new.held names.new.numbers }
     ensures even { length names.new.numbers ≡ length all.new.items }
-    ensures ok { OnOk result (entries_of (names_numbered table.now names.new.numbers) all.new.items ≡ entries_of (names_numbered table.now names.old.numbers) all.old.items ++ entry_from ((kept_at table.now id.0).name, details) ∷ []) }
-    ensures names { OnErr result (names.new ≡ names.old) }
-    ensures err { OnErr result (all.new.items ≡ all.old.items) }
+    ensures entries { entries_of (names_numbered table.now names.new.numbers) all.new.items ≡ entries_of (names_numbered table.now names.old.numbers) all.old.items ++ entry_from ((kept_at table.now id.0).name, details) ∷ [] }
 {
     names_in_order::law::orders_stay();
-    if all.reserve(1).is_err() {
-        return Err(let_go(details, Memory));
-    }
-    match names.push(table, id) {
-        Ok(()) => {
-            all.push_reserved(details);
-            Ok(())
-        }
-        Err(memory) => Err(let_go(details, memory)),
+    names.push(table, id);
+    all.push_reserved(details);
+}
+
+// Takes memory for a note more of what stands at a place, if there is anything.
+fn note_room_at(alloc: Global, all: &[Details], place: usize) -> Result<NoteRoom, Memory>
+    ensures { IfOk result (λ r. HasNoteRoom all.now place r) }
+{
+    match details_at(all, place) {
+        Some(details) => NoteRoom::new(alloc, details.provenance.notes.as_slice()),
+        None => Ok(NoteRoom::none(alloc)),
     }
 }
 
@@ -77,14 +77,14 @@ fn rewrite_at(
     place: usize,
     deprecation: Option<Deprecation>,
     note: Option<Note>,
-) -> Result<(), Memory>
-    ensures ok { OnOk result (all.new.items ≡ details_written deprecation note place all.old.items) }
-    ensures err { OnErr result (all.new.items ≡ all.old.items) }
+    room: NoteRoom,
+)
+    requires { HasNoteRoom all.old.items place room }
+    ensures { all.new.items ≡ details_written deprecation note place all.old.items }
 {
-    if place < all.len() {
-        rewrite(&mut all[place], deprecation, note)?;
+    if place < all.as_slice().len() {
+        rewrite(&mut all[place], deprecation, note, room);
     }
-    Ok(())
 }
 
 // Puts the number at a place last, if there is one.
@@ -133,7 +133,9 @@ fn give_all(all: &mut Vec<Details>, deprecations: List<Option<Deprecation>>)
 impl GrowingEntries {
     /// No entries. It takes no memory.
     pub fn new(alloc: Global) -> GrowingEntries
-        ensures { result ≡ record { names = record { held = []; numbers = [] }; details = [] } }
+        ensures held { result.names.held ≡ [] }
+        ensures numbers { result.names.numbers ≡ [] }
+        ensures details { result.details ≡ [] }
     {
         GrowingEntries {
             names: GrowingNames::new(alloc),
@@ -199,53 +201,71 @@ impl GrowingEntries {
         numbers_at(alloc, &self.names, numbers)
     }
 
-    /// Puts an active entry last whose name has this number in the table, and which no entry has. What it brings is moved.
+    /// Takes the memory to put an entry last whose name has this number in the table, which [`push`](GrowingEntries::push) then needs.
+    /// The entries stay.
     ///
     /// # Errors
-    /// Only that memory ran out; the entries are then as they were.
-    pub fn push(
-        &mut self,
-        table: &NameTable,
-        id: NameId,
-        title: Text,
-        provenance: Provenance,
-    ) -> Result<(), Memory>
+    /// Only that memory ran out.
+    pub fn reserve(&mut self, table: &NameTable, id: NameId) -> Result<(), Memory>
+        requires { IsLive table.now id.0 }
+        ensures same { SameEntries self.old self.new }
+        ensures ok { OnOk result (MayPushEntry table.now self.new id.0) }
+    {
+        self.details.reserve(1)?;
+        self.names.reserve(table, id)
+    }
+
+    /// Puts an active entry last whose name has this number in the table, which no entry has, and for which there is room. What it
+    /// brings is moved, and it takes no memory.
+    pub fn push(&mut self, table: &NameTable, id: NameId, title: Text, provenance: Provenance)
         requires listed { AreListed table.now self.old }
         requires live { IsLive table.now id.0 }
         requires absent { list_any (is_named (kept_at table.now id.0).name) (entries_listed table.now self.old) ≡ false }
+        requires room { MayPushEntry table.now self.old id.0 }
         ensures listed { AreListed table.now self.new }
-        ensures ok { OnOk result (entries_listed table.now self.new ≡ entries_listed table.now self.old ++ new_entry (kept_at table.now id.0).name title provenance ∷ []) }
-        ensures err { OnErr result (self.new ≡ self.old) }
+        ensures entries { entries_listed table.now self.new ≡ entries_listed table.now self.old ++ new_entry (kept_at table.now id.0).name title provenance ∷ [] }
     {
         let details = Details {
             title,
             provenance,
             deprecation: None,
         };
-        put_last(table, &mut self.names, &mut self.details, id, details)
+        put_last(table, &mut self.names, &mut self.details, id, details);
+    }
+
+    /// Memory for one note more of the entry at a place, which [`rewrite_at`](GrowingEntries::rewrite_at) then needs. Where no entry has
+    /// the place, any memory will do.
+    ///
+    /// # Errors
+    /// Only that memory ran out.
+    pub fn note_room(&self, alloc: Global, place: usize) -> Result<NoteRoom, Memory>
+        ensures { IfOk result (λ room. HasNoteRoom self.now.details place room) }
+    {
+        note_room_at(alloc, &self.details, place)
     }
 
     /// Gives the entry at a place this deprecation, or none, and a note, if there is one, that goes last. Where no entry has the place, it
-    /// does nothing.
-    ///
-    /// # Errors
-    /// Only that memory ran out; the entries are then as they were.
+    /// does nothing. It takes no memory: the note goes where the entry's notes are, or in the room with them where their own memory is
+    /// full.
     pub fn rewrite_at(
         &mut self,
         place: usize,
         deprecation: Option<Deprecation>,
         note: Option<Note>,
-    ) -> Result<(), Memory>
-        ensures ok { OnOk result (self.new ≡ record self.old { details = details_written deprecation note place self.old.details }) }
-        ensures err { OnErr result (self.new ≡ self.old) }
+        room: NoteRoom,
+    )
+        requires { HasNoteRoom self.old.details place room }
+        ensures names { self.new.names ≡ self.old.names }
+        ensures details { self.new.details ≡ details_written deprecation note place self.old.details }
     {
-        rewrite_at(&mut self.details, place, deprecation, note)
+        rewrite_at(&mut self.details, place, deprecation, note, room);
     }
 
     /// Gives each entry the deprecation at its place, or none, in the place of what it had; notes stay.
     pub fn give_all(&mut self, deprecations: List<Option<Deprecation>>)
         requires { length deprecations ≡ length self.old.details }
-        ensures { self.new ≡ record self.old { details = details_given self.old.details deprecations } }
+        ensures names { self.new.names ≡ self.old.names }
+        ensures details { self.new.details ≡ details_given self.old.details deprecations }
     {
         give_all(&mut self.details, deprecations);
     }

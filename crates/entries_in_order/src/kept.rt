@@ -1,15 +1,17 @@
 // What an entry has beside its name.
-ghost use Rattle.std.specs.Prelude.{◌≡◌, ◌++◌, [], IfOk, OnOk, OnErr};
+ghost use Rattle.std.specs.Prelude.{◌≡◌, ◌≤◌, ◌+◌, ◌++◌, [], IfOk, length};
 ghost use Rattle.std.specs.List.{cons_option};
 ghost use Rattle.std.specs.Option.{option_map_or};
 ghost use Rattle.cpe_rows.specs.Prelude.{row_of, state_of};
 ghost use Rattle.entries_in_order.specs.Listed.{entry_from, rewritten_details};
 ghost use Rattle.cpe_rows.specs.declared.entry.Deprecation.{Deprecation};
 
+use crate::note_room::NoteRoom;
 use cpe_rows::{
     Deprecation, Entry, List, Memory, Note, Provenance, Row, State, Text, Wfn, copy_of_deprecation,
 };
 use std::alloc::Global;
+use std::mem::replace;
 
 /// What an entry has beside its name.
 #[derive(Debug, Drop)]
@@ -52,29 +54,30 @@ pub(crate) fn row_of(alloc: Global, name: &Wfn, details: &Details) -> Result<Row
 }
 
 // Puts a note last, if there is one.
-fn push_note(notes: &mut List<Note>, note: Option<Note>) -> Result<(), Memory>
-    ensures ok { OnOk result (notes.new ≡ notes.old ++ cons_option note []) }
-    ensures err { OnErr result (notes.new ≡ notes.old) }
+fn push_note(notes: &mut List<Note>, note: Option<Note>, room: NoteRoom)
+    requires { length notes.old + 1 ≤ room }
+    ensures { notes.new ≡ notes.old ++ cons_option note [] }
 {
     match note {
-        Some(note) => notes.push_close(note),
-        None => Ok(()),
+        Some(note) => {
+            let old = replace(notes, List::new(room.memory()));
+            let all = room.push(old.into_vec(), note);
+            drop(replace(notes, List::from_vec(all)));
+        }
+        None => drop(room),
     }
 }
 
-/// Gives an entry this deprecation, or none, and a note, if there is one, that goes last.
-///
-/// # Errors
-/// Only that memory ran out; the entry is then as it was.
+/// Gives an entry this deprecation, or none, and a note, if there is one, that goes last. It takes no memory.
 pub(crate) fn rewrite(
     details: &mut Details,
     deprecation: Option<Deprecation>,
     note: Option<Note>,
-) -> Result<(), Memory>
-    ensures ok { OnOk result (details.new ≡ rewritten_details deprecation note details.old) }
-    ensures err { OnErr result (details.new ≡ details.old) }
+    room: NoteRoom,
+)
+    requires { length details.old.provenance.notes + 1 ≤ room }
+    ensures { details.new ≡ rewritten_details deprecation note details.old }
 {
-    push_note(&mut details.provenance.notes, note)?;
+    push_note(&mut details.provenance.notes, note, room);
     details.deprecation = deprecation;
-    Ok(())
 }

@@ -16,9 +16,11 @@ mod entries;
 mod entry_ref;
 mod growing;
 mod kept;
+mod note_room;
 mod search;
 
 pub use at_numbers::{active_names_at, rows_at};
 pub use entries::Entries;
 pub use growing::GrowingEntries;
 pub use kept::Details;
+pub use note_room::NoteRoom;

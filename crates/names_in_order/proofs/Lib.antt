@@ -3,6 +3,7 @@ pub mod Rising
 pub mod Places
 pub mod Rows
 pub mod OrderLemmas
+pub mod RoomLemmas
 pub mod StayLemmas
 pub mod MarkedLemmas
 pub mod FirstLemmas

@@ -10,12 +10,13 @@ use Rattle.name_index.specs.cpe_name.Equal.{same_name}
 use Rattle.name_index.specs.declared.table.NameId.{NameId}
 use Rattle.name_index.specs.Index.{name_id}
 use Rattle.name_index.specs.Table.{Names, Kept, kept, kept_or, find_kept, kept_at, HasName, Holding, Holds, Releases, released}
-use Rattle.names_in_order.specs.InOrder.{AreInOrder, names_numbered, same_id}
+use Rattle.names_in_order.specs.InOrder.{AreInOrder, Roll, names_numbered, same_id}
 use Rattle.names_in_order.specs.Marked.{without_first as without_number}
 use Rattle.names_in_order.proofs.ChangeLemmas.{stands_at}
 use Rattle.names_in_order.proofs.OrderLemmas.{its_name, kept_live}
 use Rattle.names_in_order.proofs.StayLemmas.{not_there}
 use Rattle.names_in_order.specs.Owned.{AreOwn, IsNew}
+use Rattle.names_in_order.specs.Room.{SameRoll}
 
 -- a name that isn't in the list has no number
 pub name_free : (table : Names) (held : List (ℕ × ℕ)) (numbers : List NameId) (name : Values) → AreOwn table held numbers → list_any (same_name name) (names_numbered table numbers) ≡ false → (id : ℕ) → HasName table id name → ⊥
@@ -78,6 +79,11 @@ let_go_own old new held more numbers id is_new r order = record {
     differ other k e is =
         let l = kept_live old id.0 is_new.live in
         none-some k (sym (released_one old new id.0 l.0 l.1 (is_new.once id.0 l.0 l.1) r) ∙ ap (find_kept new) (sym is) ∙ e)
+
+-- the same numbers, whose room may have grown
+pub same_own : (table : Names) (old new : Roll) → SameRoll old new → AreOwn table old.held old.numbers → AreOwn table new.held new.numbers
+same_own table old new same own =
+    subst (λ (held : List (ℕ × ℕ)). AreOwn table held new.numbers) (sym same.held) (subst (λ (ns : List NameId). AreOwn table old.held ns) (sym same.numbers) own)
 
 -- ---- a removal
 

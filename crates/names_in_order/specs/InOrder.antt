@@ -6,10 +6,19 @@ use Rattle.name_index.specs.declared.table.NameId.{NameId}
 use Rattle.name_index.specs.Table.{Names, find_kept, kept_at, IsLive}
 use Rattle.name_index.specs.Index.{Fits, ids, name_id}
 
--- numbers in an order, and what an index holds of them: each, with the number of its product
+-- what is reserved: for how many numbers more there is room in the index, and in the list; below which number each number has a place
+-- that is kept; and below which number each product has a list
+pub record Room : Type 0 where
+  pub index : ℕ
+  pub list : ℕ
+  pub reach : ℕ
+  pub wide : ℕ
+
+-- numbers in an order; what an index holds of them, each with the number of its product; and the room for more
 pub record Roll : Type 0 where
   pub held : List (ℕ × ℕ)
   pub numbers : List NameId
+  pub room : Room
 
 abbrev pub same_id : NameId → NameId → Bool
 same_id a b = nat_eq a.0 b.0

@@ -4,4 +4,5 @@ pub mod Held
 pub mod InOrder
 pub mod Marked
 pub mod Laws
+pub mod Room
 pub mod Prelude

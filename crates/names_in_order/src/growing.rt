@@ -1,12 +1,13 @@
 // Names in the order in which they came, by product.
-ghost use Rattle.std.specs.Prelude.{◌≡◌, ◌+◌, ◌++◌, ◌∷◌, [], IfOk, OnOk, OnErr, cond, length, position, slice_get, Some, false, option_copied};
+ghost use Rattle.std.specs.Prelude.{◌≡◌, ◌+◌, ◌++◌, ◌∷◌, [], IfOk, OnOk, cond, length, position, slice_get, Some, false, option_copied};
 ghost use Rattle.std.specs.List.{list_any, IsDistinct};
 ghost use Rattle.name_index.specs.Prelude.{is_covered, IsLive, IsLower, IsOrder, kept_at, same_name, SameElements, StepsWithin};
 ghost use Rattle.names_in_order.specs.Held.{placed};
-ghost use Rattle.names_in_order.specs.InOrder.{AreInOrder, AreLive, names_numbered, Roll, same_id};
+ghost use Rattle.names_in_order.specs.InOrder.{AreInOrder, AreLive, names_numbered, same_id};
 ghost use Rattle.names_in_order.specs.Places.{looked_count, near_count, places_covered};
+ghost use Rattle.names_in_order.specs.Room.{MayPush, SameRoll};
 
-use crate::added::add_number;
+use crate::added::{add_number, reserve_number};
 use crate::numbers::NumbersInOrder;
 use cpe_relation::{covers_in_order, deciding_order};
 use name_index::{Attribute, Memory, NameId, NameIndex, NameTable, Steps, Wfn};
@@ -15,7 +16,7 @@ use std::marker::Model;
 use std::sync::ledger::Ledger;
 
 /// Different names in the order in which they came, by their numbers in a table that others use, too. None of them goes. Contracts see
-/// what its index holds, and the numbers.
+/// what its index holds, the numbers, and the room for more.
 ///
 /// A name takes some 30 bytes here; the name itself is the table's.
 #[derive(Drop)]
@@ -25,9 +26,12 @@ pub struct GrowingNames {
 }
 
 impl Model for GrowingNames {
+    ghost use Rattle.names_in_order.specs.InOrder.{Roll};
+    ghost use Rattle.names_in_order.specs.Room.{roll_of};
+
     ghost Value = { Roll };
 
-    ghost view = { λ n. record { held = n.index.held; numbers = n.numbers } };
+    ghost view = { λ n. roll_of n.index n.numbers };
 }
 
 /// The names of a [`GrowingNames`], beside the table of their numbers: each is found by its hash, by its place, and by its product.
@@ -46,16 +50,16 @@ impl<'t> Model for NamesInOrder<'t> {
 
     ghost Value = { List Values };
 
-    ghost view = { λ n. names_numbered n.table.now n.numbers.now };
+    ghost view = { λ n. names_numbered n.table.now n.numbers.now.numbers };
 
-    ghost invariant = { λ n. AreInOrder n.table.now n.index.now.held n.numbers.now };
+    ghost invariant = { λ n. AreInOrder n.table.now n.index.now.held n.numbers.now.numbers };
 }
 
 // The place of a live number of the table, if it is one of these.
 fn place_of(table: &NameTable, numbers: &NumbersInOrder, id: NameId) -> Option<usize>
-    requires all { AreLive table.now numbers.now }
+    requires all { AreLive table.now numbers.now.numbers }
     requires live { IsLive table.now id.0 }
-    ensures { result ≡ position (same_name (kept_at table.now id.0).name) (names_numbered table.now numbers.now) }
+    ensures { result ≡ position (same_name (kept_at table.now id.0).name) (names_numbered table.now numbers.now.numbers) }
 {
     table.lawful();
     numbers.place_of(id)
@@ -63,8 +67,8 @@ fn place_of(table: &NameTable, numbers: &NumbersInOrder, id: NameId) -> Option<u
 
 // The place of a name, by its hash.
 fn find_place(table: &NameTable, numbers: &NumbersInOrder, name: &Wfn) -> Option<usize>
-    requires { AreLive table.now numbers.now }
-    ensures { result ≡ position (same_name name.now) (names_numbered table.now numbers.now) }
+    requires { AreLive table.now numbers.now.numbers }
+    ensures { result ≡ position (same_name name.now) (names_numbered table.now numbers.now.numbers) }
 {
     match table.find(name) {
         Some(id) => place_of(table, numbers, id),
@@ -79,9 +83,9 @@ fn push_place(
     id: NameId,
     places: &mut Vec<usize>,
 ) -> Result<(), Memory>
-    requires all { AreLive table.now numbers.now }
+    requires all { AreLive table.now numbers.now.numbers }
     requires live { IsLive table.now id.0 }
-    ensures { OnOk result (places.new.items ≡ places.old.items ++ placed (names_numbered table.now numbers.now) table.now id) }
+    ensures { OnOk result (places.new.items ≡ places.old.items ++ placed (names_numbered table.now numbers.now.numbers) table.now id) }
 {
     if let Some(place) = place_of(table, numbers, id) {
         places.push(place)?;
@@ -100,9 +104,9 @@ fn push_covered<L: Ledger>(
     steps: &mut Steps<L>,
 ) -> Result<(), Memory>
     requires order { IsOrder order.now }
-    requires all { AreLive table.now numbers.now }
+    requires all { AreLive table.now numbers.now.numbers }
     requires live { IsLive table.now id.0 }
-    ensures places { OnOk result (places.new.items ≡ cond (is_covered table.now name.now id) (places.old.items ++ placed (names_numbered table.now numbers.now) table.now id) places.old.items) }
+    ensures places { OnOk result (places.new.items ≡ cond (is_covered table.now name.now id) (places.old.items ++ placed (names_numbered table.now numbers.now.numbers) table.now id) places.old.items) }
     ensures step { steps.new ≡ steps.old + 1 }
 {
     let other = table.look(id, steps);
@@ -121,11 +125,11 @@ fn find_places<L: Ledger>(
     name: &Wfn,
     steps: &mut Steps<L>,
 ) -> Result<Vec<usize>, Memory>
-    requires order { AreInOrder table.now index.now.held numbers.now }
+    requires order { AreInOrder table.now index.now.held numbers.now.numbers }
     requires lower { IsLower name.now }
-    ensures covered { IfOk result (λ places. SameElements (places_covered name.now (names_numbered table.now numbers.now)) places.items) }
-    ensures steps { StepsWithin steps.old steps.new (near_count name.now (names_numbered table.now numbers.now)) }
-    ensures looked { OnOk result (steps.new ≡ steps.old + looked_count name.now (names_numbered table.now numbers.now)) }
+    ensures covered { IfOk result (λ places. SameElements (places_covered name.now (names_numbered table.now numbers.now.numbers)) places.items) }
+    ensures steps { StepsWithin steps.old steps.new (near_count name.now (names_numbered table.now numbers.now.numbers)) }
+    ensures looked { OnOk result (steps.new ≡ steps.old + looked_count name.now (names_numbered table.now numbers.now.numbers)) }
 {
     table.lawful();
     numbers.lawful();
@@ -140,7 +144,8 @@ fn find_places<L: Ledger>(
 impl GrowingNames {
     /// No names. It takes no memory.
     pub fn new(alloc: Global) -> GrowingNames
-        ensures { result ≡ record { held = []; numbers = [] } }
+        ensures held { result.held ≡ [] }
+        ensures numbers { result.numbers ≡ [] }
     {
         GrowingNames {
             index: NameIndex::new(alloc),
@@ -183,20 +188,30 @@ impl GrowingNames {
         }
     }
 
-    /// Puts a number of the table last whose name isn't there. It costs the same whatever their number, but for the place of a
-    /// product that is new.
+    /// Takes the memory to put a live number of the table last, which [`push`](GrowingNames::push) then needs. The numbers stay.
+    /// It costs the same in the mean, whatever their number, but for the place of a product that is new.
     ///
     /// # Errors
-    /// Only that memory ran out; the numbers are then as they were.
-    pub fn push(&mut self, table: &NameTable, id: NameId) -> Result<(), Memory>
+    /// Only that memory ran out.
+    pub fn reserve(&mut self, table: &NameTable, id: NameId) -> Result<(), Memory>
+        requires { IsLive table.now id.0 }
+        ensures same { SameRoll self.old self.new }
+        ensures ok { OnOk result (MayPush table.now self.new id.0) }
+    {
+        reserve_number(table, &mut self.index, &mut self.numbers, id)
+    }
+
+    /// Puts a number of the table last whose name isn't there, and for which there is room. It takes no memory, and costs the same
+    /// whatever their number.
+    pub fn push(&mut self, table: &NameTable, id: NameId)
         requires order { AreInOrder table.now self.old.held self.old.numbers }
         requires live { IsLive table.now id.0 }
         requires fresh { list_any (same_name (kept_at table.now id.0).name) (names_numbered table.now self.old.numbers) ≡ false }
+        requires room { MayPush table.now self.old id.0 }
         ensures order { AreInOrder table.now self.new.held self.new.numbers }
-        ensures ok { OnOk result (self.new.numbers ≡ self.old.numbers ++ id ∷ []) }
-        ensures err { OnErr result (self.new ≡ self.old) }
+        ensures numbers { self.new.numbers ≡ self.old.numbers ++ id ∷ [] }
     {
-        add_number(table, &mut self.index, &mut self.numbers, id)
+        add_number(table, &mut self.index, &mut self.numbers, id);
     }
 }
 

@@ -14,6 +14,7 @@
 
 mod added;
 mod changing;
+mod free_place;
 mod growing;
 pub mod law;
 mod marked;
@@ -21,7 +22,7 @@ mod numbers;
 mod owned;
 
 pub use added::PushNumber;
-pub use changing::{ChangingNames, find_number};
+pub use changing::ChangingNames;
 pub use growing::{GrowingNames, NamesInOrder};
 pub use marked::MarkedNumbers;
 pub use owned::{PushHeld, add_name};

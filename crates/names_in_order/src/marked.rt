@@ -1,15 +1,16 @@
 // The numbers of names in an order, of which any may go, and the place of each number.
-ghost use Rattle.std.specs.Prelude.{◌≡◌, ◌≤◌, ◌<◌, ◌+◌, ◌^◌, ◌++◌, ◌∷◌, [], IfOk, IfSome, IsSome, OnErr, OnOk, cond, false, find, get_or, length, set, slice_get, take, None, Some};
+ghost use Rattle.std.specs.Prelude.{◌≡◌, ◌≤◌, ◌<◌, ◌+◌, ◌^◌, ◌++◌, ◌∷◌, [], IfOk, IfSome, IsSome, OnOk, cond, false, find, get_or, length, set, slice_get, take, vec_capacity, None, Some};
 ghost use Rattle.std.specs.List.{IsDistinct, list_any};
 ghost use Rattle.names_in_order.specs.InOrder.{same_id};
 ghost use Rattle.names_in_order.specs.Marked.{AreClosing, AreMarked, HavePlaces, IsFirstPlace, PutsInOrder, closing_numbers, earlier as earlier_of, found_place, is_slot_of, numbers_in, places_of, standing_at, without_first};
 
 use crate::added::PushNumber;
+use crate::free_place::make_place;
 use name_index::{Memory, NameId};
 use std::alloc::Global;
 use std::marker::Model;
 
-/// Different numbers in the order in which they came, of which any may go. Contracts see them as their list.
+/// Different numbers in the order in which they came, of which any may go. Contracts see their list, and the places for more.
 ///
 /// One that goes leaves a mark in its place. Where more places are marks than not, the numbers close up, so that one that goes costs
 /// the same in the mean, whatever their number.
@@ -24,13 +25,13 @@ pub struct MarkedNumbers {
 }
 
 impl Model for MarkedNumbers {
-    ghost use Rattle.std.specs.Prelude.{List};
-    ghost use Rattle.name_index.specs.declared.table.NameId.{NameId};
+    ghost use Rattle.std.specs.Prelude.{length, vec_capacity};
     ghost use Rattle.names_in_order.specs.Marked.{AreMarked, numbers_in};
+    ghost use Rattle.names_in_order.specs.Room.{NumberList, spare_places};
 
-    ghost Value = { List NameId };
+    ghost Value = { NumberList };
 
-    ghost view = { λ n. numbers_in n.slots.items };
+    ghost view = { λ n. record { numbers = numbers_in n.slots.items; reach = length n.places.items; spare = spare_places (vec_capacity n.slots) (length n.slots.items) } };
 
     ghost invariant = { λ n. AreMarked n.slots.items n.places.items n.len };
 }
@@ -105,41 +106,20 @@ fn first_place(slots: &[Option<NameId>], places: &[u32], ids: &[NameId]) -> Opti
     first
 }
 
-// Has a place kept for each number up to this one.
-fn reach_number(slots: &[Option<NameId>], places: &mut Vec<u32>, id: NameId) -> Result<(), Memory>
-    requires { HavePlaces slots.now places.old.items }
-    ensures placed { HavePlaces slots.now places.new.items }
-    ensures known { OnOk result (id.0 < length places.new.items) }
-{
-    while places.len() <= id.0 as usize {
-        places.push(0)?;
-    }
-    Ok(())
-}
-
-// Puts a number last that isn't there.
-fn put_last(
-    slots: &mut Vec<Option<NameId>>,
-    places: &mut Vec<u32>,
-    len: usize,
-    id: NameId,
-) -> Result<(), Memory>
+// Puts a number last that isn't there and has a place.
+fn put_last(slots: &mut Vec<Option<NameId>>, places: &mut Vec<u32>, len: usize, id: NameId)
     requires marked { AreMarked slots.old.items places.old.items len }
     requires fresh { list_any (same_id id) (numbers_in slots.old.items) ≡ false }
-    ensures few { OnOk result (len < 2 ^ 32) }
-    ensures ok { OnOk result (numbers_in slots.new.items ≡ numbers_in slots.old.items ++ id ∷ []) }
-    ensures marked { OnOk result (AreMarked slots.new.items places.new.items (len + 1)) }
-    ensures err { OnErr result (slots.new.items ≡ slots.old.items) }
-    ensures still { OnErr result (AreMarked slots.new.items places.new.items len) }
+    requires known { id.0 < length places.old.items }
+    requires room { length slots.old.items < vec_capacity slots.old }
+    requires few { length slots.old.items < 2 ^ 32 }
+    ensures numbers { numbers_in slots.new.items ≡ numbers_in slots.old.items ++ id ∷ [] }
+    ensures marked { AreMarked slots.new.items places.new.items (len + 1) }
+    ensures few { len < 2 ^ 32 }
 {
-    let place = slots.len();
-    if place > u32::MAX as usize {
-        return Err(Memory);
-    }
-    reach_number(slots, places, id)?;
-    slots.push(Some(id))?;
+    let place = slots.as_slice().len();
+    slots.push_reserved(Some(id));
     places[id.0 as usize] = place as u32;
-    Ok(())
 }
 
 // Moves what stands at the place to read up to the place to write, if it is a number, and answers the place to write next.
@@ -289,7 +269,7 @@ fn put_in_order(
 impl MarkedNumbers {
     /// No numbers. It takes no memory.
     pub fn new(alloc: Global) -> MarkedNumbers
-        ensures { result ≡ [] }
+        ensures { result.numbers ≡ [] }
     {
         MarkedNumbers {
             slots: Vec::new(alloc),
@@ -300,22 +280,22 @@ impl MarkedNumbers {
 
     /// How many there are.
     pub fn len(&self) -> usize
-        ensures { result ≡ length self.now }
+        ensures { result ≡ length self.now.numbers }
     {
         self.len
     }
 
     /// Whether a number is one of these. It looks at one place alone.
     pub fn has(&self, id: NameId) -> bool
-        ensures { result ≡ list_any (same_id id) self.now }
+        ensures { result ≡ list_any (same_id id) self.now.numbers }
     {
         find_place(&self.slots, &self.places, id).is_some()
     }
 
     /// The numbers by place, with marks among them: no more than there are numbers.
     pub fn slots(&self) -> &[Option<NameId>]
-        ensures numbers { numbers_in result.now ≡ self.now }
-        ensures dense { length result.now ≤ length self.now + length self.now }
+        ensures numbers { numbers_in result.now ≡ self.now.numbers }
+        ensures dense { length result.now ≤ length self.now.numbers + length self.now.numbers }
     {
         &self.slots
     }
@@ -323,7 +303,7 @@ impl MarkedNumbers {
     /// Takes a number out, if it is one of these; the others stay in their order. It takes no memory, and costs the same in the mean,
     /// whatever their number.
     pub fn remove(&mut self, id: NameId)
-        ensures { self.new ≡ without_first (same_id id) self.old }
+        ensures { self.new.numbers ≡ without_first (same_id id) self.old.numbers }
     {
         if let Some(place) = find_place(&self.slots, &self.places, id) {
             self.len = take_out(&mut self.slots, &mut self.places, self.len, place);
@@ -336,14 +316,14 @@ impl MarkedNumbers {
     /// # Errors
     /// Only that memory ran out.
     pub fn in_order(&self, alloc: Global, found: &[NameId]) -> Result<Vec<NameId>, Memory>
-        ensures { IfOk result (λ ids. PutsInOrder self.now found.now ids.items) }
+        ensures { IfOk result (λ ids. PutsInOrder self.now.numbers found.now ids.items) }
     {
         put_in_order(alloc, &self.slots, &self.places, found)
     }
 
     /// The first of the numbers that is one of these, if there is one. It looks at one place for each of these, and takes no memory.
     pub fn first_of(&self, ids: &[NameId]) -> Option<NameId>
-        ensures { result ≡ find (λ id. list_any (same_id id) ids.now) self.now }
+        ensures { result ≡ find (λ id. list_any (same_id id) ids.now) self.now.numbers }
     {
         match first_place(&self.slots, &self.places, ids) {
             Some(place) => slot_at(&self.slots, place),
@@ -353,18 +333,21 @@ impl MarkedNumbers {
 
     /// No number stands twice. It does nothing, and tells a proof so.
     pub fn lawful(&self)
-        ensures { IsDistinct same_id self.now }
+        ensures { IsDistinct same_id self.now.numbers }
     {
         let _slots = &self.slots;
     }
 }
 
 impl PushNumber for MarkedNumbers {
-    ghost numbers = { λ n. n };
+    ghost list = { λ n. n };
 
-    fn push(&mut self, id: NameId) -> Result<(), Memory> {
-        put_last(&mut self.slots, &mut self.places, self.len, id)?;
+    fn reserve(&mut self, id: NameId) -> Result<(), Memory> {
+        make_place(&mut self.slots, &mut self.places, id)
+    }
+
+    fn push(&mut self, id: NameId) {
+        put_last(&mut self.slots, &mut self.places, self.len, id);
         self.len += 1;
-        Ok(())
     }
 }

@@ -1,14 +1,15 @@
 // The numbers of names in an order, and the place of each number.
-ghost use Rattle.std.specs.Prelude.{◌≡◌, [], ◌<◌, length, position, slice_get, OnOk, Some};
+ghost use Rattle.std.specs.Prelude.{◌≡◌, ◌≢◌, ◌++◌, ◌∷◌, [], ◌<◌, ◌^◌, ℕ, length, position, slice_get, vec_capacity, Some};
 ghost use Rattle.std.specs.List.{IsDistinct};
 ghost use Rattle.names_in_order.specs.InOrder.{same_id, place_found, ArePlaced};
 
 use crate::added::PushNumber;
+use crate::free_place::make_place;
 use name_index::{Memory, NameId};
 use std::alloc::Global;
 use std::marker::Model;
 
-/// Different numbers in an order, each found by itself. Contracts see them as their list.
+/// Different numbers in an order, each found by itself. Contracts see their list, and the places for more.
 #[derive(Drop)]
 pub(crate) struct NumbersInOrder {
     // By place.
@@ -18,13 +19,13 @@ pub(crate) struct NumbersInOrder {
 }
 
 impl Model for NumbersInOrder {
-    ghost use Rattle.std.specs.Prelude.{List};
-    ghost use Rattle.name_index.specs.declared.table.NameId.{NameId};
+    ghost use Rattle.std.specs.Prelude.{length, vec_capacity};
     ghost use Rattle.names_in_order.specs.InOrder.{ArePlaced};
+    ghost use Rattle.names_in_order.specs.Room.{NumberList, spare_places};
 
-    ghost Value = { List NameId };
+    ghost Value = { NumberList };
 
-    ghost view = { λ n. n.numbers.items };
+    ghost view = { λ n. record { numbers = n.numbers.items; reach = length n.places.items; spare = spare_places (vec_capacity n.numbers) (length n.numbers.items) } };
 
     ghost invariant = { λ n. ArePlaced n.numbers.items n.places.items };
 }
@@ -56,22 +57,25 @@ fn if_same(other: NameId, id: NameId, place: u32) -> Option<usize>
     None
 }
 
-// Has a place kept for each number up to this one.
-fn reach_number(numbers: &[NameId], places: &mut Vec<u32>, id: NameId) -> Result<(), Memory>
-    requires { ArePlaced numbers.now places.old.items }
-    ensures placed { ArePlaced numbers.now places.new.items }
-    ensures known { OnOk result (id.0 < length places.new.items) }
+// Puts a number last that isn't there and has a place.
+fn put_last(numbers: &mut Vec<NameId>, places: &mut Vec<u32>, id: NameId)
+    requires placed { ArePlaced numbers.old.items places.old.items }
+    requires fresh { (k : ℕ) → slice_get numbers.old.items k ≢ Some id }
+    requires known { id.0 < length places.old.items }
+    requires room { length numbers.old.items < vec_capacity numbers.old }
+    requires few { length numbers.old.items < 2 ^ 32 }
+    ensures placed { ArePlaced numbers.new.items places.new.items }
+    ensures numbers { numbers.new.items ≡ numbers.old.items ++ id ∷ [] }
 {
-    while places.len() <= id.0 as usize {
-        places.push(0)?;
-    }
-    Ok(())
+    let place = numbers.as_slice().len();
+    numbers.push_reserved(id);
+    places[id.0 as usize] = place as u32;
 }
 
 impl NumbersInOrder {
     /// No numbers. It takes no memory.
     pub(crate) fn new(alloc: Global) -> NumbersInOrder
-        ensures { result ≡ [] }
+        ensures { result.numbers ≡ [] }
     {
         NumbersInOrder {
             numbers: Vec::new(alloc),
@@ -81,21 +85,21 @@ impl NumbersInOrder {
 
     /// How many there are.
     pub(crate) fn len(&self) -> usize
-        ensures { result ≡ length self.now }
+        ensures { result ≡ length self.now.numbers }
     {
         self.numbers.len()
     }
 
     /// The number at a place.
     pub(crate) fn get(&self, place: usize) -> Option<NameId>
-        ensures { result ≡ slice_get self.now place }
+        ensures { result ≡ slice_get self.now.numbers place }
     {
         self.numbers.get(place).copied()
     }
 
     /// The place of a number, if it is one of these. It looks at one place alone.
     pub(crate) fn place_of(&self, id: NameId) -> Option<usize>
-        ensures { result ≡ position (same_id id) self.now }
+        ensures { result ≡ position (same_id id) self.now.numbers }
     {
         match kept_place(&self.places, id) {
             Some(place) => confirmed(&self.numbers, place, id),
@@ -105,23 +109,20 @@ impl NumbersInOrder {
 
     /// No number stands twice. It does nothing, and tells a proof so.
     pub(crate) fn lawful(&self)
-        ensures { IsDistinct same_id self.now }
+        ensures { IsDistinct same_id self.now.numbers }
     {
         let _numbers = &self.numbers;
     }
 }
 
 impl PushNumber for NumbersInOrder {
-    ghost numbers = { λ n. n };
+    ghost list = { λ n. n };
 
-    fn push(&mut self, id: NameId) -> Result<(), Memory> {
-        let place = self.numbers.len();
-        if place > u32::MAX as usize {
-            return Err(Memory);
-        }
-        reach_number(&self.numbers, &mut self.places, id)?;
-        self.numbers.push(id)?;
-        self.places[id.0 as usize] = place as u32;
-        Ok(())
+    fn reserve(&mut self, id: NameId) -> Result<(), Memory> {
+        make_place(&mut self.numbers, &mut self.places, id)
+    }
+
+    fn push(&mut self, id: NameId) {
+        put_last(&mut self.numbers, &mut self.places, id);
     }
 }

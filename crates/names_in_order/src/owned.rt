@@ -4,6 +4,7 @@ ghost use Rattle.std.specs.List.{list_any};
 ghost use Rattle.name_index.specs.Prelude.{IsLive, IsLower, kept_at, same_name};
 ghost use Rattle.names_in_order.specs.InOrder.{AreInOrder, Roll, names_numbered};
 ghost use Rattle.names_in_order.specs.Owned.{AreOwn, IsNew};
+ghost use Rattle.names_in_order.specs.Room.{SameRoll};
 
 use crate::changing::ChangingNames;
 use crate::growing::GrowingNames;
@@ -11,7 +12,7 @@ use name_index::{Memory, NameId, NameTable, Wfn};
 
 /// Names in an order, by their numbers in a table, after which one more may be put.
 pub trait PushHeld {
-    /// What its index holds, and the numbers.
+    /// What its index holds, the numbers, and the room for more.
     ghost roll: { Self → Roll };
 
     /// Puts a number of the table last whose name isn't there.
@@ -24,14 +25,16 @@ pub trait PushHeld {
         requires fresh { list_any (same_name (kept_at table.now id.0).name) (names_numbered table.now (roll self.old).numbers) ≡ false }
         ensures order { AreInOrder table.now (roll self.new).held (roll self.new).numbers }
         ensures ok { OnOk result ((roll self.new).numbers ≡ (roll self.old).numbers ++ id ∷ []) }
-        ensures err { OnErr result (roll self.new ≡ roll self.old) };
+        ensures err { OnErr result (SameRoll (roll self.old) (roll self.new)) };
 }
 
 impl PushHeld for GrowingNames {
     ghost roll = { λ n. n };
 
     fn push_held(&mut self, table: &NameTable, id: NameId) -> Result<(), Memory> {
-        self.push(table, id)
+        self.reserve(table, id)?;
+        self.push(table, id);
+        Ok(())
     }
 }
 
@@ -39,7 +42,9 @@ impl PushHeld for ChangingNames {
     ghost roll = { λ n. n };
 
     fn push_held(&mut self, table: &NameTable, id: NameId) -> Result<(), Memory> {
-        self.push(table, id)
+        self.reserve(table, id)?;
+        self.push(table, id);
+        Ok(())
     }
 }
 

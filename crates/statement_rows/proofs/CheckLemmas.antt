@@ -1,8 +1,8 @@
 -- Verdicts after one result was set or removed.
-use Rattle.std.proofs.Common.{◌≡◌, ◌<◌, ◌||◌, ℕ, Bool, true, false, cond, List, [], ◌∷◌, find, map, refl, sym, ap, subst, ◌∙◌}
+use Rattle.std.proofs.Common.{◌≡◌, ◌<◌, ℕ, Bool, true, false, cond, List, [], ◌∷◌, find, map, refl, sym, ap, subst, ◌∙◌}
 use Rattle.std.specs.Prelude.{Option, Some, None}
-use Rattle.std.specs.Option.{option_map, option_map_or}
-use Rattle.std.specs.List.{AllByRecursion, list_any}
+use Rattle.std.specs.Option.{option_map_or}
+use Rattle.std.specs.List.{AllByRecursion}
 use Rattle.cpe_rows.specs.Rows.{same_key, has_key}
 use Rattle.cpe_rows.specs.After.{with_check, without_first}
 use Rattle.cpe_rows.proofs.KeyTests.{key_is, other_key}
@@ -60,22 +60,6 @@ kept_here key t cs = ap (λ (o : Option (CheckKey × Truth)). option_map_or (λ 
         → (k : CheckKey) × (find (has_key key) (cond b ((c.0, t) ∷ cs) (c ∷ with_check key t cs)) ≡ Some (k, t))
     go true e more = (c.0, ap (λ (b : Bool). cond b (Some (c.0, t)) (find (has_key key) cs)) e)
     go false e more = (more.0, ap (λ (b : Bool). cond b (Some c) (find (has_key key) (with_check key t cs))) e ∙ more.1)
-
--- the result that is found is the one that is kept
-pub result_there : (key : CheckKey) (cs : List (CheckKey × Truth)) → list_any (has_key key) cs ≡ true → Some (kept_truth cs key) ≡ option_map (λ c. c.1) (find (has_key key) cs)
-result_there key [] h = absurd (let wrong : false ≡ true = h in cc)
-result_there key (c ∷ cs) h = go (has_key key c) h (result_there key cs) where
-  go : (b : Bool) → (b || list_any (has_key key) cs) ≡ true → (list_any (has_key key) cs ≡ true → Some (kept_truth cs key) ≡ option_map (λ c. c.1) (find (has_key key) cs))
-      → Some (option_map_or (λ c. c.1) (cond b (Some c) (find (has_key key) cs)) Unknown) ≡ option_map (λ c. c.1) (cond b (Some c) (find (has_key key) cs))
-  go true h more = refl
-  go false h more = more h
-
-pub no_result : (key : CheckKey) (cs : List (CheckKey × Truth)) → list_any (has_key key) cs ≡ false → find (has_key key) cs ≡ None
-no_result key [] h = refl
-no_result key (c ∷ cs) h = go (has_key key c) h (no_result key cs) where
-  go : (b : Bool) → (b || list_any (has_key key) cs) ≡ false → (list_any (has_key key) cs ≡ false → find (has_key key) cs ≡ None) → cond b (Some c) (find (has_key key) cs) ≡ None
-  go true h more = absurd (cc)
-  go false h more = more h
 
 -- ---- rows that ask for the check, and others
 

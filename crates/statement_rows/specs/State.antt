@@ -13,6 +13,8 @@ use Rattle.cpe_rows.specs.declared.statement.Mode.{Mode}
 use Rattle.cpe_rows.specs.declared.statement.Statement.{Statement}
 use Rattle.cpe_rows.specs.declared.test.CheckKey.{CheckKey}
 use Rattle.cpe_rows.specs.declared.truth.Truth.{Truth}
+use Rattle.cpe_inventory.specs.Results.{ChecksNow, IsReadyResult as IsReadyFor}
+use Rattle.cpe_inventory.specs.declared.ready_result.ReadyResult.{ReadyResult}
 use Rattle.name_index.specs.declared.table.NameId.{NameId}
 use Rattle.statement_rows.specs.declared.by_result.ByResult.{ByResult}
 use Rattle.statement_rows.specs.declared.fact_use.FactUse.{FactUse}
@@ -35,13 +37,14 @@ pub record StatementRow : Type 0 where
   pub by_result : ByResult
 
 -- the statements, the results of checks, the tickets that ask for each check, the next ticket, and whether there is memory for one
--- more statement
+-- more statement, and for one more result
 pub record State : Type 0 where
   pub rows : List StatementRow
   pub checks : List (CheckKey × Truth)
   pub askers : List (CheckKey × Vec ℕ Global)
   pub next : ℕ
   pub ready : Bool
+  pub result_room : Bool
 
 -- what contracts see of a row
 abbrev pub view_of : Row → StatementRow
@@ -99,6 +102,10 @@ pub record SameRows (old new : State) : Type 0 where
   pub checks : new.checks ≡ old.checks
   pub next : new.next ≡ old.next
   pub askers : (k : CheckKey) → askers_at new.askers k ≡ askers_at old.askers k
+
+-- all is the same, except perhaps whether there is memory for one more result
+abbrev pub SameButResultRoom : State → State → Type 0
+SameButResultRoom old new = new ≡ record old { result_room = new.result_room }
 
 -- which facts a statement uses: its mode and its numbers, with its ticket
 abbrev pub use_of : StatementRow → Mode × List NameId × ℕ
@@ -160,3 +167,13 @@ pub record StatementAdded (old new : State) (s : Statement) (ids : List NameId) 
   pub next : new.next ≡ old.next + 1
   pub asked : AreAskedBut (check_keys s.test) old.askers → AreAsked new.askers
   pub judged : AreJudged old truth → AreJudged new truth
+
+-- ---- a result
+
+-- the results of checks, and whether there is memory for one more
+abbrev pub checks_of : State → ChecksNow
+checks_of b = record { list = b.checks; ready = b.result_room }
+
+-- all memory is taken for a result of this key
+abbrev pub IsReadyResult : State → CheckKey → ReadyResult → Type 0
+IsReadyResult b k r = IsReadyFor (checks_of b) k r

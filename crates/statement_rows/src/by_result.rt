@@ -1,5 +1,5 @@
 // The truths of a test for each result that its checks may have.
-ghost use Rattle.std.specs.Prelude.{◌≡◌, [], ◌∷◌, map, slice_get, option_copied};
+ghost use Rattle.std.specs.Prelude.{◌≡◌, [], ◌∷◌, slice_get, option_copied};
 ghost use Rattle.std.specs.List.{list_all};
 ghost use Rattle.cpe_rows.specs.Evaluation.{joined, negated};
 ghost use Rattle.cpe_rows.specs.Rows.{same_key};

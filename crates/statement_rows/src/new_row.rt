@@ -139,7 +139,7 @@ pub(crate) fn row_of<T: FactTruth>(
     facts: &T,
     results: &Checks,
 ) -> Row
-    ensures { result ≡ new_row (T.fact_truth facts.now) results.now ticket numbered }
+    ensures { result ≡ new_row (T.fact_truth facts.now) results.now.list ticket numbered }
 {
     let verdict = verdict_of(&numbered, facts, results);
     let alone = asks_one(&numbered.statement.test);

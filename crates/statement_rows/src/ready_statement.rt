@@ -5,7 +5,7 @@ use crate::row::NumberedStatement;
 use cpe_rows::{Mode, Text};
 use name_index::NameId;
 
-/// A statement for which all memory is taken. It has to be added or given up, since it is no `Drop`.
+/// A statement for which all memory is taken. It has to be added, since it is no `Drop`.
 pub struct ReadyStatement {
     pub(crate) numbered: Box<NumberedStatement>,
     // A copy of its id.

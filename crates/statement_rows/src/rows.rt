@@ -1,5 +1,5 @@
 // The rows of statements, and which of them are changed.
-ghost use Rattle.std.specs.Prelude.{◌≡◌, ◌≤◌, ◌<◌, ◌+◌, ◌++◌, [], cond, map, Bool, drop, false, not, length, slice_get, take, vec_capacity, option_map};
+ghost use Rattle.std.specs.Prelude.{◌≡◌, ◌<◌, ◌+◌, ◌++◌, [], cond, map, drop, false, not, length, slice_get, take, vec_capacity, option_map};
 ghost use Rattle.cpe_rows.specs.Truth.{same_truth};
 ghost use Rattle.cpe_inventory.specs.ticket_list.Rising.{IsRising, IsRisingBy};
 ghost use Rattle.statement_rows.specs.declared.row.Cause.TheVariants.{Check};
@@ -62,7 +62,7 @@ pub(crate) fn verdict_of<T: FactTruth>(
     facts: &T,
     results: &Checks,
 ) -> Truth
-    ensures { result ≡ verdict_by (T.fact_truth facts.now) results.now numbered.now.statement numbered.now.ids.items }
+    ensures { result ≡ verdict_by (T.fact_truth facts.now) results.now.list numbered.now.statement numbered.now.ids.items }
 {
     test_truth(
         &numbered.statement.test,
@@ -104,7 +104,7 @@ fn verdicts_of<T: FactTruth>(numbered: &NumberedStatement, facts: &T) -> ByResul
 
 // The verdict of a row whose check has this result.
 fn verdict_at<T: FactTruth>(row: &Row, truth: Truth, facts: &T, results: &Checks) -> Truth
-    ensures { result ≡ verdict_after (Check truth) (T.fact_truth facts.now) results.now row.now }
+    ensures { result ≡ verdict_after (Check truth) (T.fact_truth facts.now) results.now.list row.now }
 {
     if row.alone {
         row.by_result.at(truth)
@@ -115,7 +115,7 @@ fn verdict_at<T: FactTruth>(row: &Row, truth: Truth, facts: &T, results: &Checks
 
 // What a refresh makes of a row.
 fn refresh_of<T: FactTruth>(row: &Row, cause: Cause, facts: &T, results: &Checks) -> Refresh
-    ensures verdict { result.verdict ≡ verdict_after cause (T.fact_truth facts.now) results.now row.now }
+    ensures verdict { result.verdict ≡ verdict_after cause (T.fact_truth facts.now) results.now.list row.now }
     ensures by_result { result.by_result ≡ by_result_after cause (T.fact_truth facts.now) row.now }
 {
     match cause {
@@ -154,7 +154,7 @@ fn refresh_row<T: FactTruth>(
     results: &Checks,
 )
     requires { IsNoted rows.old.items changed.old }
-    ensures rows { rows.new.items ≡ at_ticket ticket (judge_row cause (T.fact_truth facts.now) results.now) rows.old.items }
+    ensures rows { rows.new.items ≡ at_ticket ticket (judge_row cause (T.fact_truth facts.now) results.now.list) rows.old.items }
     ensures ready { rows.new.ready ≡ rows.old.ready }
     ensures changed { changed.new.items ≡ tickets is_changed rows.new.items }
     ensures capacity { vec_capacity changed.new ≡ vec_capacity changed.old }
@@ -179,7 +179,7 @@ pub(crate) fn refresh_rows<T: FactTruth>(
     results: &Checks,
 )
     requires { IsNoted rows.old.items changed.old }
-    ensures rows { rows.new.items ≡ at_rows list.now (judge_row cause (T.fact_truth facts.now) results.now) rows.old.items }
+    ensures rows { rows.new.items ≡ at_rows list.now (judge_row cause (T.fact_truth facts.now) results.now.list) rows.old.items }
     ensures ready { rows.new.ready ≡ rows.old.ready }
     ensures changed { changed.new.items ≡ tickets is_changed rows.new.items }
     ensures capacity { vec_capacity changed.new ≡ vec_capacity changed.old }

@@ -1,16 +1,17 @@
 // The rows of statements, and their public calls.
-ghost use Rattle.std.specs.Prelude.{◌≡◌, ◌++◌, ◌∷◌, ◌+◌, ◌<◌, List, ℕ, [], drop, false, find, length, map, nat_lt, position, take, Some, OnOk, OnErr, option_copied, option_map, slice_get};
+ghost use Rattle.std.specs.Prelude.{◌≡◌, ◌++◌, ◌∷◌, ◌+◌, ◌<◌, List, [], drop, false, find, length, map, nat_lt, position, take, IfOk, Some, option_copied, option_map, slice_get};
 ghost use Rattle.std.specs.List.{AllByRecursion, list_any};
 ghost use Rattle.cpe_inventory.specs.ticket_list.Rising.{IsRisingBy};
 ghost use Rattle.cpe_rows.specs.Prelude.{has_id, has_key, most, number_of_facts, with_check, without_first};
 ghost use Rattle.cpe_rows.specs.declared.fault.Which.TheVariants as which;
 ghost use Rattle.cpe_rows.specs.declared.statement.Statement.{Statement};
+ghost use Rattle.cpe_rows.specs.declared.test.CheckKey.{CheckKey};
 ghost use Rattle.name_index.specs.declared.table.NameId.{NameId};
 ghost use Rattle.statement_rows.specs.Askers.{AreAsked, AreAskedBut};
 ghost use Rattle.statement_rows.specs.Readings.{check_keys};
-ghost use Rattle.statement_rows.specs.State.{AreJudged, IsReadyRow, SameRoom, SameRows, StatementAdded, StatementReady, at_tickets, forget_row_change, is_of, judge, statements_of, use_in, use_of, without_verdict};
+ghost use Rattle.statement_rows.specs.State.{AreJudged, IsReadyResult, IsReadyRow, SameButResultRoom, SameRoom, SameRows, StatementAdded, StatementReady, at_tickets, checks_of, forget_row_change, is_of, judge, statements_of, use_in, use_of, without_verdict};
 
-use crate::askers::{add_all, askers_of, remove_all, trim_all};
+use crate::askers::{add_all, askers_of, remove_all};
 use crate::count::with_facts_of;
 use crate::fact_use::{FactUse, into_use};
 use crate::ids::{insert_id, place_by_id, remove_id};
@@ -19,7 +20,7 @@ use crate::ready_statement::ReadyStatement;
 use crate::row::{Cause, Row};
 use crate::rows::{forget_changes, refresh_rows, remove_changed, take_row};
 use crate::truths::FactTruth;
-use cpe_inventory::{Checks, TicketList};
+use cpe_inventory::{Checks, ReadyResult, TicketList};
 use cpe_rows::{CheckKey, Memory, Mode, Statement, Text, Truth};
 use name_index::NameId;
 use std::alloc::Global;
@@ -52,7 +53,7 @@ impl Model for StatementRows {
 
     ghost coded = { Prim.hlevel (codes, test.the_row.coded) };
 
-    ghost view = { λ b. record { rows = map view_of b.rows.items; checks = b.results; askers = b.askers.entries; next = b.next; ready = has_room b.rows.ready (length b.rows.items) (vec_capacity b.changed) (spare b.by_id) b.next } };
+    ghost view = { λ b. record { rows = map view_of b.rows.items; checks = b.results.list; askers = b.askers.entries; next = b.next; ready = has_room b.rows.ready (length b.rows.items) (vec_capacity b.changed) (spare b.by_id) b.next; result_room = b.results.ready } };
 
     ghost invariant = { λ b. AreRows b.rows.items b.changed b.by_id.entries b.askers.entries b.next × AreCounted b.facts b.rows.items };
 }
@@ -138,22 +139,6 @@ impl StatementRows {
         self.next += 1;
     }
 
-    /// Gives up a ready statement, and removes the lists that were made for it. Allocates: no.
-    pub fn give_up(&mut self, ready: ReadyStatement)
-        requires { (s : Statement) × (ids : List NameId) × IsReadyRow self.old s ids ready }
-        ensures same { SameRows self.old self.new }
-        ensures asked { (s : Statement) (ids : List NameId) → IsReadyRow self.old s ids ready → AreAskedBut (check_keys s.test) self.old.askers → AreAsked self.new.askers }
-    {
-        let ReadyStatement {
-            numbered,
-            id,
-            ticket: _,
-        } = ready;
-        trim_all(&mut self.askers, &numbered.statement.test);
-        drop(numbered);
-        drop(id);
-    }
-
     /// Removes the statement of this id, and returns which facts it used. Allocates: no.
     pub fn remove_statement(&mut self, id: &Text) -> Option<FactUse>
         ensures row { option_map use_in result ≡ option_map use_of (find (is_of id.now) self.old.rows) }
@@ -188,24 +173,28 @@ impl StatementRows {
         into_use(row)
     }
 
-    /// Sets the result of a check, in the place of its earlier result or else at the end. Judges the statements that ask for the check.
+    /// Makes a key ready for a result. Takes all memory for it, and changes no result and no verdict.
     ///
     /// # Errors
-    /// Only that memory ran out; all is then as it was.
-    pub fn set_result<T: FactTruth>(
-        &mut self,
-        key: CheckKey,
-        truth: Truth,
-        facts: &T,
-    ) -> Result<(), Memory>
-        ensures ok { OnOk result (self.new.checks ≡ with_check key truth self.old.checks) }
-        ensures err { OnErr result (self.new ≡ self.old) }
+    /// Only that memory ran out.
+    pub fn ready_result(&mut self, key: CheckKey) -> Result<ReadyResult, Memory>
+        ensures same { SameButResultRoom self.old self.new }
+        ensures ready { IfOk result (IsReadyResult self.new key) }
+    {
+        self.results.reserve(key)
+    }
+
+    /// Sets the result of a check whose key is ready, in the place of its earlier result or else at the end. Judges the statements that
+    /// ask for the check. Allocates: no.
+    pub fn set_result<T: FactTruth>(&mut self, ready: ReadyResult, truth: Truth, facts: &T)
+        requires { (k : CheckKey) × IsReadyResult self.old k ready }
+        ensures checks { (k : CheckKey) → IsReadyResult self.old k ready → self.new.checks ≡ with_check k truth self.old.checks }
         ensures same { map without_verdict self.new.rows ≡ map without_verdict self.old.rows }
         ensures room { SameRoom self.old self.new }
         ensures judged { AreJudged self.old (T.fact_truth facts.now) → AreJudged self.new (T.fact_truth facts.now) }
     {
-        let list = askers_of(&self.askers, &key);
-        self.results.set(key, truth)?;
+        let list = askers_of(&self.askers, ready.key());
+        self.results.set(ready, truth);
         refresh_rows(
             &mut self.rows,
             &mut self.changed,
@@ -214,7 +203,6 @@ impl StatementRows {
             facts,
             &self.results,
         );
-        Ok(())
     }
 
     /// Removes the result of a check, and returns whether there was one. Judges the statements that ask for it. Allocates: no.
@@ -267,7 +255,7 @@ impl StatementRows {
 
     /// The results that are kept for checks.
     pub fn results(&self) -> &Checks
-        ensures { result.now ≡ self.now.checks }
+        ensures { result.now ≡ checks_of self.now }
     {
         &self.results
     }

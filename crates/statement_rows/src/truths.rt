@@ -1,5 +1,5 @@
 // The truth of a test (NIST IR 7698), from the truths of its fact references.
-ghost use Rattle.std.specs.Prelude.{◌≡◌, ℕ, [], ◌∷◌, map};
+ghost use Rattle.std.specs.Prelude.{◌≡◌, ℕ, [], ◌∷◌};
 ghost use Rattle.cpe_rows.specs.Evaluation.{joined, negated};
 ghost use Rattle.cpe_rows.specs.declared.statement.Mode.{Mode};
 ghost use Rattle.cpe_rows.specs.declared.truth.Truth.{Truth};
@@ -51,8 +51,8 @@ pub(crate) fn test_truth<'i, T: FactTruth>(
     facts: &T,
     results: &Checks,
 ) -> OneTruth<'i>
-    ensures truth { result.truth ≡ (reading (kept_truth results.now) test.now (truths_of (T.fact_truth facts.now) mode ids.now)).0 }
-    ensures rest { truths_of (T.fact_truth facts.now) mode result.rest.now ≡ (reading (kept_truth results.now) test.now (truths_of (T.fact_truth facts.now) mode ids.now)).1 }
+    ensures truth { result.truth ≡ (reading (kept_truth results.now.list) test.now (truths_of (T.fact_truth facts.now) mode ids.now)).0 }
+    ensures rest { truths_of (T.fact_truth facts.now) mode result.rest.now ≡ (reading (kept_truth results.now.list) test.now (truths_of (T.fact_truth facts.now) mode ids.now)).1 }
 {
     match test {
         Test::Fact(_) => next_truth(ids, mode, facts),

@@ -1,5 +1,5 @@
 -- An addition is ready, or is taken back.
-use Rattle.std.proofs.Common.{◌≡◌, ◌<◌, ℕ, Bool, true, false, not, ◌&&◌, List, [], ◌∷◌, ◌++◌, map, Result, Ok, Err, OnErr, refl, sym, ap, subst, ◌∙◌}
+use Rattle.std.proofs.Common.{◌≡◌, ◌<◌, ℕ, Bool, true, false, not, ◌&&◌, List, [], ◌∷◌, ◌++◌, Result, Ok, Err, OnErr, refl, sym, ap, subst, ◌∙◌}
 use Rattle.std.specs.List.{AllByRecursion, flat_map, sum_by}
 use Rattle.std.proofs.lemmas.Bool.{or_left, true≢false}
 use Rattle.std.proofs.lemmas.List.{append-nil}
@@ -21,7 +21,7 @@ use Rattle.facts.specs.Users.{AreBelow}
 use Rattle.facts.proofs.UsedLemmas.{empty_is}
 use Rattle.statement_rows.specs.State.{IsReadyRow, SameRows, StatementRow, statements_of}
 use Rattle.verdicts.specs.Addition.{AreFresh, AreReady, FreshBeside, IsAddition}
-use Rattle.verdicts.specs.Verdicts.{HasVerdicts, SameStatements, tickets_in, VerdictsNow}
+use Rattle.verdicts.specs.Verdicts.{HasVerdicts, tickets_in, VerdictsNow}
 use Rattle.verdicts.specs.declared.addition.Addition.{Addition}
 use Rattle.verdicts.proofs.BesideLemmas.{used_wider}
 use Rattle.verdicts.proofs.FreshLemmas.{all_led, fresh_own, fresh_unused, fresh_whole}
@@ -124,6 +124,3 @@ module _ (table : Names) (are : AreNames table) (v new : VerdictsNow) (rows : Ro
 pub on_err : {Done Fault : Type 0} (r : Result Done Fault) (P : Type 0) → P → OnErr r P
 on_err (Ok x) P p = tt
 on_err (Err e) P p = p
-
-pub same_rows_known : (v new : VerdictsNow) → SameRows v.statements new.statements → SameStatements v new
-same_rows_known v new same = record { statements = ap statements_of same.rows; checks = same.checks; known = ap (map (λ (j : StatementRow). j.known)) same.rows }

@@ -1,5 +1,5 @@
 -- What a new result leaves of the statements.
-use Rattle.std.proofs.Common.{◌≡◌, ℕ, List, [], ◌∷◌, length, map, drop, get_or, Result, Ok, Err, OnOk, refl, sym, ap, subst, ◌∙◌, arith}
+use Rattle.std.proofs.Common.{◌≡◌, ℕ, Bool, List, [], ◌∷◌, length, map, drop, get_or, refl, sym, ap, subst, ◌∙◌, arith}
 use Rattle.std.specs.List.{AllByRecursion}
 use Rattle.name_index.specs.declared.table.NameId.{NameId}
 use Rattle.name_index.specs.Table.{Names}
@@ -87,6 +87,14 @@ with_results names v new next numbered facts used askers sound statements same c
   judged = judged;
 }
 
-pub on_ok : {Done Fault A B : Type 0} (r : Result Done Fault) → OnOk r A → (A → B) → OnOk r B
-on_ok (Ok x) a f = f a
-on_ok (Err x) a f = tt
+-- verdicts once there may be room for one more result
+pub with_result_room : (names : Names) (v : VerdictsNow) (room : Bool) (rows : Rows) → HasVerdicts names v rows → HasVerdicts names (record { facts = v.facts; statements = record v.statements { result_room = room } }) rows
+with_result_room names v room rows h = record {
+  statements = h.statements;
+  checks = h.checks;
+  numbered = h.numbered;
+  facts = h.facts;
+  needed = record { facts = h.needed.facts; askers = h.needed.askers };
+  sound = h.sound;
+  judged = h.judged;
+}

@@ -8,3 +8,4 @@ pub use Rattle.facts.specs as facts
 pub use Rattle.cpe_registry.specs as cpe_registry
 pub use Rattle.cpe_registry.specs.names_in_order as names_in_order
 pub use Rattle.cpe_dictionary.specs as cpe_dictionary
+pub use Rattle.statement_rows.specs as statement_rows

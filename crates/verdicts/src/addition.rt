@@ -26,7 +26,7 @@ use statement_rows::ReadyStatement;
 use std::alloc::Global;
 use std::sync::ledger::Ledger;
 
-/// A statement for which all memory is taken, with the facts that it adds. It has to be added or given up, since it is no `Drop`.
+/// A statement for which all memory is taken, with the facts that it adds. It has to be added, since it is no `Drop`.
 pub struct Addition {
     pub(crate) statement: ReadyStatement,
     // Those of its facts that no other statement uses, each once.
@@ -137,23 +137,5 @@ impl Verdicts {
         self.facts.lawful();
         let facts = Truths { facts: &self.facts };
         self.statements.add_statement(statement, &facts);
-    }
-
-    /// Gives up a statement that is ready: nothing is kept of it. Allocates: no.
-    pub fn give_up(&mut self, addition: Addition)
-        requires { (names : Names) × (entries : List Entry) × (s : Statement) × (ids : List NameId) × IsAddition self.old names entries s ids addition }
-        ensures verdicts { (names : Names) (entries : List Entry) (s : Statement) (ids : List NameId) (rows : Rows) → IsAddition self.old names entries s ids addition → HasVerdictsBeside names self.old rows s addition → HasVerdicts names self.new rows }
-        ensures same { SameStatements self.old self.new }
-    {
-        let Addition {
-            statement,
-            fresh,
-            asked,
-        } = addition;
-        drop(asked);
-        statement_rows::law::same_truths_judge_the_same();
-        self.facts.remove_unused(statement.mode(), &fresh);
-        self.facts.lawful();
-        self.statements.give_up(statement);
     }
 }

@@ -28,4 +28,5 @@ pub use addition::Addition;
 pub use cpe_registry::{FillFault, Registry};
 pub use lead::Lead;
 pub use removal::Removal;
+pub use statement_rows::ReadyResult;
 pub use verdicts::Verdicts;

@@ -1,6 +1,4 @@
 // The truths of facts, as the tests of statements read them.
-ghost use Rattle.facts.specs.fact_rows.Facts.{truth_of};
-ghost use Rattle.facts.specs.Facts.{table_of};
 
 use cpe_rows::{Mode, Truth};
 use facts::Facts;

@@ -64,7 +64,7 @@ impl Verdicts {
 
     /// The results of checks.
     pub fn results(&self) -> &Checks
-        ensures { result.now ≡ checks_in self.now }
+        ensures { result.now.list ≡ checks_in self.now }
     {
         self.statements.results()
     }

@@ -41,14 +41,14 @@ module _ (g : Over) (c : After-table g) where
       changed_turned (rows_in c.args.parts.now) (name_in c.args.parts.now.registry.table change.id) change.date change.comment change.turn
 
   stood : HasVerdicts c.table.result.now c.args.parts.now.verdicts (rows_in c.args.parts.now)
-  stood = subst (λ (t : Names). HasVerdicts t c.args.parts.now.verdicts (rows_in c.args.parts.now)) (sym (c.table.ensures ∙ c.in-Ok.ensures.table)) c.requires.are.verdicts
+  stood = subst (λ (t : Names). HasVerdicts t c.args.parts.now.verdicts (rows_in c.args.parts.now)) (sym (c.table.ensures ∙ c.change.ensures.table)) c.requires.are.verdicts
 
   lead : IsReadyLead c.args.parts.now.verdicts c.table.result.now (rows_in c.args.parts.now) (after (rows_in c.args.parts.now) (edit_in c.args.parts.now (numbered.Change c.args.change))).entries
       (name_in c.args.parts.now.registry.table c.args.change.id) c.args.lead
   lead =
       let p = c.args.parts.now in
       let next = after (rows_in p) (edit_in p (numbered.Change c.args.change)) in
-      subst (λ (t : Names). IsReadyLead p.verdicts t (rows_in p) next.entries (name_in p.registry.table c.args.change.id) c.args.lead) (sym (c.table.ensures ∙ c.in-Ok.ensures.table)) c.requires.lead
+      subst (λ (t : Names). IsReadyLead p.verdicts t (rows_in p) next.entries (name_in p.registry.table c.args.change.id) c.args.lead) (sym (c.table.ensures ∙ c.change.ensures.table)) c.requires.lead
 
 pub change-requires-clause-lawful : goal.change-requires-clause-lawful
 change-requires-clause-lawful g c = subst IsDictionary (sym (left g (goal.at.change-requires-clause-lawful g c).After-into_parts-deprecation)) c.requires.left.dictionary
@@ -59,24 +59,24 @@ lead-requires g c =
     let at = (goal.at.lead-requires g c).After-table in
     (rows_in p, edit_in p (numbered.Change c.args.change), name_in p.registry.table c.args.change.id, touches g at, c.requires.lawful, stood g at, lead g at)
 
-pub returns-in-Ok-clause-ok : goal.returns-in-Ok-clause-ok
-returns-in-Ok-clause-ok g c =
+pub returns-clause-are : goal.returns-clause-are
+returns-clause-are g c =
     let p = c.args.parts.now in
     let rows = rows_in p in
     let n = name_in p.registry.table c.args.change.id in
     let e = edit_in p (numbered.Change c.args.change) in
     let next = after rows e in
-    let ready = (goal.at.returns-in-Ok-clause-ok g c).After-into_parts-deprecation in
-    let at = (goal.at.returns-in-Ok-clause-ok g c).After-table in
-    by_lists p.registry c.change.new.self c.lead.new.self next [] c.in-Ok.ensures.table (c.in-Ok.ensures.ok ∙ left g ready) (c.in-Ok.ensures.items ∙ sym (c.deprecations_touch.ensures.items rows e n (touches g at)))
+    let ready = (goal.at.returns-clause-are g c).After-into_parts-deprecation in
+    let at = (goal.at.returns-clause-are g c).After-table in
+    by_lists p.registry c.change.new.self c.lead.new.self next [] c.change.ensures.table (c.change.ensures.entries ∙ left g ready) (c.change.ensures.items ∙ sym (c.deprecations_touch.ensures.items rows e n (touches g at)))
     (subst (λ (ns : List Values). Shows p.registry.table (holds_in p.registry.table) ns) (sym (c.deprecations_lead_elsewhere.ensures.kept rows e n (touches g at))) c.requires.are.held)
-    (subst (λ (t : Names). HasVerdicts t c.lead.new.self next) (c.table.ensures ∙ c.in-Ok.ensures.table) (c.lead.ensures.verdicts rows e n (touches g at) (stood g at) (lead g at).lists))
+    (subst (λ (t : Names). HasVerdicts t c.lead.new.self next) (c.table.ensures ∙ c.change.ensures.table) (c.lead.ensures.verdicts rows e n (touches g at) (stood g at) (lead g at).lists))
 
-pub returns-in-Ok-clause-steps : goal.returns-in-Ok-clause-steps
-returns-in-Ok-clause-steps g c =
+pub returns-clause-steps : goal.returns-clause-steps
+returns-clause-steps g c =
     let p = c.args.parts.now in
     let change = c.args.change in
     let n = name_in p.registry.table change.id in
-    let at = (goal.at.returns-in-Ok-clause-steps g c).After-table in
+    let at = (goal.at.returns-clause-steps g c).After-table in
     subst (λ (k : ℕ). StepsWithin c.args.steps.now c.lead.new.steps k) (sym (looks_turned (rows_in p) n change.date change.comment change.turn))
     (c.lead.ensures.steps (rows_in p) (edit_in p (numbered.Change change)) n (touches g at) (stood g at) (lead g at).lists)

@@ -42,5 +42,5 @@ held g c =
 pub release_all-requires-clause-are : goal.release_all-requires-clause-are
 release_all-requires-clause-are g c = (c.remove_statement-ids.new.self, after (rows_in c.args.parts.now) (edit.DropStatement c.args.id.now), [], held g (goal.at.release_all-requires-clause-are g c).After-deref)
 
-pub returns-clause-ok : goal.returns-clause-ok
-returns-clause-ok g c = c.release_all.ensures c.remove_statement-ids.new.self (after (rows_in c.args.parts.now) (edit.DropStatement c.args.id.now)) [] (held g (goal.at.returns-clause-ok g c).After-deref)
+pub returns-clause-are : goal.returns-clause-are
+returns-clause-are g c = c.release_all.ensures c.remove_statement-ids.new.self (after (rows_in c.args.parts.now) (edit.DropStatement c.args.id.now)) [] (held g (goal.at.returns-clause-are g c).After-deref)

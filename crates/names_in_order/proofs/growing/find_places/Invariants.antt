@@ -9,7 +9,7 @@ use Rattle.names_in_order.proofs.growing.find_places.Given as goal
 
 abbrev pub invariant-loop-id : goal.invariant-loop-id
 invariant-loop-id g l =
-    let place = placed (names_numbered l.table l.numbers) l.table in
+    let place = placed (names_numbered l.table l.numbers.numbers) l.table in
     record {
       live : AllByRecursion (λ (id : NameId). IsLive l.table id.0) l.id-iterator;
       later : l.fn.steps ≤ l.steps;

@@ -1,8 +1,8 @@
 use Rattle.std.proofs.Common.{List, inr, sym, subst, ap, ◌∙◌}
 use Rattle.name_index.specs.declared.table.NameId.{NameId}
-use Rattle.names_in_order.specs.InOrder.{AreInOrder, names_numbered, Roll}
+use Rattle.names_in_order.specs.InOrder.{AreInOrder, names_numbered}
 use Rattle.names_in_order.specs.Owned.{AreOwn}
-use Rattle.names_in_order.proofs.OwnLemmas.{let_go_own, new_nowhere, pushed_own}
+use Rattle.names_in_order.proofs.OwnLemmas.{let_go_own, new_nowhere, pushed_own, same_own}
 use Rattle.names_in_order.proofs.owned.put_last.Goals as goal
 
 pub returns-in-Ok-clause-own : goal.returns-in-Ok-clause-own
@@ -25,7 +25,7 @@ returns-in-Err-clause-own g c =
     let names = g.N.PushHeld.roll c.args.names.now in
     let id = c.args.id in
     let own = c.requires.own in
-    subst (λ (r : Roll). AreOwn new r.held r.numbers) (sym c.in-Err.ensures.err)
+    same_own new names (g.N.PushHeld.roll c.push_held.new.self) c.in-Err.ensures.err
     (let_go_own old new names.held names.held names.numbers id own c.release.ensures (c.orders_stay.ensures.released old new id.0 names.held names.numbers c.release.ensures (inr (new_nowhere old names.held names.numbers id own)) own.order))
 
 pub returns-in-Err-clause-err : goal.returns-in-Err-clause-err
@@ -34,5 +34,5 @@ returns-in-Err-clause-err g c =
     let new = c.release.new.self in
     let names = g.N.PushHeld.roll c.args.names.now in
     let id = c.args.id in
-    ap (λ (r : Roll). names_numbered new r.numbers) c.in-Err.ensures.err
+    ap (λ (ns : List NameId). names_numbered new ns) c.in-Err.ensures.err.numbers
     ∙ c.orders_stay.ensures.released_names old new id.0 names.held names.numbers c.release.ensures (inr (new_nowhere old names.held names.numbers id c.requires.own)) c.requires.own.order

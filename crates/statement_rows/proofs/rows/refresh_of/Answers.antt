@@ -10,8 +10,8 @@ returns-in-Fact g c =
     let row = c.args.row.now in
     record {
       verdict = c.verdict_of.ensures
-          ∙ (ap (λ (h : NumberedStatement). verdict_by truth c.args.results.now h.statement h.ids.items) c.deref.ensures
-          ∙ ap (λ (x : Cause). verdict_after x truth c.args.results.now row) (sym c.in-Fact.is));
+          ∙ (ap (λ (h : NumberedStatement). verdict_by truth c.args.results.now.list h.statement h.ids.items) c.deref.ensures
+          ∙ ap (λ (x : Cause). verdict_after x truth c.args.results.now.list row) (sym c.in-Fact.is));
       by_result = c.by_result_of.ensures
           ∙ (ap (λ (h : NumberedStatement). cond row.alone (each_verdict truth h.statement h.ids.items) row.by_result) c.deref-in-Fact.ensures
           ∙ ap (λ (x : Cause). by_result_after x truth row) (sym c.in-Fact.is));

@@ -24,7 +24,7 @@ returns-in-Some-clause-rows g c =
     let r : Row = c.in-Some.row.now in
     let next = c.refresh_of-next in
     let f = λ (r : Row). record r { verdict = next.result.verdict; by_result = next.result.by_result } in
-    let now = judge_row c.args.cause (g.T.FactTruth.fact_truth c.args.facts.now) c.args.results.now in
+    let now = judge_row c.args.cause (g.T.FactTruth.fact_truth c.args.facts.now) c.args.results.now.list in
     let at = found_row t r rows (sym c.in-Some.ensures) in
     c.change.ensures.items
     ∙ (changed_rows f t rows
@@ -47,4 +47,4 @@ returns-in-Some-clause-changed g c =
 
 pub returns-in_default-clause-rows : goal.returns-in_default-clause-rows
 returns-in_default-clause-rows g c =
-    not_found (judge_row c.args.cause (g.T.FactTruth.fact_truth c.args.facts.now) c.args.results.now) c.args.ticket c.args.rows.now.items (sym c.in_default.ensures)
+    not_found (judge_row c.args.cause (g.T.FactTruth.fact_truth c.args.facts.now) c.args.results.now.list) c.args.ticket c.args.rows.now.items (sym c.in_default.ensures)

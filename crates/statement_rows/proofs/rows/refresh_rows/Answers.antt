@@ -10,7 +10,7 @@ use Rattle.statement_rows.proofs.rows.refresh_rows.Goals as goal
 
 pub loop-ticket-init : goal.loop-ticket-init
 loop-ticket-init g c = record {
-  rows = sym (no_tickets (judge_row c.args.cause (g.T.FactTruth.fact_truth c.args.facts.now) c.args.results.now) (λ r. refl) c.args.rows.now.items);
+  rows = sym (no_tickets (judge_row c.args.cause (g.T.FactTruth.fact_truth c.args.facts.now) c.args.results.now.list) (λ r. refl) c.args.rows.now.items);
   ready = refl;
   noted = c.requires;
   capacity = refl;
@@ -20,8 +20,8 @@ pub loop-ticket-preserved : goal.loop-ticket-preserved
 loop-ticket-preserved g c =
     let ts = c.args.list.now in
     let i = c.loop-ticket.ticket-index in
-    let f = judge_row c.args.cause (g.T.FactTruth.fact_truth c.args.facts.now) c.args.results.now in
-    let again = anew_again c.args.cause (g.T.FactTruth.fact_truth c.args.facts.now) c.args.results.now in
+    let f = judge_row c.args.cause (g.T.FactTruth.fact_truth c.args.facts.now) c.args.results.now.list in
+    let again = anew_again c.args.cause (g.T.FactTruth.fact_truth c.args.facts.now) c.args.results.now.list in
     let t = get_or ts i 0 in
     let as_long = ap length c.refresh_row.ensures.rows ∙ length-map c.loop-ticket.rows.items (λ (r : Row). cond (nat_eq t r.ticket) (f r) r) in
     record {
@@ -38,5 +38,5 @@ loop-ticket-preserved g c =
 pub returns-clause-rows : goal.returns-clause-rows
 returns-clause-rows g c =
     c.loop-ticket.invariant.rows
-    ∙ ap (λ (ts : List ℕ). at_rows ts (judge_row c.args.cause (g.T.FactTruth.fact_truth c.args.facts.now) c.args.results.now) c.args.rows.now.items)
+    ∙ ap (λ (ts : List ℕ). at_rows ts (judge_row c.args.cause (g.T.FactTruth.fact_truth c.args.facts.now) c.args.results.now.list) c.args.rows.now.items)
     (take_all c.loop-ticket.ticket-index c.args.list.now c.loop-ticket-test.false)

@@ -5,7 +5,7 @@ use Rattle.statement_rows.proofs.rows.refresh_rows.Given as goal
 
 abbrev pub invariant-loop-ticket : goal.invariant-loop-ticket
 invariant-loop-ticket g l = record {
-  rows : l.rows.items ≡ at_rows (take l.ticket-index l.list) (judge_row l.cause (g.T.FactTruth.fact_truth l.facts) l.results) l.initial.rows.items;
+  rows : l.rows.items ≡ at_rows (take l.ticket-index l.list) (judge_row l.cause (g.T.FactTruth.fact_truth l.facts) l.results.list) l.initial.rows.items;
   ready : l.rows.ready ≡ l.initial.rows.ready;
   noted : IsNoted l.rows.items l.changed;
   capacity : vec_capacity l.changed ≡ vec_capacity l.initial.changed;

@@ -9,7 +9,7 @@ use Rattle.statement_rows.proofs.truths.+test_truth.Goals as goal
 
 pub loop-child-preserved : goal.loop-child-preserved
 loop-child-preserved g t c =
-    let check = kept_truth c.args.results.now in
+    let check = kept_truth c.args.results.now.list in
     let ts : List Truth = truths_of (g.T.FactTruth.fact_truth c.args.facts.now) c.args.mode c.args.ids.now in
     let items : List Test = c.as_slice-child-items.result.now in
     let i = c.loop-child.child-index in
@@ -21,7 +21,7 @@ loop-child-preserved g t c =
 
 pub returns-after-loop-child : goal.returns-after-loop-child
 returns-after-loop-child g t c =
-    let check = kept_truth c.args.results.now in
+    let check = kept_truth c.args.results.now.list in
     let ts : List Truth = truths_of (g.T.FactTruth.fact_truth c.args.facts.now) c.args.mode c.args.ids.now in
     let o = c.in-Logic.operator in
     let n = c.in-Logic.negate in

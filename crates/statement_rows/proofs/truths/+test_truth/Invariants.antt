@@ -6,5 +6,5 @@ use Rattle.statement_rows.proofs.truths.+test_truth.Given as goal
 
 abbrev pub invariant-loop-child : goal.invariant-loop-child
 invariant-loop-child g l =
-    (l.truth ≡ joined l.operator (truths_along (map (reading (kept_truth l.results)) (take l.child-index l.child-items)) (truths_of (g.T.FactTruth.fact_truth l.facts) l.mode l.ids)).0)
-    × (truths_of (g.T.FactTruth.fact_truth l.facts) l.mode l.rest ≡ (truths_along (map (reading (kept_truth l.results)) (take l.child-index l.child-items)) (truths_of (g.T.FactTruth.fact_truth l.facts) l.mode l.ids)).1)
+    (l.truth ≡ joined l.operator (truths_along (map (reading (kept_truth l.results.list)) (take l.child-index l.child-items)) (truths_of (g.T.FactTruth.fact_truth l.facts) l.mode l.ids)).0)
+    × (truths_of (g.T.FactTruth.fact_truth l.facts) l.mode l.rest ≡ (truths_along (map (reading (kept_truth l.results.list)) (take l.child-index l.child-items)) (truths_of (g.T.FactTruth.fact_truth l.facts) l.mode l.ids)).1)

@@ -5,8 +5,8 @@ use Rattle.cpe_rows.specs.declared.entry.Deprecation.{Deprecation}
 use Rattle.cpe_rows.specs.declared.entry.Entry.{Entry}
 use Rattle.name_index.specs.declared.table.NameId.{NameId}
 use Rattle.name_index.specs.Table.{kept_at}
-use Rattle.entries_in_order.specs.names_in_order.InOrder.{AreInOrder, names_numbered}
-use Rattle.entries_in_order.specs.Listed.{entries_listed, Listed}
+use Rattle.entries_in_order.specs.names_in_order.InOrder.{AreInOrder, names_numbered, Roll}
+use Rattle.entries_in_order.specs.declared.kept.Details.{Details}
 use Rattle.cpe_dictionary.specs.Given.{each_deprecated}
 use Rattle.cpe_dictionary.specs.Kept.{entries_in, entries_of, FitsTable, IsKept, Stored}
 use Rattle.entries_in_order.proofs.EntryLemmas.{count_is}
@@ -30,14 +30,14 @@ returns-in-Ok-clause-fits c =
     let fits = subst (FitsTable table) back c.requires.fits in
     let ns = names_numbered table i.entries.names.numbers in
     let even = length-map i.entries.names.numbers (λ (x : NameId). (kept_at table x.0).name) ∙ fits.even in
-    let left = ap (entries_listed table) c.give_all.ensures ∙ given_beside ns i.entries.details c.args.deprecations even in
+    let names = c.give_all.ensures.names in
+    let details = c.give_all.ensures.details in
+    let left = (λ j. entries_of (names_numbered table (names j).numbers) (details j)) ∙ given_beside ns i.entries.details c.args.deprecations even in
     let given = ap (λ (es : List Entry). each_deprecated es c.as_slice.result.now) (c.with.ensures ∙ ap (λ (s : Stored). entries_in table s) back)
     ∙ ap (λ (os : List (Option Deprecation)). each_deprecated (entries_of ns i.entries.details) os) c.as_slice.ensures in
     record {
-      order = subst (λ (l : Listed). AreInOrder table l.names.held l.names.numbers) (sym c.give_all.ensures) fits.order;
-      even =
-          ap (λ (l : Listed). length l.names.numbers) c.give_all.ensures ∙ fits.even ∙ sym (length_details i.entries.details c.args.deprecations)
-          ∙ sym (ap (λ (l : Listed). length l.details) c.give_all.ensures);
+      order = subst (λ (r : Roll). AreInOrder table r.held r.numbers) (sym names) fits.order;
+      even = ap (λ (r : Roll). length r.numbers) names ∙ fits.even ∙ sym (length_details i.entries.details c.args.deprecations) ∙ sym (ap (λ (ds : List Details). length ds) details);
       kept = subst (λ (es : List Entry). IsKept es c.in-Ok.graph.nodes) (given ∙ sym left) c.in-Ok.ensures.kept;
     }
 
@@ -48,4 +48,4 @@ returns-in-Ok-clause-ok c =
     let i = c.self.inside in
     let ns = names_numbered table i.entries.names.numbers in
     let even = length-map i.entries.names.numbers (λ (x : NameId). (kept_at table x.0).name) ∙ subst (λ (s : Stored). length s.names.numbers ≡ length s.details) (sym c.self.view_is) c.requires.fits.even in
-    ap (entries_listed table) c.give_all.ensures ∙ given_beside ns i.entries.details ds even ∙ ap (λ (s : Stored). each_deprecated (entries_in table s) ds) c.self.view_is
+    (λ j. entries_of (names_numbered table (c.give_all.ensures.names j).numbers) (c.give_all.ensures.details j)) ∙ given_beside ns i.entries.details ds even ∙ ap (λ (s : Stored). each_deprecated (entries_in table s) ds) c.self.view_is

@@ -1,6 +1,7 @@
 use Rattle.std.proofs.Common.{◌∙◌, ap}
 use Rattle.std.specs.List.{list_any}
 use Rattle.cpe_rows.specs.Rows.{has_key}
+use Rattle.cpe_inventory.specs.Results.{ChecksNow}
 use Rattle.cpe_inventory.proofs.ResultLemmas.{has_by_key}
 use Rattle.cpe_inventory.proofs.checks.Checks.has.Goals as goal
 
@@ -8,4 +9,4 @@ pub returns : goal.returns
 returns c =
     let s = c.self.inside in
     let key = c.args.key.now in
-    c.contains_key.ensures ∙ (has_by_key s.results.items s.by_key.entries s.next c.self.invariant key ∙ ap (list_any (has_key key)) c.self.view_is)
+    c.contains_key.ensures ∙ (has_by_key s.results.items s.by_key.entries s.next c.self.invariant key ∙ ap (λ (s : ChecksNow). list_any (has_key key) s.list) c.self.view_is)

@@ -3,7 +3,7 @@ use Rattle.std.specs.List.{list_any}
 use Rattle.std.specs.Map.{lookup}
 use Rattle.cpe_rows.specs.Rows.{has_key, same_key}
 use Rattle.cpe_rows.specs.After.{without_first}
-use Rattle.cpe_inventory.specs.Results.{AreKept, seen}
+use Rattle.cpe_inventory.specs.Results.{AreKept, ChecksNow, seen}
 use Rattle.cpe_inventory.specs.declared.kept.KeptResult.{KeptResult}
 use Rattle.cpe_inventory.proofs.ResultLemmas.{AreKept-left, has_by_key, left_by_ticket, left_whole}
 use Rattle.cpe_inventory.proofs.checks.Checks.remove.Goals as goal
@@ -18,9 +18,9 @@ invariant_of-self c =
     (AreKept-left key s.results.items s.by_key.entries entries s.next c.self.invariant c.forget.ensures.left c.in-Some.ticket c.take_out.ensures.rising (sym c.in-Some.ensures.ticket))
 
 -- a ticket is kept for the key exactly where a result is
-is_kept : (c : After-forget) → is_some (lookup (same_key c.args.key.now) c.self.inside.by_key.entries) ≡ list_any (has_key c.args.key.now) c.args.self.now
+is_kept : (c : After-forget) → is_some (lookup (same_key c.args.key.now) c.self.inside.by_key.entries) ≡ list_any (has_key c.args.key.now) c.args.self.now.list
 is_kept c =
-    has_by_key c.self.inside.results.items c.self.inside.by_key.entries c.self.inside.next c.self.invariant c.args.key.now ∙ ap (list_any (has_key c.args.key.now)) c.self.view_is
+    has_by_key c.self.inside.results.items c.self.inside.by_key.entries c.self.inside.next c.self.invariant c.args.key.now ∙ ap (λ (s : ChecksNow). list_any (has_key c.args.key.now) s.list) c.self.view_is
 
 pub returns-in-Some-clause-found : goal.returns-in-Some-clause-found
 returns-in-Some-clause-found c = ap is_some c.in-Some.ensures.ticket ∙ is_kept (goal.at.returns-in-Some-clause-found c).After-forget
@@ -31,7 +31,7 @@ returns-in-Some-clause-results c =
     let key = c.args.key.now in
     ap (λ (rs : List KeptResult). map seen rs) c.take_out.ensures.results
     ∙ (left_by_ticket s.results.items s.by_key.entries s.next c.self.invariant key c.in-Some.ticket c.take_out.ensures.rising (sym c.in-Some.ensures.ticket)
-    ∙ ap (without_first (has_key key)) c.self.view_is)
+    ∙ ap (λ (s : ChecksNow). without_first (has_key key) s.list) c.self.view_is)
 
 pub returns-in-None-clause-found : goal.returns-in-None-clause-found
 returns-in-None-clause-found c = ap is_some c.in-None.ensures.ticket ∙ is_kept (goal.at.returns-in-None-clause-found c).After-forget
@@ -39,4 +39,4 @@ returns-in-None-clause-found c = ap is_some c.in-None.ensures.ticket ∙ is_kept
 pub returns-in-None-clause-results : goal.returns-in-None-clause-results
 returns-in-None-clause-results c =
     let s = c.self.inside in
-    left_whole s.results.items s.by_key.entries s.next c.self.invariant c.args.key.now (sym c.in-None.ensures.ticket) ∙ ap (without_first (has_key c.args.key.now)) c.self.view_is
+    left_whole s.results.items s.by_key.entries s.next c.self.invariant c.args.key.now (sym c.in-None.ensures.ticket) ∙ ap (λ (s : ChecksNow). without_first (has_key c.args.key.now) s.list) c.self.view_is

@@ -1,9 +1,10 @@
 use Rattle.std.proofs.Common.{ap, subst, sym, ◌∙◌, List, map}
-use Rattle.std.proofs.lemmas.Result.{on_ok_weaker}
+use Rattle.std.specs.HashMap.{spare}
 use Rattle.cpe_rows.specs.After.{with_check}
-use Rattle.cpe_inventory.specs.Results.{AreKept, seen}
+use Rattle.cpe_rows.specs.declared.test.CheckKey.{CheckKey}
+use Rattle.cpe_inventory.specs.Results.{AreKept, ChecksNow, has_room, seen}
 use Rattle.cpe_inventory.specs.declared.kept.KeptResult.{KeptResult}
-use Rattle.cpe_inventory.proofs.ResultLemmas.{AreKept-changed, set_by_ticket, set_last}
+use Rattle.cpe_inventory.proofs.ResultLemmas.{AreKept-changed, copied, roomy, set_by_ticket, set_last}
 use Rattle.cpe_inventory.proofs.checks.Checks.set.Goals as goal
 
 pub invariant_of-self : goal.invariant_of-self
@@ -12,19 +13,34 @@ invariant_of-self c =
     subst (λ (rs : List KeptResult). AreKept rs s.by_key.entries s.next) (sym c.change_truth.ensures.results)
     (AreKept-changed c.args.truth c.in-Some.ticket s.results.items s.by_key.entries s.next c.self.invariant)
 
-pub returns-in-Some-clause-ok : goal.returns-in-Some-clause-ok
-returns-in-Some-clause-ok c =
+pub returns-in-Some : goal.returns-in-Some
+returns-in-Some c k is =
     let s = c.self.inside in
-    let key = c.args.key in
+    let key = c.args.ready.key in
     let truth = c.args.truth in
     ap (λ (rs : List KeptResult). map seen rs) c.change_truth.ensures.results
     ∙ (set_by_ticket s.results.items s.by_key.entries s.next c.self.invariant key truth c.in-Some.ticket c.change_truth.ensures.rising (sym c.in-Some.ensures)
-    ∙ ap (with_check key truth) c.self.view_is)
+    ∙ (ap (λ (a : ChecksNow). with_check key truth a.list) c.self.view_is ∙ ap (λ (q : CheckKey). with_check q truth c.args.self.now.list) is.key))
 
-pub returns-in-None-clause-ok : goal.returns-in-None-clause-ok
-returns-in-None-clause-ok c =
+pub put_new-requires-clause-copy : goal.put_new-requires-clause-copy
+put_new-requires-clause-copy c =
     let s = c.self.inside in
-    let key = c.args.key in
+    let view = c.self.view_is in
+    copied s.results.items s.by_key.entries s.next c.self.invariant (has_room s.results.ready (spare s.by_key) s.next) c.args.self.now (ap (λ (a : ChecksNow). a.list) view) (ap (λ (a : ChecksNow). a.ready) view)
+    c.requires.0 c.args.ready c.requires.1 (sym c.in-None.ensures)
+
+pub put_new-requires-clause-room : goal.put_new-requires-clause-room
+put_new-requires-clause-room c =
+    let s = c.self.inside in
+    let view = c.self.view_is in
+    roomy s.results.items s.by_key.entries s.next c.self.invariant (has_room s.results.ready (spare s.by_key) s.next) c.args.self.now (ap (λ (a : ChecksNow). a.list) view) (ap (λ (a : ChecksNow). a.ready) view)
+    c.requires.0 c.args.ready c.requires.1 (sym c.in-None.ensures)
+
+pub returns-in-None : goal.returns-in-None
+returns-in-None c k is =
+    let s = c.self.inside in
+    let key = c.args.ready.key in
     let truth = c.args.truth in
-    let last = set_last s.results.items s.by_key.entries s.next c.self.invariant key truth (sym c.in-None.ensures) ∙ ap (with_check key truth) c.self.view_is in
-    on_ok_weaker c.put_new.result (λ is. is ∙ last) c.put_new.ensures.ok
+    c.put_new.ensures.results
+    ∙ (set_last s.results.items s.by_key.entries s.next c.self.invariant key truth (sym c.in-None.ensures)
+    ∙ (ap (λ (a : ChecksNow). with_check key truth a.list) c.self.view_is ∙ ap (λ (q : CheckKey). with_check q truth c.args.self.now.list) is.key))

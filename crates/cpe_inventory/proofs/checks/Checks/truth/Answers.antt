@@ -1,5 +1,6 @@
 use Rattle.std.proofs.Common.{◌∙◌, ap, sym}
 use Rattle.cpe_inventory.specs.Kept.{kept_truth}
+use Rattle.cpe_inventory.specs.Results.{ChecksNow}
 use Rattle.cpe_inventory.proofs.ResultLemmas.{truth_by_ticket, truth_unknown}
 use Rattle.cpe_inventory.proofs.checks.Checks.truth.Goals as goal
 
@@ -9,10 +10,10 @@ returns-in-Some c =
     let key = c.args.key.now in
     c.truth_of.ensures.truth
     ∙ (truth_by_ticket s.results.items s.by_key.entries s.next c.self.invariant key c.in-Some.ticket c.truth_of.ensures.rising (sym c.in-Some.ensures)
-    ∙ ap (λ cs. kept_truth cs key) c.self.view_is)
+    ∙ ap (λ (s : ChecksNow). kept_truth s.list key) c.self.view_is)
 
 pub returns-in-None : goal.returns-in-None
 returns-in-None c =
     let s = c.self.inside in
     let key = c.args.key.now in
-    truth_unknown s.results.items s.by_key.entries s.next c.self.invariant key (sym c.in-None.ensures) ∙ ap (λ cs. kept_truth cs key) c.self.view_is
+    truth_unknown s.results.items s.by_key.entries s.next c.self.invariant key (sym c.in-None.ensures) ∙ ap (λ (s : ChecksNow). kept_truth s.list key) c.self.view_is

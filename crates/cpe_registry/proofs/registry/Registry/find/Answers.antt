@@ -27,8 +27,8 @@ returns-clause-no_item c none =
     let i = c.self.inside in
     let n = c.args.name.now in
     ap (λ (r : Registered). list_any (is_same n) r.items) (sym c.self.view_is)
-    ∙ c.item_laws.ensures.same n (names_numbered i.table i.items)
-    ∙ name_nowhere i.table i.items n c.self.invariant.items (c.find.ensures.none none)
+    ∙ c.item_laws.ensures.same n (names_numbered i.table i.items.numbers)
+    ∙ name_nowhere i.table i.items.numbers n c.self.invariant.items (c.find.ensures.none none)
 
 pub returns-clause-none : goal.returns-clause-none
 returns-clause-none c none id has = c.find.ensures.none none id (subst (λ (r : Registered). HasName r.table id c.args.name.now) (sym c.self.view_is) has)

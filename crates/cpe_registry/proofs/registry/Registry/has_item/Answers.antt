@@ -15,6 +15,6 @@ returns c =
     let n = name_in i.table id in
     let live = subst (λ (r : Registered). IsLive r.table id.0) (sym c.self.view_is) c.requires in
     c.has.ensures
-    ∙ sym (name_among i.table i.items id n c.lawful.ensures c.self.invariant.items (own_name i.table id.0 live))
-    ∙ sym (c.item_laws.ensures.same n (names_numbered i.table i.items))
+    ∙ sym (name_among i.table i.items.numbers id n c.lawful.ensures c.self.invariant.items (own_name i.table id.0 live))
+    ∙ sym (c.item_laws.ensures.same n (names_numbered i.table i.items.numbers))
     ∙ ap (λ (r : Registered). list_any (is_same (name_in r.table id)) r.items) c.self.view_is

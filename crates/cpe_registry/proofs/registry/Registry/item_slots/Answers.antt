@@ -16,13 +16,13 @@ returns-clause-names c =
     let slots = c.slots.result.now in
     ap (filter_map (λ (slot : Option Values). slot)) c.new.ensures
     ∙ slots_named i.table slots
-    ∙ all_slots i.table slots i.items c.slots.ensures.numbers c.self.invariant.items
+    ∙ all_slots i.table slots i.items.numbers c.slots.ensures.numbers c.self.invariant.items
     ∙ ap (λ (r : Registered). r.items) c.self.view_is
 
 pub returns-clause-dense : goal.returns-clause-dense
 returns-clause-dense c =
     let i = c.self.inside in
     let slots = c.slots.result.now in
-    let many = length-map i.items (λ (x : NameId). (kept_at i.table x.0).name) in
+    let many = length-map i.items.numbers (λ (x : NameId). (kept_at i.table x.0).name) in
     let count : length c.new.result ≡ length slots = ap length c.new.ensures ∙ length-map slots (slot_name i.table) in
     subst (λ (r : Registered). length c.new.result ≤ length r.items + length r.items) c.self.view_is (omega (arith, count, many, c.slots.ensures.dense))

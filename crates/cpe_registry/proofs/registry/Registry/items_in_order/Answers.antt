@@ -1,6 +1,5 @@
 use Rattle.std.proofs.Common.{List, filter, sym, ap, subst, ◌∙◌}
 use Rattle.std.proofs.lemmas.Result.{IfOk-weaker}
-use Rattle.cpe_rows.specs.cpe_name.Eleven.{Values}
 use Rattle.name_index.specs.product_orders.Elements.{SameElements}
 use Rattle.name_index.specs.declared.table.NameId.{NameId}
 use Rattle.names_in_order.proofs.ChangeLemmas.{covered_live, passes, passing_names}
@@ -20,10 +19,10 @@ returns c =
     IfOk-weaker c.names_of.result _ _
     (λ names is test same.
     let there = subst (λ (r : Registered). SameElements (filter test r.items) (names_at r.table found)) (sym c.self.view_is) same in
-    let ids = c.in_ok-ids.ensures (passes test t) (found_numbers t c.lawful.ensures i.items found test c.self.invariant.items live there) in
+    let ids = c.in_ok-ids.ensures (passes test t) (found_numbers t c.lawful.ensures i.items.numbers found test c.self.invariant.items live there) in
     is
     ∙ ap (λ (numbers : List NameId). names_kept t numbers) (c.deref.ensures.value ∙ ids)
-    ∙ kept_numbered t (filter (passes test t) i.items) (covered_live t i.items (passes test t) c.self.invariant.items)
-    ∙ passing_names test t i.items
+    ∙ kept_numbered t (filter (passes test t) i.items.numbers) (covered_live t i.items.numbers (passes test t) c.self.invariant.items)
+    ∙ passing_names test t i.items.numbers
     ∙ ap (λ (r : Registered). filter test r.items) c.self.view_is)
     c.names_of.ensures

@@ -8,12 +8,12 @@ use Rattle.cpe_registry.proofs.FitLemmas.{Stays, live_released, names_released, 
 use Rattle.cpe_registry.proofs.registry.Registry.release.Goals as goal
 use Rattle.cpe_registry.proofs.registry.Registry.release.Goals.{After-release}
 
-stays : (c : After-release) → Stays c.self.inside.table c.release.new.self c.self.inside.dictionary c.self.inside.items
+stays : (c : After-release) → Stays c.self.inside.table c.release.new.self c.self.inside.dictionary c.self.inside.items.numbers
 stays c =
     let old = c.self.inside.table in
     let new = c.release.new.self in
     let s = c.self.inside.dictionary in
-    let r = c.self.inside.items in
+    let r = c.self.inside.items.numbers in
     let id = c.args.id in
     let law = c.orders_stay.ensures in
     let fit = c.self.invariant in
@@ -41,7 +41,7 @@ returns-clause-others c others held =
     let old = i.table in
     let new = c.release.new.self in
     let s = i.dictionary in
-    let r = i.items in
+    let r = i.items.numbers in
     let id = c.args.id in
     let live = subst (λ (x : Registered). IsLive x.table id.0) (sym c.self.view_is) c.requires.live in
     let then = subst (λ (x : Registered). AreHeld x (name_in x.table id ∷ others)) (sym c.self.view_is) held in

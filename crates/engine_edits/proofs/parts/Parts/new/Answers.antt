@@ -1,22 +1,17 @@
-use Rattle.std.proofs.Common.{ap, subst, ◌++◌}
+use Rattle.std.proofs.Common.{◌≡◌, ◌++◌, [], subst}
 use Rattle.cpe_dictionary.specs.Kept.{names_of}
 use Rattle.fact_laws.specs.Shown.{holds_in, Shows}
-use Rattle.verdicts.specs.cpe_registry.Registered.{Registered}
 use Rattle.engine_edits.proofs.parts.Parts.new.Goals as goal
 
 pub returns-clause-rows : goal.returns-clause-rows
 returns-clause-rows c =
-    let none = c.new.ensures.rows in
+    let none = c.new.ensures in
     let verdicts = c.new-2.ensures c.new.result.table in
-    λ k. record { entries = (none k).entries; items = (none k).items; statements = verdicts.statements k; checks = verdicts.checks k }
+    λ k. record { entries = none.entries k; items = none.items k; statements = verdicts.statements k; checks = verdicts.checks k }
 
 pub returns-clause-are : goal.returns-clause-are
 returns-clause-are c =
-    let none = c.new.ensures.rows in
+    let none = c.new.ensures in
     let r = c.new.result in
-    record {
-      entries = ap (λ (x : Registered). x.entries) none;
-      items = ap (λ (x : Registered). x.items) none;
-      held = subst (λ (x : Registered). Shows r.table (holds_in r.table) (names_of x.entries ++ x.items)) none c.new.ensures.held;
-      verdicts = c.new-2.ensures r.table;
-    }
+    let names : names_of r.entries ++ r.items ≡ [] = λ k. names_of (none.entries k) ++ none.items k in
+    record { entries = none.entries; items = none.items; held = subst (Shows r.table (holds_in r.table)) names none.held; verdicts = c.new-2.ensures r.table }

@@ -11,7 +11,7 @@ pub returns-clause-live : goal.returns-clause-live
 returns-clause-live g c =
     let table = c.args.table.now in
     let name = c.args.name.now in
-    let numbers = c.self.inside.numbers in
+    let numbers = c.self.inside.numbers.numbers in
     let live = subst (λ (r : Roll). AreLive table r.numbers) (sym c.self.view_is) c.requires.order.live in
     IfOk-weaker c.find_covered.result
     (λ v. v.items ≡ filter (is_covered table name) numbers)
@@ -23,7 +23,7 @@ pub returns-clause-covered : goal.returns-clause-covered
 returns-clause-covered g c =
     let table = c.args.table.now in
     let name = c.args.name.now in
-    let numbers = c.self.inside.numbers in
+    let numbers = c.self.inside.numbers.numbers in
     IfOk-weaker c.find_covered.result
     (λ v. v.items ≡ filter (is_covered table name) numbers)
     (λ v. names_numbered table v.items ≡ filter (covers name) (names_numbered table c.args.self.now.numbers))

@@ -6,4 +6,4 @@ use Rattle.names_in_order.proofs.OrderLemmas.{names_distinct}
 use Rattle.names_in_order.proofs.growing.NamesInOrder.lawful.Goals as goal
 
 pub returns : goal.returns
-returns c = subst (λ (ns : List Values). IsDistinct same_name ns) c.self.view_is (names_distinct c.self.inside.table.now c.self.inside.numbers.now c.lawful.ensures c.self.invariant.live c.lawful-2.ensures)
+returns c = subst (λ (ns : List Values). IsDistinct same_name ns) c.self.view_is (names_distinct c.self.inside.table.now c.self.inside.numbers.now.numbers c.lawful.ensures c.self.invariant.live c.lawful-2.ensures)

@@ -1,16 +1,24 @@
-use Rattle.std.proofs.Common.{◌≢◌, ◌∷◌, ◌++◌, [], List, ℕ, length, set, Some, slice_get, sym, ap, subst, ◌∙◌}
-use Rattle.name_index.specs.declared.table.NameId.{NameId}
-use Rattle.names_in_order.specs.InOrder.{ArePlaced}
-use Rattle.names_in_order.proofs.OrderLemmas.{put_last}
+use Rattle.std.proofs.Common.{◌≢◌, ◌≤◌, ◌<◌, ◌∷◌, ◌++◌, [], ℕ, Some, slice_get, sym, ap, subst, ◌∙◌}
+use Rattle.std.specs.Prelude.{length, vec_capacity}
+use Rattle.names_in_order.specs.Room.{NumberList}
+use Rattle.names_in_order.proofs.RoomLemmas.{spare_few, spare_room}
 use Rattle.names_in_order.proofs.numbers.NumbersInOrderPushNumber.push.Goals as goal
 
-pub invariant_of-self-2 : goal.invariant_of-self-2
-invariant_of-self-2 c =
-    let id = c.args.id in
-    let ns = c.self.inside.numbers.items in
-    let ps = c.reach_number.new.places.items in
-    let placed = subst (λ (xs : List NameId). ArePlaced xs ps) c.deref.ensures.value c.reach_number.ensures.placed in
-    let fresh = subst (λ (xs : List NameId). (k : ℕ) → slice_get xs k ≢ Some id) (sym c.self.view_is) c.requires in
-    let count = c.len-place.ensures ∙ sym c.deref.ensures.len ∙ ap length c.deref.ensures.value in
-    subst (λ (xs : List NameId). ArePlaced xs (set ps id.0 c.len-place.result)) (sym c.in_ok-push.ensures.items)
-    (subst (λ (n : ℕ). ArePlaced (ns ++ id ∷ []) (set ps id.0 n)) (sym count) (put_last ns ps placed id fresh c.in_ok-reach_number.ensures.known))
+pub put_last-requires-clause-fresh : goal.put_last-requires-clause-fresh
+put_last-requires-clause-fresh c = subst (λ (l : NumberList). (k : ℕ) → slice_get l.numbers k ≢ Some c.args.id) (sym c.self.view_is) c.requires.fresh
+
+pub put_last-requires-clause-known : goal.put_last-requires-clause-known
+put_last-requires-clause-known c = subst (λ (l : NumberList). c.args.id.0 < l.reach) (sym c.self.view_is) c.requires.room.reach
+
+pub put_last-requires-clause-room : goal.put_last-requires-clause-room
+put_last-requires-clause-room c =
+    let ns = c.self.inside.numbers in
+    spare_room (vec_capacity ns) (length ns.items) (subst (λ (l : NumberList). 1 ≤ l.spare) (sym c.self.view_is) c.requires.room.spare)
+
+pub put_last-requires-clause-few : goal.put_last-requires-clause-few
+put_last-requires-clause-few c =
+    let ns = c.self.inside.numbers in
+    spare_few (vec_capacity ns) (length ns.items) (subst (λ (l : NumberList). 1 ≤ l.spare) (sym c.self.view_is) c.requires.room.spare)
+
+pub returns : goal.returns
+returns c = record { numbers = c.put_last.ensures.numbers ∙ ap (λ (l : NumberList). l.numbers ++ c.args.id ∷ []) c.self.view_is }

@@ -31,7 +31,7 @@ invariant_of-self g c =
     let s = c.requires.0 in
     let h = c.requires.2 in
     let rows = inside.rows.items in
-    let r : Row = new_row truth inside.results ready.ticket ready.numbered in
+    let r : Row = new_row truth inside.results.list ready.ticket ready.numbered in
     let are : c.push.new.self.items ≡ rows ++ r ∷ [] = c.push.ensures ∙ ap (λ (r : Row). rows ++ r ∷ []) c.row_of-row.ensures in
     let ticket = h.ticket.0 ∙ sym (ap (λ (a : State). a.next) c.self.view_is) in
     let view = c.self.view_is in (
@@ -58,10 +58,10 @@ returns g c s ids is_ready =
     let truth = g.T.FactTruth.fact_truth c.args.facts.now in
     let ready = c.args.ready in
     let rows = inside.rows.items in
-    let r : Row = new_row truth inside.results ready.ticket ready.numbered in
+    let r : Row = new_row truth inside.results.list ready.ticket ready.numbered in
     let are : c.push.new.self.items ≡ rows ++ r ∷ [] = c.push.ensures ∙ ap (λ (r : Row). rows ++ r ∷ []) c.row_of-row.ensures in
-    let old : State = record { rows = map view_of rows; checks = inside.results; askers = inside.askers.entries; next = inside.next; ready = has_room inside.rows.ready (length rows) (vec_capacity inside.changed) (spare inside.by_id) inside.next } in
-    let new : State = record { rows = map view_of c.push.new.self.items; checks = inside.results; askers = c.add_all.new.askers.entries; next = inside.next + 1; ready = has_room c.push.new.self.ready (length c.push.new.self.items) (vec_capacity inside.changed) (spare c.insert_id.new.by_id) (inside.next + 1) } in
+    let old : State = record { rows = map view_of rows; checks = inside.results.list; askers = inside.askers.entries; next = inside.next; ready = has_room inside.rows.ready (length rows) (vec_capacity inside.changed) (spare inside.by_id) inside.next; result_room = inside.results.ready } in
+    let new : State = record { rows = map view_of c.push.new.self.items; checks = inside.results.list; askers = c.add_all.new.askers.entries; next = inside.next + 1; ready = has_room c.push.new.self.ready (length c.push.new.self.items) (vec_capacity inside.changed) (spare c.insert_id.new.by_id) (inside.next + 1); result_room = inside.results.ready } in
     subst (λ (a : State). IsReadyRow a s ids ready → StatementAdded a new s ids truth) c.self.view_is
     (λ (h : IsReadyRow old s ids ready).
     let put : new.rows ≡ old.rows ++ new_statement_row truth old s ids ∷ [] =

@@ -32,8 +32,8 @@ returns c =
     let s = c.args.statement in
     let ids = c.args.ids.now in
     let numbered = c.in_ok-numbered.numbered in
-    let old : State = record { rows = map view_of inside.rows.items; checks = inside.results; askers = inside.askers.entries; next = inside.next; ready = has_room inside.rows.ready (length inside.rows.items) (vec_capacity inside.changed) (spare inside.by_id) inside.next } in
-    let new : State = record { rows = map view_of after.rows.items; checks = inside.results; askers = after.askers.entries; next = inside.next; ready = has_room after.rows.ready (length after.rows.items) (vec_capacity after.changed) (spare after.by_id) inside.next } in
+    let old : State = record { rows = map view_of inside.rows.items; checks = inside.results.list; askers = inside.askers.entries; next = inside.next; ready = has_room inside.rows.ready (length inside.rows.items) (vec_capacity inside.changed) (spare inside.by_id) inside.next; result_room = inside.results.ready } in
+    let new : State = record { rows = map view_of after.rows.items; checks = inside.results.list; askers = after.askers.entries; next = inside.next; ready = has_room after.rows.ready (length after.rows.items) (vec_capacity after.changed) (spare after.by_id) inside.next; result_room = inside.results.ready } in
     subst (λ (a : State). StatementReady a new s ids c.with_id.result) c.self.view_is
     (ready_by old new s ids numbered after.rows.ready (length after.rows.items) (vec_capacity after.changed) (spare after.by_id)
     (record { rows = ap (map view_of) same.rows; checks = refl; next = refl; askers = same.ready.tickets }) refl c.in_ok-numbered.ensures.statement c.in_ok-numbered.ensures.ids

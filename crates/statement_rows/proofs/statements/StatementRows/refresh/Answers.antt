@@ -13,9 +13,9 @@ invariant_of-self g c =
     let ts = c.args.tickets.now in
     let rows = inside.rows.items in
     let are = c.refresh_rows.ensures.rows in (
-      AreRows-judged Fact truth inside.results ts rows c.refresh_rows.new.rows.items inside.changed c.refresh_rows.new.changed inside.by_id.entries inside.askers.entries inside.next c.self.invariant.0
+      AreRows-judged Fact truth inside.results.list ts rows c.refresh_rows.new.rows.items inside.changed c.refresh_rows.new.changed inside.by_id.entries inside.askers.entries inside.next c.self.invariant.0
           are c.refresh_rows.ensures.changed c.refresh_rows.ensures.capacity,
-      subst (IsCounted inside.facts) (sym (ap (λ (rs : List Row). statements_of (map view_of rs)) are ∙ statements-judged Fact truth inside.results ts rows)) c.self.invariant.1,
+      subst (IsCounted inside.facts) (sym (ap (λ (rs : List Row). statements_of (map view_of rs)) are ∙ statements-judged Fact truth inside.results.list ts rows)) c.self.invariant.1,
     )
 
 pub returns-clause-rows : goal.returns-clause-rows
@@ -24,5 +24,5 @@ returns-clause-rows g c =
     let inside = c.self.inside in
     let ts = c.args.tickets.now in
     ap (map view_of) c.refresh_rows.ensures.rows
-    ∙ (judged-at truth inside.results ts inside.rows.items c.self.invariant.0.alone
+    ∙ (judged-at truth inside.results.list ts inside.rows.items c.self.invariant.0.alone
     ∙ ap (λ (a : State). at_tickets ts (judge truth a.checks) a.rows) c.self.view_is)

@@ -1,4 +1,4 @@
-use Rattle.std.proofs.Common.{◌≡◌, ◌∙◌, Bool, true, false, cond, List, sym, ap, subst}
+use Rattle.std.proofs.Common.{◌∙◌, Bool, true, false, cond, List, sym, ap, subst}
 use Rattle.std.specs.List.{list_any}
 use Rattle.std.proofs.lemmas.Result.{IfOk-weaker}
 use Rattle.cpe_rows.specs.cpe_name.Eleven.{Values}

@@ -1,0 +1,64 @@
+// Edits for which all memory is taken.
+use crate::numbered::Change;
+use cpe_dictionary::{NoteRoom, Plan};
+use cpe_rows::{Changed, CheckKey, Provenance, Room, Text, Truth};
+use name_index::NameId;
+use verdicts::{Addition, Lead, ReadyResult, Removal};
+
+/// An edit without fault for which all memory is taken. [`Parts::make`](crate::Parts::make) makes it. It is no `Drop`: nothing
+/// else can become of it.
+pub struct ReadyEdit {
+    // The edit, with what was found and taken for it.
+    pub(crate) edit: Ready,
+    // The weight of all rows after it.
+    pub(crate) weight: u64,
+    // Empty places for the verdicts that it changes.
+    pub(crate) room: Room<Changed>,
+}
+
+/// What an edit adds, removes or changes, with what was found and taken for it. New names are held.
+pub(crate) enum Ready {
+    /// Adds an entry.
+    Entry {
+        id: NameId,
+        title: Text,
+        provenance: Provenance,
+    },
+    /// Adds an item with these ends.
+    Item {
+        id: NameId,
+        ends: Vec<NameId>,
+    },
+    /// Removes an item with these ends.
+    DropItem {
+        id: NameId,
+        ends: Vec<NameId>,
+    },
+    /// Changes the deprecation of an entry.
+    Change(ReadyChange),
+    /// Adds a statement; these are the numbers of its fact references.
+    PutStatement {
+        addition: Addition,
+        ids: Vec<NameId>,
+    },
+    /// Removes the statement of this id.
+    DropStatement {
+        id: Text,
+        removal: Removal,
+    },
+    /// Sets the result of a check.
+    SetCheck {
+        key: ReadyResult,
+        truth: Truth,
+    },
+    /// Removes the result of a check.
+    DropCheck(CheckKey),
+}
+
+/// A change of a deprecation: its plan, what it changes of items and facts, and the memory for its note.
+pub(crate) struct ReadyChange {
+    pub change: Change,
+    pub plan: Plan,
+    pub lead: Lead,
+    pub note: NoteRoom,
+}
