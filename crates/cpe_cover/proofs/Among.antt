@@ -1,4 +1,4 @@
--- Which names are among others.
+-- Which names are in a list of names.
 use Rattle.std.proofs.Common.{◌≡◌, Bool, true, false, cond, ◌&&◌, List, [], ◌∷◌, map, refl, sym, ap, subst, ◌∙◌, inl, inr}
 use Rattle.std.specs.Cmp.{both_ways as agree}
 use Rattle.std.specs.List.{list_any, filter, AllByRecursion}
@@ -21,7 +21,7 @@ same_back a b = by (same_name a b) refl
     by true e = e ∙ sym ((same_name-Decides b a).1 (sym (same_is a b e)))
     by false e = e ∙ sym (false_from_ne_true _ (λ h. both_ways _ e ((same_name-Decides a b).1 (sym (same_is b a h)))))
 
--- ---- a test of some name
+-- ---- a test that some name passes
 
 pub found_among : (f : Values → Bool) (ns : List Values) → list_any f ns ≡ true → (m : Values) × (is_among ns m ≡ true) × (f m ≡ true)
 found_among f [] h = absurd cc
@@ -44,7 +44,7 @@ same_any f xs ys same =
     (λ h. let x = found_among f xs h in among_finds f ys x.0 (sym (same x.0) ∙ x.1) x.2)
     (λ h. let x = found_among f ys h in among_finds f xs x.0 (same x.0 ∙ x.1) x.2)
 
--- tests that agree on the names
+-- tests that agree on the names of a list
 pub any_where : (f g : Values → Bool) (ns : List Values) → ((m : Values) → is_among ns m ≡ true → f m ≡ g m) → list_any f ns ≡ list_any g ns
 any_where f g ns same =
     agree (list_any f ns) (list_any g ns)
@@ -75,7 +75,7 @@ map_keeps f (n ∷ ns) all =
     let rest : map f ns ≡ ns = map_keeps f ns (λ m h. all m (or_right (same_name m n) (is_among ns m) h)) in
     λ i. here i ∷ rest i
 
--- what is so of each of the names
+-- what holds for each name of a list
 pub all_among : (P : Values → Type 0) (ns : List Values) → AllByRecursion P ns → (n : Values) → is_among ns n ≡ true → P n
 all_among P [] all n h = absurd cc
 all_among P (m ∷ ms) all n h = elim (or_cases (same_name n m) (is_among ms n) h) [
@@ -83,7 +83,7 @@ all_among P (m ∷ ms) all n h = elim (or_cases (same_name n m) (is_among ms n) 
   | inr later ↦ all_among P ms all.1 n later
 ]
 
--- of an image
+-- the names of a mapped list
 pub among_image : (f : Values → Values) (ns : List Values) (n : Values) → is_among (map f ns) n ≡ true → (m : Values) × (is_among ns m ≡ true) × (n ≡ f m)
 among_image f [] n h = absurd cc
 among_image f (m ∷ ms) n h = elim (or_cases (same_name n (f m)) (is_among (map f ms) n) h) [

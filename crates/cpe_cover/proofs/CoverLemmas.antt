@@ -1,4 +1,4 @@
--- What holds of covers.
+-- Laws of covers.
 use Rattle.std.proofs.Common.{◌≡◌, ℕ, zero, suc, ◌<◌, ◌≤◌, Bool, true, false, cond, not, ◌||◌, ◌&&◌, List, [], ◌∷◌, map, refl, sym, ap, subst, ◌∙◌, inl, inr, arith}
 use Rattle.std.specs.Cmp.{both_ways as agree}
 use Rattle.std.specs.Prelude.{IsTrue}
@@ -96,7 +96,7 @@ module _ (one : (a b : Values) (text : List ℕ) → Fs a text → Fs b text →
 
 -- ---- each name is covered
 
--- how many pass
+-- the number of names that pass
 abbrev passing : (Values → Bool) → List Values → ℕ
 passing p ns = sum_by (λ m. cond (p m) 1 0) ns
 
@@ -128,7 +128,7 @@ passing_lt p q imp (n ∷ ns) k h passes fails = elim (or_cases (same_name k n) 
     some m e = ap {B = ℕ} (λ (b : Bool). cond b 1 0) e
 
 module _ (through : (a b c : Values) → IsTrue (covers a b) → IsTrue (covers b c) → IsTrue (covers a c)) (both : (a b : Values) → IsTrue (covers a b) → IsTrue (covers b a) → lower_name a ≡ lower_name b) where
-  -- what covers one that covers another name in lower case covers this, too, and is another
+  -- in lower case: if a name covers another, and this covers a third, the first covers the third and isn't the same name
   over : (m k n : Values) → lower_name k ≡ k → lower_name n ≡ n → covers_other k n ≡ true → covers_other m k ≡ true → covers_other m n ≡ true
   over m k n lk ln h g =
       let above = and_parts (not (same_name k n)) (covers k n) h in
@@ -165,7 +165,7 @@ module _ (through : (a b c : Values) → IsTrue (covers a b) → IsTrue (covers 
             | inr under ↦ let c = found_among (λ m. covers m k) (cover ns) under in among_finds (λ m. covers m x) (cover ns) c.0 c.1 (through c.0 k x c.2 up)
           ]
 
-  -- ---- and the cover covers the same
+  -- ---- the cover covers the same names
 
   module _ (caseless : (a b : Values) → relations (lower_name a) (lower_name b) ≡ relations a b) where
     lower_covers : (m n : Values) → covers (lower_name m) n ≡ covers m n
@@ -193,6 +193,6 @@ module _ (through : (a b c : Values) → IsTrue (covers a b) → IsTrue (covers 
 
 -- ---- names in lower case
 
--- the cover of names in lower case is that of the names themselves
+-- for names in lower case, the cover needs no change of letter case
 pub lower_cover : (ns : List Values) → AllByRecursion IsLower ns → ordered (uncovered ns) ≡ cover ns
 lower_cover ns lower = ap (λ (ms : List Values). ordered (uncovered ms)) (sym (map_keeps lower_name ns (all_among IsLower ns lower)))

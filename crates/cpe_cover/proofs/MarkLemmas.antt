@@ -1,4 +1,4 @@
--- What is marked by the places of covered names.
+-- Marks at the places of covered names.
 use Rattle.std.proofs.Common.{◌≡◌, ℕ, ◌+◌, ◌<◌, ◌≤◌, Bool, true, false, cond, eqb, ◌||◌, ◌&&◌, List, [], ◌∷◌, length, get_or, take, refl, sym, ap, ◌∙◌, arith, eqb-true, eq-eqb}
 use Rattle.std.specs.List.{list_any, range_with_len, sum_by}
 use Rattle.std.proofs.lemmas.List.Folds.{list_any_at, list_any_more}
@@ -13,7 +13,7 @@ use Rattle.names_in_order.specs.Places.{name_at, near_count, places_covered}
 use Rattle.cpe_cover.specs.Marks.{AreMarks, is_marked, matches}
 use Rattle.cpe_cover.specs.Names.{pattern_looks}
 
--- a place is among those of the covered names exactly where its name is covered
+-- a place is among the places of the covered names exactly if its name is covered
 pub covered_at : (name : Values) (names : List Values) (k : ℕ) → k < length names → list_any (eqb k) (places_covered name names) ≡ covers name (name_at names k)
 covered_at name names k lt =
     any-filter_same (eqb k) p (p k) (λ j h. ap p (sym (eqb-true k j h))) (range_with_len 0 (length names))
@@ -27,7 +27,7 @@ covered_at name names k lt =
     and_true true = refl
     and_true false = refl
 
--- one source more
+-- the marks after one more source
 pub marks_more : (names : List Values) (old new : List Bool) (i : ℕ) → i < length names → AreMarks (take i names) names old → length new ≡ length old
     → ((k : ℕ) → k < length names → is_marked new k ≡ (is_marked old k || matches (name_at names i) (name_at names k))) → AreMarks (take (i + 1) names) names new
 marks_more names old new i lt marks len step = record {
@@ -35,7 +35,7 @@ marks_more names old new i lt marks len step = record {
   marked = λ k in_k. step k in_k ∙ ap (λ (b : Bool). b || matches (name_at names i) (name_at names k)) (marks.marked k in_k) ∙ sym (list_any_more (λ m. matches m (name_at names k)) names i any_values lt);
 }
 
--- the looks of all patterns are no more than those of all names
+-- the names with specials take no more looks than all names
 pub fewer_looks : (names sources : List Values) → sum_by (pattern_looks names) sources ≤ sum_by (λ n. near_count n names) sources
 fewer_looks names [] = omega arith
 fewer_looks names (n ∷ ns) = omega (arith, sum_by-cons (pattern_looks names) n ns, sum_by-cons (λ m. near_count m names) n ns, fewer_looks names ns, one (has_wildcards n))

@@ -1,4 +1,4 @@
--- Names in order, each once: such a list is fixed by its names.
+-- Names in order, each once. Such a list is fixed by the names that it has.
 use Rattle.std.proofs.Common.{◌≡◌, ◌≢◌, Bool, true, false, cond, not, ◌||◌, ◌&&◌, List, [], ◌∷◌, refl, sym, ap, ◌∙◌, inl, inr}
 use Rattle.std.specs.List.{AllByRecursion}
 use Rattle.std.specs.List.Sorted.{IsStrictlySortedBy}
@@ -37,7 +37,7 @@ not_both a b h k = less_not_greater (sym h ∙ order_back a b ∙ ap ordering_re
 
 -- ---- lists that rise
 
--- each before all after it
+-- each name is less than all names after it in the list
 abbrev pub Rises : List Values → Type 0
 Rises [] = Unit {0}
 Rises (n ∷ ns) = ((m : Values) → is_among ns m ≡ true → fs_order n m ≡ Less) × Rises ns
@@ -57,7 +57,7 @@ same_rising (x ∷ xs) (y ∷ ys) r s same =
     let rest : xs ≡ ys = same_rising xs ys r.1 s.1 (λ n. left first n) in
     λ i. first i ∷ rest i
   where
-    -- the first is not among those after it
+    -- the first name isn't among the names after it
     apart : (z : Values) (zs : List Values) → ((m : Values) → is_among zs m ≡ true → fs_order z m ≡ Less) → is_among zs z ≡ true → ⊥
     apart z zs up h = not_both z z (up z h) (up z h)
 
@@ -121,9 +121,9 @@ pub among_ordered : (ns : List Values) (n : Values) → is_among (ordered ns) n 
 among_ordered [] n = refl
 among_ordered (x ∷ ns) n = among_put x (ordered ns) n ∙ ap (λ (b : Bool). same_name n x || b) (among_ordered ns n)
 
--- where different names have different strings
+-- if different names have different formatted strings
 module _ (IsName : Values → Type 0) (apart : (a b : Values) → IsName a → IsName b → fs_text a ≡ fs_text b → a ≡ b) where
-  -- one that is neither the same nor before another is after it
+  -- a name that isn't the same as another and isn't less is greater
   pub behind : (a b : Values) → IsName a → IsName b → same_name a b ≡ false → is_lt (fs_order a b) ≡ false → fs_order b a ≡ Less
   behind a b na nb ne nl = by (fs_order a b) refl
     where

@@ -60,7 +60,7 @@ any_among p (v ∷ ws) w listed h = elim (or_cases (same_attribute w v) (is_list
   | inr later ↦ or_right (p v) (list_any p ws) (any_among p ws w later h)
 ]
 
--- names are equal where each value is
+-- names are equal if each of their values is
 equal_by : (a b : Values) → ((w : Attribute) → value_of a w ≡ value_of b w) → a ≡ b
 equal_by a b h = let all : map (value_of a) attributes ≡ map (value_of b) attributes = λ i. map (λ w. h w i) attributes in ap named all
 
@@ -74,7 +74,7 @@ pub plain_from : (n : Values) → ((w : Attribute) → has_specials (value_of n 
 unfolding has_wildcards
 plain_from n h = none_from (λ w. has_specials (value_of n w)) h attributes
 
--- ---- covering, by attributes
+-- ---- covering, attribute by attribute
 
 all_map : (f : Attribute → Relation) (ws : List Attribute) → list_all is_above (map f ws) ≡ list_all (λ w. is_above (f w)) ws
 all_map f [] = refl
@@ -88,7 +88,7 @@ pub covers_from : (a b : Values) → ((w : Attribute) → is_above (relation (va
 unfolding covers
 covers_from a b h = all_map (λ v. relation (value_of a v) (value_of b v)) attributes ∙ all_from (λ w. is_above (relation (value_of a w) (value_of b w))) h attributes
 
--- what is covered has no special
+-- a covered name has no special
 pub covered_plain : (a b : Values) → covers a b ≡ true → has_wildcards b ≡ false
 covered_plain a b h = plain_from b (λ w. false_from_ne_true _ (λ s. both_ways (is_above Undefined) refl (ap is_above (sym (special_undefined (value_of a w) (value_of b w) s)) ∙ covers_at a b h w)))
 
@@ -118,7 +118,7 @@ is_superset Subset = false
 is_superset Superset = true
 is_superset Undefined = false
 
--- a plain value that isn't ANY is above no other than itself
+-- a value without specials that isn't ANY is above no value except itself
 not_superset : (a b : Value) → has_specials a ≡ false → is_any a ≡ false → is_superset (relation a b) ≡ false
 not_superset value.Any b plain ne = absurd cc
 not_superset value.Na value.Any plain ne = refl
@@ -239,7 +239,7 @@ shape_from a b h = all_from (λ v. if any_at a v then any_at b v else not (any_a
 pub same_shape_itself : (a : Values) → same_shape a a ≡ true
 same_shape_itself a = shape_from a a (λ w. refl)
 
--- ---- what is found by its shape covers the name, and is another
+-- ---- a name that is found by its shape covers the other name, and isn't the same
 
 module _ (names : List Values) (n : Values) (plain : has_wildcards n ≡ false) where
   wide_plain : (s : Values) → has_wildcards (widened s n) ≡ false
@@ -271,7 +271,7 @@ module _ (names : List Values) (n : Values) (plain : has_wildcards n ≡ false) 
       among_finds (λ m. not (has_wildcards m) && covers_other m n) names (widened s n) parts.1
       (and_from (not (has_wildcards (widened s n))) (covers_other (widened s n) n) (ap not (wide_plain s)) (and_from (not (same_name (widened s n) n)) (covers (widened s n) n) (ap not (wide_other s parts.0)) (wide_covers s)))
 
-  -- ---- what covers the name is found by its shape
+  -- ---- a name that covers the other name is found by its shape
 
   module _ (ln : lower_name n ≡ n) (m : Values) (lm : lower_name m ≡ m) (plain_m : has_wildcards m ≡ false) (above : covers m n ≡ true) where
     lower_value_at : (x : Values) → lower_name x ≡ x → (w : Attribute) → lower_value (value_of x w) ≡ value_of x w

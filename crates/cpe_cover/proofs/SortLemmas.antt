@@ -1,4 +1,4 @@
--- Different names that are sorted by their strings are the names in order.
+-- Different names that are sorted by their formatted strings are the names in order.
 use Rattle.std.proofs.Common.{◌≡◌, ℕ, suc, ◌<◌, ◌≤◌, Bool, true, false, cond, ◌||◌, List, [], ◌∷◌, length, get_or, refl, sym, ap, ◌∙◌, inl, inr, arith}
 use Rattle.std.specs.Cmp.{both_ways as agree}
 use Rattle.std.specs.Cmp.{IsStrictWeakOrder}
@@ -28,7 +28,7 @@ pub weak_order : IsStrictWeakOrder before
 unfolding fs_order
 weak_order = ranks_by nat_list_cmp_total fs_text
 
--- ---- how often a name stands in a list
+-- ---- how often a name is in a list
 
 abbrev times : Values → List Values → ℕ
 times n ns = sum_by (λ m. cond (same_name n m) 1 0) ns
@@ -85,7 +85,7 @@ filter_distinct p (n ∷ ns) d = by (p n) (filter_distinct p ns d.1)
     by true rest = (filter_all (λ (m : Values). same_name n m ≡ false) p ns d.0, rest)
     by false rest = rest
 
--- ---- what is sorted rises
+-- ---- a sorted list rises
 
 module _ (one : (a b : Values) (text : List ℕ) → Fs a text → Fs b text → a ≡ b) where
   rises_sorted : (xs : List Values) → ((i j : ℕ) (d : Values) → i ≤ j → j < length xs → before (get_or xs j d) (get_or xs i d) ≡ false)

@@ -1,4 +1,4 @@
--- A name stays exactly where no other covers it.
+-- A name is in the cover exactly if no other name covers it.
 use Rattle.std.proofs.Common.{◌≡◌, ◌⊎◌, ℕ, ◌+◌, ◌<◌, Bool, true, false, cond, not, ◌||◌, ◌&&◌, List, [], ◌∷◌, ◌++◌, length, take, refl, sym, ap, ◌∙◌, inl, inr}
 use Rattle.std.specs.Cmp.{both_ways as agree}
 use Rattle.std.specs.List.{filter, list_any}
@@ -20,7 +20,7 @@ use Rattle.cpe_cover.specs.Shapes.{AreShapes, finds_wider, is_under}
 use Rattle.cpe_cover.proofs.Among.{among_finds, found_among, itself, same_is}
 use Rattle.cpe_cover.proofs.ShapeLemmas.{covered_plain, under_is}
 
--- a name is covered by one with a special, or by another without one
+-- a covered name is covered by a name with a special, or by another name without one
 covered_is : (names : List Values) (n : Values) → is_covered names n ≡ (is_matched names n || is_under names n)
 covered_is names n = agree (is_covered names n) (is_matched names n || is_under names n) forth (λ h. back (or_cases (is_matched names n) (is_under names n) h))
   where
@@ -71,7 +71,7 @@ module _ (names shapes : List Values) (marks : List Bool) (lower : (m : Values) 
           ∙ neither (is_matched names n) (is_under names n)
           ∙ ap not (sym (covered_is names n))
 
--- one place more
+-- one more place
 pub gathered_more : (p : Values → Bool) (names rows new : List Values) (i : ℕ) (b : Bool) → i < length names → rows ≡ filter p (take i names) → b ≡ p (name_at names i)
     → new ≡ cond b (rows ++ name_at names i ∷ []) rows → new ≡ filter p (take (i + 1) names)
 gathered_more p names rows new i b lt before is step =

@@ -1,4 +1,5 @@
--- The cover of names: those that no other of them covers, each once, in lower case and by the bytes of their formatted strings.
+-- The cover of names: the names that no other of them covers, each once, in lower case, in the order of the bytes of their formatted
+-- strings.
 use Rattle.std.specs.Prelude.{Bool, not, ◌&&◌, List, [], ◌∷◌, map, filter, if◌then◌else◌}
 use Rattle.std.specs.List.{list_any}
 use Rattle.std.specs.Cmp.Lexicographic.{slice_cmp}
@@ -10,31 +11,32 @@ use Rattle.cpe_rows.specs.cpe_name.Lower.{lower_name}
 use Rattle.cpe_relation.specs.NameRelation.{covers}
 use Rattle.cpe_fs.specs.Grammar.{fs_text}
 
--- By the bytes of the whole strings. So `p1` comes before `p`: after a value stands a colon, and digits are less.
+-- The order by the bytes of the whole formatted strings. So `p1` is before `p`: a colon follows each value, and digits are less than a
+-- colon.
 unfoldable pub fs_order : Values → Values → Ordering
 fs_order a b = slice_cmp nat_cmp (fs_text a) (fs_text b)
 
--- it covers the name, and is another
+-- the first name covers the second, and they aren't the same name
 abbrev pub covers_other : Values → Values → Bool
 covers_other m n = not (same_name m n) && covers m n
 
--- some other of the names covers it
+-- some other of the names covers this name
 abbrev pub is_covered : List Values → Values → Bool
 is_covered names n = list_any (λ m. covers_other m n) names
 
--- a name at its place among names in order, unless it is there
+-- names in order, with this name at its place, unless it is one of them
 abbrev pub put_in_order : Values → List Values → List Values
 put_in_order n [] = n ∷ []
 put_in_order n (m ∷ ms) =
     if same_name n m then m ∷ ms
     else (if is_lt (fs_order n m) then n ∷ m ∷ ms else m ∷ put_in_order n ms)
 
--- each once, in order
+-- the names in order, each once
 abbrev pub ordered : List Values → List Values
 ordered [] = []
 ordered (n ∷ ns) = put_in_order n (ordered ns)
 
--- those that no other of them covers
+-- the names that no other of them covers
 abbrev pub uncovered : List Values → List Values
 uncovered names = filter (λ n. not (is_covered names n)) names
 

@@ -1,4 +1,4 @@
--- What holds of covers.
+-- Laws of covers.
 use Rattle.std.specs.Prelude.{◌≡◌, Bool, true, ◌||◌, ◌&&◌, not, List, map}
 use Rattle.std.specs.List.{AllByRecursion, list_any}
 use Rattle.std.specs.List.Sorted.{IsStrictlySortedBy}
@@ -12,24 +12,24 @@ use Rattle.cpe_cover.specs.Cover.{cover, fs_order, is_covered}
 abbrev pub AreNames : List Values → Type 0
 AreNames names = AllByRecursion IsName names
 
--- the name is one of these
+-- this name is one of the names
 abbrev pub is_among : List Values → Values → Bool
 is_among names n = list_any (same_name n) names
 
--- the same names, up to order, repeats and letter case
+-- the lists have the same names, up to order, repeats and letter case
 abbrev pub AreSameNames : List Values → List Values → Type 0
 AreSameNames a b = (n : Values) → is_among (map lower_name a) n ≡ is_among (map lower_name b) n
 
--- in order, and exactly those names that no other covers
+-- The list is in order, and it has exactly those names, in lower case, that no other of the names covers.
 pub record IsCover (names cover : List Values) : Type 0 where
   pub rising : IsStrictlySortedBy fs_order cover
   pub members : (n : Values) → is_among cover n ≡ (not (is_covered (map lower_name names) n) && is_among (map lower_name names) n)
 
--- the function tells the one list that is so
+-- the function `cover` gives the one list that is a cover of the names
 abbrev pub CoversAreOne : Type 0
 CoversAreOne = (names : List Values) → AreNames names → IsCover names (cover names) × ((other : List Values) → IsCover names other → other ≡ cover names)
 
--- what is reduced stays
+-- the cover of a cover is the same list
 abbrev pub CoversStay : Type 0
 CoversStay = (names : List Values) → AreNames names → cover (cover names) ≡ cover names
 
@@ -37,10 +37,10 @@ CoversStay = (names : List Values) → AreNames names → cover (cover names) �
 abbrev pub CoversAreOfNames : Type 0
 CoversAreOfNames = (a b : List Values) → AreNames a → AreNames b → AreSameNames a b → cover a ≡ cover b
 
--- each name is in the cover, or a name of it covers it
+-- each of the names is in the cover, or some name of the cover covers it
 abbrev pub NamesAreCovered : Type 0
 NamesAreCovered = (names : List Values) (n : Values) → is_among (map lower_name names) n ≡ true → (is_among (cover names) n || list_any (λ m. covers m n) (cover names)) ≡ true
 
--- some name of the cover covers a name exactly where some of the names does
+-- some name of the cover covers a name exactly if some of the names does
 abbrev pub CoversMeanTheSame : Type 0
 CoversMeanTheSame = (names : List Values) (n : Values) → list_any (λ m. covers m n) (cover names) ≡ list_any (λ m. covers m n) names

@@ -1,4 +1,4 @@
--- What a line of a name says, and what stands at the end.
+-- What a line of a name changes and writes, and what is written at the end of the input.
 use Rattle.std.specs.Prelude.{ℕ, List, [], ◌++◌, false, Ok, Err, codes}
 use Rattle.std.specs.declared.option.Option.{Option}
 use Rattle.std.specs.declared.option.Option.TheVariants.{Some, None}
@@ -16,21 +16,21 @@ use Rattle.cpe_cover.specs.declared.fault.NamesWhich.{NamesWhich}
 use Rattle.cpe_cover.specs.declared.reason.CoverReason.TheVariants as reason
 use Rattle.cpe_cover.specs.Reasons.{reason_text}
 
--- these names follow, unless they exceed a limit
+-- the line leaves these names, unless they exceed a limit
 abbrev pub within_limits : List Values → Option NamesWhich → Saying (List Values)
 within_limits next None = Ok ([], next)
 within_limits next (Some which) = Err (reason_text (reason.Full which))
 
--- a name is added, which writes nothing
+-- the name is added; an accepted line writes nothing
 abbrev pub by_added : List Values → Values → Saying (List Values)
 by_added names n = within_limits (with_name names n) (fault_of (with_name names n))
 
--- in lower case
+-- the name that is read from the line is added in lower case; a line without a name is refused
 abbrev pub by_read : List Values → Result Values ℕ → Saying (List Values)
 by_read names (Ok n) = by_added names (lower_name n)
 by_read names (Err place) = Err (reason_text (reason.Name place))
 
--- a name as its formatted string
+-- the line of a name: its formatted string
 unfoldable pub name_line : Values → List ℕ
 name_line n = fs_text n ++ codes "\n"
 
@@ -43,6 +43,6 @@ cover_session = record {
   end_cost = looks;
 }
 
--- the most steps that the lines of these bytes may take, and their end
+-- the most steps that the lines of these bytes, and the end of the input, may take
 abbrev pub most_steps : List ℕ → ℕ
 most_steps taken = total_cost cover_session [] (lines taken)

@@ -1,4 +1,4 @@
--- The names as they are gathered, and what the calls answer.
+-- The names as they are gathered, and the results of the calls.
 use Rattle.std.specs.Prelude.{◌≡◌, ◌≤◌, ℕ, List, [], ◌∷◌, ◌++◌, length, nat_lt, if◌then◌else◌, Ok, Err}
 use Rattle.std.specs.List.{AllByRecursion, sum_by}
 use Rattle.std.specs.declared.option.Option.{Option}
@@ -17,39 +17,39 @@ use Rattle.cpe_cover.specs.declared.fault.NamesFault.TheVariants.{Full, Memory}
 use Rattle.cpe_rows.specs.declared.limits.TheConstants.{MOST_WEIGHT}
 use Rattle.cpe_cover.specs.declared.limits.TheConstants.{MOST_NAMES}
 
--- each name weighs 32, and one for each byte of its formatted string
+-- the weight of the names: 32 for each name, and 1 for each byte of its formatted string
 abbrev pub weight : List Values → ℕ
 weight names = sum_by name_weight names
 
--- a name that is there changes nothing
+-- the names with this name at the end, unless it is one of them
 abbrev pub with_name : List Values → Values → List Values
 with_name names n = if is_among names n then names else names ++ n ∷ []
 
--- the first limit that so many of this weight exceed
+-- the first limit that a list of this length and this weight exceeds
 abbrev pub full_by : ℕ → ℕ → Option NamesWhich
 full_by count heavy = if nat_lt MOST_NAMES count then Some which.Names else (if nat_lt MOST_WEIGHT heavy then Some which.Weight else None)
 
 abbrev pub fault_of : List Values → Option NamesWhich
 fault_of names = full_by (length names) (weight names)
 
--- what an addition leaves: a fault leaves the names as they were
+-- the names and the result after a name is added; if there is a fault, the names are unchanged
 abbrev pub Adds : List Values → List Values → Values → Result (Unit {0}) NamesFault → Type 0
 Adds old new n (Ok done) = (new ≡ with_name old n) × (fault_of (with_name old n) ≡ None)
 Adds old new n (Err (Full w)) = (new ≡ old) × (fault_of (with_name old n) ≡ Some w)
 Adds old new n (Err Memory) = new ≡ old
 
--- over the names, how many names each is near to
+-- the sum over all names: for each name, the number of names to whose product its own product is near
 abbrev pub looks : List Values → ℕ
 looks names = sum_by (λ n. near_count n names) names
 
--- the same over those with a special alone
+-- the same number for one name, if it has a special; else 0
 abbrev pub pattern_looks : List Values → Values → ℕ
 pattern_looks names n = if has_wildcards n then near_count n names else 0
 
 abbrev pub looks_of_patterns : List Values → ℕ
 looks_of_patterns names = sum_by (pattern_looks names) names
 
--- what is so of the names that are gathered, and of the number that is kept as their weight
+-- The gathered names are well-formed and in lower case, and within their limits. The kept number is their weight.
 pub record AreGathered (names : List Values) (heavy : ℕ) : Type 0 where
   pub lower : AllByRecursion IsLower names
   pub named : AreNames names

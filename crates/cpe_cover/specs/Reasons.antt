@@ -1,4 +1,4 @@
--- The reasons why a line is refused, as they are written. Memory that runs out refuses no line.
+-- The reasons why a line is refused, as they are written. Memory that runs out is no reason to refuse a line.
 use Rattle.std.specs.Prelude.{ℕ, List, ◌++◌, codes}
 use Rattle.std.specs.Fmt.{decimal}
 use Rattle.cpe_cover.specs.declared.fault.NamesWhich.{NamesWhich}

@@ -1,4 +1,4 @@
-// How many names there may be. Their weight has the limit of the rows.
+// The greatest number of names. Their weight has the same limit as the weight of rows.
 
-/// The most names.
+/// The greatest number of names.
 pub const MOST_NAMES: usize = 1_000_000;

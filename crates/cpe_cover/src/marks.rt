@@ -13,7 +13,7 @@ use names_in_order::NamesInOrder;
 use std::alloc::Global;
 use std::sync::ledger::Ledger;
 
-// Marks a place.
+// Marks a place, if there is a mark for it.
 fn mark_place(marks: &mut [bool], place: usize)
     ensures len { length marks.new ≡ length marks.old }
     ensures marked { (k : ℕ) → k < length marks.old → is_marked marks.new k ≡ (is_marked marks.old k || nat_eq k place) }
@@ -33,7 +33,7 @@ fn mark_places(marks: &mut [bool], places: &[usize])
     }
 }
 
-// Marks the names that a name covers, where it has a special.
+// Marks the names that a name covers, if this name has a special.
 fn mark_matched<L: Ledger>(
     alloc: Global,
     names: &NamesInOrder<'_>,
@@ -55,7 +55,7 @@ fn mark_matched<L: Ledger>(
     Ok(())
 }
 
-// The same for the name at a place.
+// Does the same for the name at a place.
 fn mark_by_place<L: Ledger>(
     alloc: Global,
     names: &NamesInOrder<'_>,
@@ -76,11 +76,11 @@ fn mark_by_place<L: Ledger>(
     }
 }
 
-/// A mark for each name, by place: whether one of them with a special covers it. A step is a look at a name, and only a name with a
-/// special takes some.
+/// A mark for each name, by place: whether some name with a special covers it. A step is a look at a name. Only a name with a
+/// special takes steps.
 ///
 /// # Errors
-/// Only that memory ran out. The bound on steps holds then, too.
+/// Only that memory ran out. The bound on steps then holds too.
 pub(crate) fn find_matched<L: Ledger>(
     alloc: Global,
     names: &NamesInOrder<'_>,

@@ -1,4 +1,4 @@
-// The names as they are gathered.
+// Names that are gathered, and their cover.
 ghost use Rattle.std.specs.Prelude.{◌≡◌, ◌≤◌, ◌++◌, ◌∷◌, [], IfOk, OnOk, OnErr, false, length};
 ghost use Rattle.std.specs.List.{AllByRecursion};
 ghost use Rattle.name_index.specs.Prelude.{IsLower, StepsWithin};
@@ -21,10 +21,10 @@ use std::alloc::Global;
 use std::marker::Model;
 use std::sync::ledger::Ledger;
 
-/// Different names in lower case. Contracts see them as their list, in the order in which they came.
+/// Different names in lower case. Contracts see their list, in the order in which they were added.
 ///
-/// Each is kept once. At most [`MOST_NAMES`] are kept, and with 32 for each and one for each byte of its formatted string they weigh at
-/// most [`cpe_rows::MOST_WEIGHT`].
+/// There are at most [`MOST_NAMES`]. Their weight is at most [`cpe_rows::MOST_WEIGHT`]: 32 for each name, and 1 for each byte of
+/// its formatted string.
 #[derive(Drop)]
 pub struct Names {
     alloc: Global,
@@ -44,7 +44,7 @@ impl Model for Names {
     ghost invariant = { λ n. AreGathered n.names n.weight };
 }
 
-// The first limit that so many names of this weight exceed.
+// The first limit that a list of this length and this weight exceeds.
 fn full_by(count: usize, weight: u64) -> Option<NamesWhich>
     ensures { result ≡ full_by count weight }
 {
@@ -63,7 +63,7 @@ fn has(names: &OwnNames, name: &Wfn) -> bool
     names.all().find(name).is_some()
 }
 
-// Puts a copy of a new name last.
+// Adds a copy of a new name at the end.
 fn put_copy(alloc: Global, names: &mut OwnNames, name: &Wfn) -> Result<(), Memory>
     requires lower { IsLower name.now }
     requires fresh { is_among names.old name.now ≡ false }
@@ -74,7 +74,7 @@ fn put_copy(alloc: Global, names: &mut OwnNames, name: &Wfn) -> Result<(), Memor
     names.add(copied)
 }
 
-// The names that no other of them covers, in order, where those are marked that a name with a special covers.
+// The cover of the names. The marks say which names a name with a special covers.
 fn reduce_marked(
     alloc: Global,
     names: &NamesInOrder<'_>,
@@ -108,7 +108,7 @@ fn reduce_all<L: Ledger>(
 }
 
 impl Names {
-    /// No names. It takes no memory.
+    /// No names. Allocates: no.
     pub fn new(alloc: Global) -> Names
         ensures { result ≡ [] }
     {
@@ -119,18 +119,18 @@ impl Names {
         }
     }
 
-    /// How many there are.
+    /// The number of names.
     pub fn len(&self) -> usize
         ensures { result ≡ length self.now }
     {
         self.names.len()
     }
 
-    /// Adds a name in lower case. One that is there changes nothing. A name is found by its hash.
+    /// Adds a name in lower case. If the name is there already, nothing changes. A name is found by its hash.
     ///
     /// # Errors
-    /// [`NamesFault::Full`] exactly where a new name would make them too many, and else too heavy; or that memory ran out. The
-    /// names are then as they were.
+    /// [`NamesFault::Full`] exactly if the name is new, and with it the names would be too many or, else, too heavy; or that
+    /// memory ran out. The names are then unchanged.
     pub fn add(&mut self, name: &Wfn) -> Result<(), NamesFault>
         requires { IsLower name.now }
         ensures { Adds self.old self.new name.now result }
@@ -152,13 +152,16 @@ impl Names {
         }
     }
 
-    /// The names that no other of them covers, by the bytes of their formatted strings: their cover. A step is a look at a name: each name
-    /// looks at most once at those to whose products its own is near, and one without specials at none.
+    /// The cover: the names that no other of them covers, in the order of the bytes of their formatted strings.
     ///
-    /// A name without specials is tried with the shapes of the others, the attributes at which they are ANY, and found by its hash.
+    /// A step is a look at a name. Each name with a special takes at most one step for each name to whose product its own product
+    /// is near. A name without specials takes none.
+    ///
+    /// A shape is the set of attributes at which a name is ANY. For a name without specials and each wider shape of such names,
+    /// the name with ANY at these attributes is looked up by its hash.
     ///
     /// # Errors
-    /// Only that memory ran out. The bound on steps holds then, too.
+    /// Only that memory ran out. The bound on steps then holds too.
     pub fn reduce<L: Ledger>(
         &self,
         alloc: Global,

@@ -1,4 +1,4 @@
-// Different names in the order in which they came, with a table of their own.
+// Different names in the order in which they were added, with a table of their own.
 ghost use Rattle.std.specs.Prelude.{◌≡◌, ◌++◌, ◌∷◌, [], List, OnOk, OnErr, false, length};
 ghost use Rattle.std.specs.List.{list_any};
 ghost use Rattle.names_in_order.specs.InOrder.{names_numbered};
@@ -11,7 +11,8 @@ use names_in_order::{GrowingNames, NamesInOrder, add_name};
 use std::alloc::Global;
 use std::marker::Model;
 
-/// Different names in lower case in the order in which they came, in a table that nothing else uses. Contracts see them as their list.
+/// Different names in lower case, in the order in which they were added. Nothing else uses their table. Contracts see the list of
+/// these names.
 #[derive(Drop)]
 pub(crate) struct OwnNames {
     table: NameTable,
@@ -27,7 +28,7 @@ impl Model for OwnNames {
 }
 
 impl OwnNames {
-    /// No names. It takes no memory.
+    /// No names. Allocates: no.
     pub(crate) fn new(alloc: Global) -> OwnNames
         ensures { result ≡ [] }
     {
@@ -38,24 +39,24 @@ impl OwnNames {
         }
     }
 
-    /// How many there are.
+    /// The number of names.
     pub(crate) fn len(&self) -> usize
         ensures { result ≡ length self.now }
     {
         self.names.len()
     }
 
-    /// The names, found by their hashes, places and products.
+    /// The names as a list, in which names are found by hash, by place and by product.
     pub(crate) fn all(&self) -> NamesInOrder<'_>
         ensures { result ≡ self.now }
     {
         self.names.with(&self.table)
     }
 
-    /// Puts a new name in lower case last. The name is moved.
+    /// Adds a new name in lower case at the end. The name is moved.
     ///
     /// # Errors
-    /// Only that memory ran out; the names are then as they were.
+    /// Only that memory ran out. The names are then unchanged.
     pub(crate) fn add(&mut self, name: Wfn) -> Result<(), Memory>
         requires lower { IsLower name }
         requires fresh { list_any (same_name name) self.old ≡ false }

@@ -9,9 +9,9 @@ use std::alloc::{AllocError, Global};
 /// Why a line is refused.
 #[derive(Debug, Clone, Copy, PartialEq, Eq)]
 pub enum CoverReason {
-    /// No name has this text, as its formatted string or as its URI, and this is the place of the refusal.
+    /// No name has this text as its formatted string or as its URI. The number is the place of the refusal.
     Name(usize),
-    /// With its name there would be too much.
+    /// With the name of the line, this would exceed its limit.
     Full(NamesWhich),
 }
 

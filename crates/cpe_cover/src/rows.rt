@@ -1,4 +1,4 @@
-// The names that stay, each with its formatted string, by which they are put in order.
+// The names of a cover, each with its formatted string. They are sorted by these strings.
 ghost use Rattle.std.specs.Prelude.{◌≡◌, ◌<◌, ◌++◌, ◌∷◌, [], not, cond, filter, IfOk, OnOk, length, map};
 ghost use Rattle.std.specs.List.{AllByRecursion, IsDistinct};
 ghost use Rattle.cpe_rows.specs.cpe_name.Prelude.{IsLower, same_name};
@@ -67,7 +67,7 @@ fn is_marked(marks: &[bool], place: usize) -> bool
     marks[place]
 }
 
-// Whether no name covers this one, at this place.
+// Whether the name at this place is in the cover: it isn't marked, and if it has no special, no name of a wider shape covers it.
 fn stays(
     alloc: Global,
     names: &NamesInOrder<'_>,
@@ -97,7 +97,7 @@ fn put_spelled(alloc: Global, rows: &mut Vec<Spelled>, name: &Wfn) -> Result<(),
     Ok(())
 }
 
-// Puts the name at a place last, if it stays.
+// Adds the name at a place at the end, if it is in the cover.
 fn put_staying(
     alloc: Global,
     names: &NamesInOrder<'_>,
@@ -119,7 +119,7 @@ fn put_staying(
     Ok(())
 }
 
-/// The names that no other of them covers, in their order.
+/// The names that no other of them covers, in the order of the list.
 ///
 /// # Errors
 /// Only that memory ran out.
@@ -141,7 +141,7 @@ pub(crate) fn find_uncovered(
     Ok(rows)
 }
 
-/// Puts different names in order.
+/// Sorts different names by the bytes of their formatted strings.
 pub(crate) fn sort(rows: &mut Vec<Spelled>)
     requires names { AreNames rows.old.items }
     requires different { IsDistinct same_name rows.old.items }
@@ -151,7 +151,7 @@ pub(crate) fn sort(rows: &mut Vec<Spelled>)
     rows.sort_unstable_by(|a, b| a.compare(b));
 }
 
-/// The names alone.
+/// The names, without their formatted strings.
 ///
 /// # Errors
 /// Only that memory ran out.

@@ -12,10 +12,11 @@ use name_index::Steps;
 use std::alloc::Global;
 use std::sync::ledger::Ledger;
 
-/// Adds the name of each line of the source, and writes at its end those that no other of them covers.
+/// The status of a run of the command. It adds the name of each line of the source. At the end of the source it writes the names
+/// that no other of them covers.
 ///
-/// What stands written at each status is said as for every command that answers lines ([`answer_from`]). A step is a look at a name, and
-/// only the end takes some.
+/// What is written at each status is the same as for every command that answers lines ([`answer_from`]). A step is a look at a
+/// name. Only the end of the source takes steps.
 pub fn cover<S: Source, K: Sink, L: Ledger>(
     alloc: Global,
     source: &mut S,

@@ -1,4 +1,4 @@
-// The name without specials that covers another, found by its hash: at each attribute it is the same, or is ANY.
+// The name without specials that covers another. It is found by its hash: at each attribute it has the same value, or ANY.
 ghost use Rattle.std.specs.Prelude.{◌≡◌, ◌<◌, ◌||◌, ◌&&◌, not, false, true, IfOk, OnOk, length, if◌then◌else◌};
 ghost use Rattle.std.specs.List.{list_all, list_any};
 ghost use Rattle.cpe_rows.specs.Prelude.{has_wildcards, Values};
@@ -24,7 +24,7 @@ fn agree(a: bool, b: bool) -> bool
     if a { b } else { !b }
 }
 
-// Whether two names have ANY at the same attributes: whether they have one shape.
+// Whether two names are ANY at the same attributes: whether they have the same shape.
 fn same_shape(a: &Wfn, b: &Wfn) -> bool
     ensures { result ≡ same_shape a.now b.now }
 {
@@ -33,7 +33,7 @@ fn same_shape(a: &Wfn, b: &Wfn) -> bool
         .all(|which| agree(any_at(a, *which), any_at(b, *which)))
 }
 
-// Whether a name has ANY wherever the other has it.
+// Whether the first name is ANY at each attribute at which the second is.
 fn is_as_wide(a: &Wfn, b: &Wfn) -> bool
     ensures { result ≡ is_as_wide a.now b.now }
 {
@@ -54,7 +54,7 @@ fn is_among_shapes(shapes: &[Wfn], name: &Wfn) -> bool
     shapes.iter().any(|shape| same_shape(name, shape))
 }
 
-// Puts a name last where it has no special and a new shape.
+// Adds a copy of a name at the end, if the name has no special and its shape is new.
 fn put_shape(alloc: Global, shapes: &mut Vec<Wfn>, name: &Wfn) -> Result<(), Memory>
     ensures new { OnOk result (has_wildcards name.now ≡ false → list_any (same_shape name.now) shapes.new.items ≡ true) }
     ensures kept { OnOk result ((m : Values) → list_any (same_shape m) shapes.old.items ≡ true → list_any (same_shape m) shapes.new.items ≡ true) }
@@ -67,7 +67,7 @@ fn put_shape(alloc: Global, shapes: &mut Vec<Wfn>, name: &Wfn) -> Result<(), Mem
     Ok(())
 }
 
-// The same for the name at a place.
+// Does the same for the name at a place.
 fn put_shape_at(
     alloc: Global,
     names: &NamesInOrder<'_>,
@@ -84,7 +84,7 @@ fn put_shape_at(
     }
 }
 
-/// A name of each shape that names without specials have: a handful in most lists.
+/// A name of each shape that names without specials have. Most lists have only a few shapes.
 ///
 /// # Errors
 /// Only that memory ran out.
@@ -100,7 +100,7 @@ pub(crate) fn find_shapes(alloc: Global, names: &NamesInOrder<'_>) -> Result<Vec
 
 // ---- names of wider shapes
 
-// Gives a name ANY at an attribute, if the shape has it there.
+// Sets an attribute of a name to ANY, if the shape is ANY there.
 fn widen_at(shape: &Wfn, which: Attribute, name: &mut Wfn)
     ensures { name.new ≡ widened_at shape.now name.old which }
 {
@@ -113,7 +113,7 @@ fn widen_at(shape: &Wfn, which: Attribute, name: &mut Wfn)
     }
 }
 
-// The name with ANY where the shape has it.
+// A copy of the name with ANY at each attribute at which the shape is.
 #[tactic(auto, unfolding(crate::specs::Shapes::widened))]
 fn widen(alloc: Global, shape: &Wfn, name: &Wfn) -> Result<Wfn, Memory>
     ensures { IfOk result (λ wide. wide ≡ widened shape.now name.now) }
@@ -125,7 +125,7 @@ fn widen(alloc: Global, shape: &Wfn, name: &Wfn) -> Result<Wfn, Memory>
     Ok(wide)
 }
 
-// Whether the name is one of the names. It is let go.
+// Whether this name is one of the names. The name is dropped.
 fn has(names: &NamesInOrder<'_>, name: Wfn) -> bool
     ensures { result ≡ is_among names.now name }
 {
@@ -134,7 +134,7 @@ fn has(names: &NamesInOrder<'_>, name: Wfn) -> bool
     is_there
 }
 
-// Whether the shape is wider, and the name with it is one of the names.
+// Whether the shape is wider than the shape of the name, and the name widened by it is one of the names.
 fn finds_wider(
     alloc: Global,
     names: &NamesInOrder<'_>,
@@ -150,7 +150,8 @@ fn finds_wider(
     Ok(has(names, wide))
 }
 
-/// Whether the name is one of the names with some of these shapes that is wider. It looks at no name: each is found by its hash.
+/// Whether one of these shapes is wider than the shape of the name, and the name widened by it is one of the names. It looks at
+/// no name: names are found by hash.
 ///
 /// # Errors
 /// Only that memory ran out.

@@ -1,4 +1,4 @@
-// What a line of a name says.
+// What a line of a name changes and writes.
 ghost use Rattle.std.specs.Prelude.{◌≡◌, IfOk, OnErr, ℕ, List, option_map};
 ghost use Rattle.cpe_rows.specs.cpe_name.Lower.{IsLower, lower_name};
 ghost use Rattle.cpe_session.specs.Pages.{IsSaid};
@@ -16,8 +16,8 @@ use name_index::Steps;
 use std::alloc::{AllocError, Global};
 use std::sync::ledger::Ledger;
 
-/// Each line is a name, a formatted string or a URI, which is added to the names in lower case. At the end those are written that no
-/// other covers.
+/// Each line is a name: a formatted string or a URI. The name is added in lower case. At the end, the names that no other covers
+/// are written.
 #[derive(Clone, Copy, Debug, PartialEq, Eq)]
 pub struct Cover;
 
@@ -70,7 +70,7 @@ fn in_lower_case(name: Wfn) -> Wfn
     name.into_lower()
 }
 
-// Adds a name in lower case, and lets it go.
+// Adds a name in lower case, and drops the original. If the name is refused, the result is the reason.
 #[inline(never)]
 fn add(names: &mut Names, name: Wfn) -> Result<Option<CoverReason>, AllocError>
     ensures said { IfOk result (λ refused. (page : List ℕ) → IsSaid (by_added names.old (lower_name name)) names.old names.new page page (option_map reason_text refused)) }

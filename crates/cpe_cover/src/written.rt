@@ -1,4 +1,4 @@
-// The names that stay, as lines.
+// The names of a cover, as lines.
 ghost use Rattle.std.specs.Prelude.{◌≡◌, ◌++◌, [], OnOk, length, slice_get, flat_map};
 ghost use Rattle.std.specs.Option.{option_map_or};
 ghost use Rattle.cpe_fs.specs.Grammar.{fs_text};
@@ -49,10 +49,10 @@ fn push_name_line(alloc: Global, page: &mut Page, name: &Wfn) -> Result<(), Allo
     page.push(b"\n")
 }
 
-/// Puts a line for each name after what is gathered, and gives full pages to the sink on the way.
+/// Appends a line for each name to the page, and writes full pages to the sink.
 ///
 /// # Errors
-/// A failed write, or that memory ran out. A prefix of the lines may be written then.
+/// A failed write, or that memory ran out. A prefix of the lines may be written by then.
 pub(crate) fn pour_names<K: Sink>(
     alloc: Global,
     names: &List<Wfn>,

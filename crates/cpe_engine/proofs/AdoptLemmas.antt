@@ -1,4 +1,4 @@
--- Rows whose entries were given their deprecations at once: what they weigh, that they are lawful, and what stands.
+-- Rows whose entries get their deprecations at once: their weight, that they are lawful, and that an engine's parts belong to them.
 use Rattle.std.proofs.Common.{◌≡◌, ◌≤◌, ◌<◌, ◌+◌, ℕ, true, false, nat_lt, List, [], ◌∷◌, ◌++◌, length, map, refl, sym, ap, subst, ◌∙◌, inl, inr, arith, Option, None}
 use Rattle.std.specs.Prelude.{All}
 use Rattle.std.specs.List.{AllByRecursion, flat_map, list_all, list_any}
@@ -43,12 +43,12 @@ use Rattle.engine_edits.proofs.PartsLemmas.{by_lists, stay_kept, weight_within}
 abbrev pub AreActive : List Entry → Type 0
 AreActive es = AllByRecursion (λ (e : Entry). e.deprecation ≡ None) es
 
--- what an entry weighs with a deprecation and without one
+-- the weight of an entry with a deprecation, and without one
 beside_none : (e : Entry) (d : Option Deprecation)
     → entry_weight (record e { deprecation = d }) ≡ entry_weight (record e { deprecation = None }) + given_weight d
 beside_none e d = omega arith
 
--- an active entry that is given a deprecation
+-- the weight of an active entry that gets a deprecation
 one_given : (e : Entry) (d : Option Deprecation) → e.deprecation ≡ None
     → entry_weight (record e { deprecation = d }) ≡ entry_weight e + given_weight d
 one_given e d active = beside_none e d ∙ ap (λ (o : Option Deprecation). entry_weight (record e { deprecation = o }) + given_weight d) (sym active)
@@ -75,7 +75,7 @@ weighs_given rows ds even active =
         → new + items + statements + checks ≡ old + items + statements + checks + ones
     sums new old ones items statements checks h = omega arith
 
--- what was counted, and isn't too much, is what they weigh
+-- the weight that was counted is the weight of the rows, if it isn't too large
 pub counted_given : (rows : Rows) (ds : List (Option Deprecation)) (before n : ℕ) → length ds ≡ length rows.entries → AreActive rows.entries
     → before ≡ weight rows → n ≡ capped (before + total (map given_weight ds))
     → n ≡ capped (weight (with_deprecations rows ds))
@@ -146,7 +146,7 @@ module _ (rows : Rows) (ds : List (Option Deprecation)) (old : IsLawful rows) (l
 names_stay : (rows : Rows) (ds : List (Option Deprecation)) → names_kept (with_deprecations rows ds) ≡ names_kept rows
 names_stay rows ds = ap (λ (ns : List Values). ns ++ rows.items ++ flat_map (λ (s : Statement). fact_names s.test) rows.statements) (names_given rows.entries ds)
 
--- rows that are nothing but entries
+-- rows with nothing but entries
 module _ (rows : Rows) (bare : IsBare rows) where
   only : rows ≡ rows_of rows.entries
   only = λ k. record { entries = rows.entries; items = bare.items k; statements = bare.statements k; checks = bare.checks k }

@@ -1,4 +1,4 @@
--- Fact references and the items that show their truth.
+-- Facts, and the items that decide their truth.
 use Rattle.std.proofs.Common.{not, cond, ltb, ℕ, ◌≡◌, ◌≤◌, ◌||◌, List, [], Bool, true, false, Option, Some, None, find, is_some, length, position, slice_get, refl, ap, sym, ◌∙◌}
 use Rattle.std.specs.List.{position_or_len}
 use Rattle.std.proofs.lemmas.Bool.{ltb-false}
@@ -27,12 +27,12 @@ or_nothing : (b : Bool) → (b || false) ≡ b
 or_nothing true = refl
 or_nothing false = refl
 
--- in mode plain names are compared as they stand
+-- in mode `plain`, names are compared as they are
 pub plain_is : (relates : Values → Values → Bool) (fact : Values) (items : List Values) → find (relates fact) items ≡ find (is_followed relates [] fact) items
 plain_is relates fact items =
     ap (λ (p : Values → Bool). find p items) (λ j i. sym (or_nothing (relates fact i || false) ∙ or_nothing (relates fact i)) j)
 
--- what a truth rules out
+-- the relations that a truth rules out
 none_covered : (a b : Bool) → not (same_truth (truth a b) True) ≡ true → a ≡ false
 none_covered true b h = let w : ⊥ = cc in absurd w
 none_covered false b h = refl

@@ -1,4 +1,4 @@
--- The first item that some names show by where they lead.
+-- The first item that names cover or may cover, by the names to which it leads.
 use Rattle.std.proofs.Common.{◌≡◌, Bool, true, false, cond, not, ◌||◌, ◌&&◌, List, [], ◌∷◌, ◌++◌, filter, map, Some, refl, sym, ap, ◌∙◌}
 use Rattle.std.specs.Prelude.{find}
 use Rattle.std.specs.List.{AllByRecursion, list_all, list_any}
@@ -26,7 +26,7 @@ use Rattle.cpe_explain.specs.checked_certificates.declared.relates.Relates.{Rela
 use Rattle.verdicts.specs.Items.{AreItemsTo}
 use Rattle.cpe_engine.specs.Shown.{AreShown}
 
--- ---- the ends of a name in lower case are in lower case
+-- ---- if a name is in lower case, its ends are
 
 kept_all : (q p : Entry → Bool) (es : List Entry) → list_all q es ≡ true → list_all q (filter p es) ≡ true
 kept_all q p [] all = refl
@@ -55,12 +55,12 @@ ends_lower es n lawful lower = by (list_any (is_named n) es)
     by true = lower_names (filter is_active (chain es n)) (kept_all _ is_active (chain es n) (kept_all _ _ es lawful.names))
     by false = (lower, tt)
 
--- and so are the names to which it leads in either mode
+-- the names to which it leads are in lower case too, in either mode
 pub leads_lower : (rows : Rows) (mode : Mode) (n : Values) → IsDictionary rows.entries → IsLower n → AllByRecursion IsLower (leads rows.entries mode n)
 leads_lower rows Plain n lawful lower = (lower, tt)
 leads_lower rows Follow n lawful lower = ends_lower rows.entries n lawful lower
 
--- ---- what one name more shows
+-- ---- the items of one more name
 
 pub shown_more : (table : Names) (rows : Rows) (mode : Mode) (relates : Relates) (names : List Values) (n : Values) (found items : List NameId) → AreShown rows mode relates names (names_at table found)
     → AreItemsTo rows mode (related relates n) (names_at table items) → AreShown rows mode relates (names ++ n ∷ []) (names_at table (found ++ items))
@@ -78,7 +78,7 @@ shown_more table rows mode relates names n found items shown more i item =
     alone true = refl
     alone false = refl
 
--- ---- the first of them
+-- ---- the first of these items
 
 first_same : (p q : Values → Bool) (items : List Values) → ((n : Values) → list_any (is_same n) items ≡ true → p n ≡ q n) → find p items ≡ find q items
 first_same p q [] same = refl

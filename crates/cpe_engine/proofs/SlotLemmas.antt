@@ -1,4 +1,4 @@
--- Items by their slots, of which some may be empty.
+-- Items by their slots. Some slots may be empty.
 use Rattle.std.proofs.Common.{◌≡◌, ℕ, zero, suc, ◌+◌, ◌-◌, ◌<◌, ◌≤◌, List, [], ◌∷◌, Bool, true, false, cond, Option, Some, None, find, filter_map, drop, get_or, length, slice_get, refl, ap, sym, ◌∙◌, arith}
 use Rattle.std.proofs.lemmas.List.{drop_all}
 
@@ -6,7 +6,7 @@ module _ {A : Type 0} where
   abbrev pub held : List (Option A) → List A
   held slots = filter_map (λ (slot : Option A). slot) slots
 
-  -- what is held from a slot on
+  -- the items in the slots from this slot on
   pub held_some : (slots : List (Option A)) (i : ℕ) (x : A) → i < length slots → get_or slots i None ≡ Some x
       → held (drop i slots) ≡ x ∷ held (drop (i + 1) slots)
   held_some slots i x h e = rw one (go slots i h e) where
@@ -32,7 +32,7 @@ module _ {A : Type 0} where
   pub held_past : (slots : List (Option A)) (i : ℕ) → length slots ≤ i → held (drop i slots) ≡ []
   held_past slots i h = ap held (drop_all i slots h)
 
-  -- the first that passes is held from this slot on
+  -- the first item that passes is in a slot from this slot on
   abbrev pub IsLeft : (A → Bool) → List (Option A) → ℕ → Type 0
   IsLeft p slots i = find p (held (drop i slots)) ≡ find p (held slots)
 
@@ -53,7 +53,7 @@ module _ {A : Type 0} where
   pub left_none : (p : A → Bool) (slots : List (Option A)) (i : ℕ) → IsLeft p slots i → length slots ≤ i → find p (held slots) ≡ None
   left_none p slots i left h = sym left ∙ ap (find p) (held_past slots i h)
 
-  -- so many are left to the one that is asked
+  -- the asked item is at place `left` among the items from this slot on
   abbrev pub IsNth : List (Option A) → ℕ → ℕ → ℕ → Type 0
   IsNth slots k i left = slice_get (held (drop i slots)) left ≡ slice_get (held slots) k
 
@@ -75,7 +75,7 @@ module _ {A : Type 0} where
   pub nth_none : (slots : List (Option A)) (k i left : ℕ) → IsNth slots k i left → length slots ≤ i → slice_get (held slots) k ≡ None
   nth_none slots k i left nth h = sym nth ∙ ap (λ (xs : List A). slice_get xs left) (held_past slots i h)
 
-  -- where no slot is empty
+  -- if no slot is empty
   held_few : (slots : List (Option A)) → length (held slots) ≤ length slots
   held_few [] = omega arith
   held_few (None ∷ slots) = let rest = held_few slots in omega (arith, rest)

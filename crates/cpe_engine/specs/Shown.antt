@@ -1,4 +1,4 @@
--- The items that fact references show by where they lead.
+-- Items that names of facts cover or may cover, by the names to which items lead.
 use Rattle.std.specs.Prelude.{◌≡◌, List, true}
 use Rattle.std.specs.List.{list_any}
 use Rattle.cpe_rows.specs.cpe_name.Eleven.{Values}
@@ -9,6 +9,6 @@ use Rattle.engine_edits.specs.fact_laws.Asked.{leads}
 use Rattle.cpe_explain.specs.checked_certificates.Relates.{related}
 use Rattle.cpe_explain.specs.checked_certificates.declared.relates.Relates.{Relates}
 
--- of the items these are those that lead in a mode to a name to which one of the names stands so
+-- An item is found exactly if it leads, in this mode, to a name that one of the names covers, or may cover: `relates` says which.
 abbrev pub AreShown : Rows → Mode → Relates → List Values → List Values → Type 0
 AreShown rows mode relates names found = (n : Values) → list_any (is_same n) rows.items ≡ true → list_any (is_same n) found ≡ list_any (λ f. list_any (related relates f) (leads rows.entries mode n)) names

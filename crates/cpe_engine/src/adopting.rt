@@ -1,4 +1,4 @@
-// Entries that are taken over, with their deprecations given all at once.
+// Rows that an engine takes over: its entries get their deprecations all at once.
 ghost use Rattle.std.specs.Prelude.{◌≡◌, ◌+◌, IfErr, IfOk, OnOk, length, map};
 ghost use Rattle.cpe_rows.specs.Prelude.{IsLawful};
 ghost use Rattle.cpe_rows.specs.Weight.{total};
@@ -15,21 +15,21 @@ use verdicts::FillFault;
 /// Why rows can't be taken over.
 #[derive(Clone, Copy, Debug, PartialEq, Eq)]
 pub enum AdoptFault {
-    /// They are not lawful.
+    /// The rows aren't lawful.
     Unlawful,
     /// Memory ran out.
     Memory,
 }
 
 impl Engine {
-    /// Gives each entry the deprecation at its place, or none, all at once and without notes: so rows are taken over that were lawful
-    /// where they were kept. By one edit after the other they might be refused for what entries lead to in between. It costs the
-    /// entries and their successors, and searches nothing for each.
+    /// The engine after each entry gets the deprecation at its place in the list, or none. Notes are unchanged. So an engine
+    /// takes over lawful rows from elsewhere. Single edits might be refused for what entries lead to between two edits.
     ///
-    /// The engine has nothing but active entries, and there is a deprecation, or none, for each.
+    /// The engine has only active entries, and the list has one place for each. Time is proportional to the number of entries and
+    /// successors.
     ///
     /// # Errors
-    /// [`AdoptFault::Unlawful`] where the rows would not be lawful; or that memory ran out. The engine is let go then.
+    /// [`AdoptFault::Unlawful`] if the rows would not be lawful; or that memory ran out. The engine is then dropped.
     pub fn deprecate_all(
         self,
         deprecations: List<Option<Deprecation>>,
@@ -47,7 +47,7 @@ impl Engine {
     }
 }
 
-// Lets the parts of an engine go whose rows can't be taken over.
+// Drops the parts of an engine whose rows can't be taken over, and returns the given fault.
 fn let_go(parts: Parts, fault: AdoptFault) -> AdoptFault
     ensures { result ≡ fault }
 {
@@ -55,7 +55,7 @@ fn let_go(parts: Parts, fault: AdoptFault) -> AdoptFault
     fault
 }
 
-// Gives each entry the deprecation at its place, or none.
+// Gives each entry the deprecation at its place in the list, or none.
 fn deprecate_all(
     parts: &mut Parts,
     deprecations: List<Option<Deprecation>>,
@@ -84,7 +84,7 @@ fn deprecate_all(
     }
 }
 
-// The weight with that of each of these deprecations, or the largest number where it would be more.
+// The given weight with the weight of each of these deprecations, or the largest number if the sum is larger.
 fn with_all(weight: u64, deprecations: &[Option<Deprecation>]) -> u64
     ensures { result ≡ capped (weight + total (map given_weight deprecations.now)) }
 {
@@ -95,7 +95,7 @@ fn with_all(weight: u64, deprecations: &[Option<Deprecation>]) -> u64
     sum
 }
 
-// The same of one.
+// The given weight with the weight of one deprecation, or the largest number if the sum is larger.
 fn with_given(weight: u64, deprecation: &Option<Deprecation>) -> u64
     ensures { result ≡ capped (weight + given_weight deprecation.now) }
 {

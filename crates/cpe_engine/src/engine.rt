@@ -1,4 +1,4 @@
-// The engine, its edits and its answers.
+// The engine, its edits and its answers to queries.
 ghost use Rattle.std.specs.Prelude.{◌≡◌, ◌+◌, ◌≤◌, IfOk, OnErr, length, map, position, slice_get, true, option_map};
 ghost use Rattle.std.specs.List.{filter_map, list_any};
 ghost use Rattle.cpe_rows.specs.Prelude.{answer, Applied, chain, changes, has_key, is_lower, is_named, is_valid_edit, IsLawful, no_rows, verdict};
@@ -43,7 +43,7 @@ impl Model for Engine {
 }
 
 impl Engine {
-    /// An engine without rows. It takes no memory.
+    /// An engine without rows. Allocates: no.
     pub fn new(alloc: Global) -> Engine
         ensures { result ≡ no_rows }
     {
@@ -54,24 +54,24 @@ impl Engine {
         }
     }
 
-    /// Lets the engine go, with all that it keeps. A crate that lets one go in place proves anew how each of its parts goes.
+    /// Drops the engine, with all that it keeps. A crate that calls it need not prove how each part of an engine is dropped.
     pub fn let_go(self) {
         drop(self);
     }
 
-    /// Leaves in memory what the engine keeps, for a process that ends.
+    /// Leaves in memory what the engine keeps, for a process that is about to end.
     pub fn leave(self) {
         forget(self);
     }
 
-    /// What is so of every engine: its rows are lawful. It does nothing, and tells a proof so.
+    /// The rows of every engine are lawful. The function does nothing: its clause is for proofs.
     pub fn lawful(&self)
         ensures { IsLawful self.now }
     {
         let _parts = &self.parts;
     }
 
-    /// How many rows there are of each kind, and their weight. It goes over the entries, to count the deprecated ones.
+    /// The number of rows of each kind, and their weight. It counts the deprecated entries one by one.
     pub fn counts(&self) -> Counts
         ensures { result ≡ counts_of self.now }
     {
@@ -93,21 +93,21 @@ impl Engine {
         self.parts.weight
     }
 
-    /// How many entries there are.
+    /// The number of entries.
     pub fn entries_len(&self) -> usize
         ensures { result ≡ length self.now.entries }
     {
         self.parts.registry.dictionary().len()
     }
 
-    /// The entry at a place from 0, lent. There is none exactly where the place is the number of entries or more.
+    /// The entry at a place from 0, as a reference. There is none exactly if the place is the number of entries or more.
     pub fn entry_at(&self, k: usize) -> Option<EntryRef<'_>>
         ensures { option_map entry_lent result ≡ slice_get self.now.entries k }
     {
         self.parts.registry.entry_at(k)
     }
 
-    /// The entries of the chain of a name, lent: none where it is no entry. It searches the chain alone.
+    /// The entries of the chain of a name, as references; none if the name is no entry. It searches only the chain.
     ///
     /// # Errors
     /// Only that memory ran out.
@@ -117,22 +117,22 @@ impl Engine {
         self.parts.registry.chain_lent(alloc, name)
     }
 
-    /// The place from 0 of the entry of this name. It is found by the hash.
+    /// The place, from 0, of the entry of this name, if there is one. It is found by the hash of the name.
     pub fn place_of(&self, name: &Wfn) -> Option<u32>
         ensures { result ≡ position (is_named name.now) self.now.entries }
     {
         self.parts.registry.dictionary().number_of(name)
     }
 
-    /// How many items there are.
+    /// The number of items.
     pub fn items_len(&self) -> usize
         ensures { result ≡ length self.now.items }
     {
         self.parts.registry.items_len()
     }
 
-    /// The items by their slots, in their order. An item that goes leaves its slot to none, so that none can be found by its place among
-    /// all in one step; there are at most twice as many slots as items.
+    /// The items in their order, by slots. The slot of a removed item may stay empty, so the place of an item in the list isn't
+    /// always its slot. There are at most twice as many slots as items.
     pub fn item_slots(&self) -> ItemSlots<'_>
         ensures names { filter_map (λ slot. slot) result ≡ self.now.items }
         ensures dense { length result ≤ length self.now.items + length self.now.items }
@@ -140,14 +140,15 @@ impl Engine {
         self.parts.registry.item_slots()
     }
 
-    /// For how many checks a result is kept.
+    /// The number of checks for which a result is kept.
     pub fn checks_len(&self) -> usize
         ensures { result ≡ length self.now.checks }
     {
         self.parts.verdicts.results().len()
     }
 
-    /// The check at a place from 0 for which a result is kept, with it. There is none exactly where the place is their number or more.
+    /// The check at a place from 0 in the list of kept results, with its result. There is none exactly if the place is the number
+    /// of kept results or more.
     pub fn check_at(&self, k: usize) -> Option<(&CheckKey, Truth)>
         ensures { option_map (λ p. (p.0.now, p.1)) result ≡ slice_get self.now.checks k }
     {
@@ -161,14 +162,14 @@ impl Engine {
         self.parts.verdicts.results().has(key)
     }
 
-    /// How many statements there are.
+    /// The number of statements.
     pub fn statements_len(&self) -> usize
         ensures { result ≡ length self.now.statements }
     {
         self.parts.verdicts.len()
     }
 
-    /// The statement at a place from 0, with its verdict (NIST IR 7698), which is kept. There is none exactly where the place is the
+    /// The statement at a place from 0, with its verdict (NIST IR 7698), which is kept. There is none exactly if the place is the
     /// number of statements or more.
     pub fn statement_at(&self, k: usize) -> Option<(&Statement, Truth)>
         ensures statement { option_map (λ p. p.0.now) result ≡ slice_get self.now.statements k }
@@ -177,14 +178,15 @@ impl Engine {
         self.parts.verdicts.at(k)
     }
 
-    /// Makes an edit, and returns which verdicts it changes, in the order of the statements. All memory is taken before the first
-    /// change.
+    /// The verdicts that an edit changes, in the order of the statements. It makes the edit, and takes all memory before the
+    /// first change.
     ///
-    /// A step is a look at a name through an index. A new or removed item looks for the names near it and near its ends. A new
-    /// statement does so for each of its fact references, and a changed deprecation for the ends, before and after it, of all names
-    /// that lead to the entry. All other edits take no step. An edit that is refused, or that runs out of memory, takes none.
+    /// The edit is valid ([`Edit::valid`]), so the rows stay lawful ([`rows_stay_lawful`]).
     ///
-    /// The edit is in order ([`Edit::valid`]), so the rows stay lawful ([`rows_stay_lawful`]).
+    /// A step is a look at a name through an index. An item that is added or removed takes steps for the names near it and near
+    /// its ends. A new statement takes them for each of its facts. A change of a deprecation takes them for the ends, before and
+    /// after it, of all names that lead to the entry. All other edits take no step. An edit that is refused, or for which memory
+    /// runs out, takes none.
     ///
     /// # Errors
     /// The first fault of the edit in the order of [`EditFault`], or that memory ran out. The rows are then unchanged.
@@ -202,12 +204,12 @@ impl Engine {
         self.parts.apply(self.alloc, edit, steps)
     }
 
-    /// The answer to a query. That there is no entry or statement of a name or id is an answer too. The name or id is moved
-    /// into it. A step is a look at a name through an index: a search takes at most as many as there are entries to whose product
-    /// the asked one is near, a query for items as many as there are items whose product it meets, and each other query none. A verdict is kept,
-    /// and none is evaluated.
+    /// The answer to a query. If there is no entry or statement of the asked name or id, the answer says so. The name or id is
+    /// moved into the answer. The query is valid ([`Query::valid`]).
     ///
-    /// The query is in order ([`Query::valid`]).
+    /// A step is a look at a name through an index. A search takes at most one for each entry to whose product the product of the
+    /// asked name is near. A query for items takes at most one for each item whose product it meets. Each other query takes none.
+    /// A verdict is kept, so none is evaluated.
     ///
     /// # Errors
     /// Only that memory ran out.
@@ -304,7 +306,7 @@ impl Engine {
     }
 }
 
-// Lets the name of a query go where memory ran out. Under a `?` each of its eleven values would be let go in place.
+// Drops the name of a query after memory ran out. Under a `?` each of its eleven values would be dropped in place.
 fn let_go(name: Wfn, memory: Memory) -> Memory {
     drop(name);
     memory

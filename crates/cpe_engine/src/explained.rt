@@ -1,4 +1,4 @@
-// An engine as rows of which certificates are made, and by which they are tested.
+// An engine as the rows of certificates: they are made from its rows, and tested by them.
 ghost use Rattle.std.specs.Prelude.{◌≡◌, IfOk, IfSome, None, find, slice_get, true};
 ghost use Rattle.std.specs.Option.{option_copied, option_map_or};
 ghost use Rattle.cpe_rows.specs.Verdict.{fact_truth, finds_item, is_followed, truth};
@@ -23,8 +23,8 @@ fn truth_of(is_covered: bool, may_be: bool) -> Truth
 }
 
 impl Engine {
-    /// The item at a place from 0. There is none exactly where the place is the number of items or more. It takes no memory. Where no
-    /// slot is empty it is found in one step, and else it goes over the slots before it.
+    /// The item at a place from 0. There is none exactly if the place is the number of items or more. If no slot is empty, it is
+    /// found in one step; else the slots before it are passed one by one. Allocates: no.
     pub fn item_at(&self, k: usize) -> Option<&Wfn>
         ensures { option_copied result ≡ slice_get self.now.items k }
     {
@@ -32,7 +32,7 @@ impl Engine {
         item_of(&slots, self.items_len(), k)
     }
 
-    // The first item to which a name stands so in a mode. It goes over the items.
+    // The first item that a name covers or may cover in a mode, as `relates` says. It compares the items one by one.
     fn first_compared(
         &self,
         alloc: Global,
@@ -52,7 +52,8 @@ impl Engine {
         }
     }
 
-    // The same, found by products if the name is in lower case, as that of each fact of a statement is.
+    // The same item. If the name is in lower case, it is found by products. The name of each fact of a statement is in lower
+    // case.
     fn sought_item(
         &self,
         alloc: Global,
@@ -72,14 +73,15 @@ impl Engine {
 }
 
 impl Engine {
-    // The truth that is kept of a fact reference, if one is.
+    // The truth of a fact, if it is kept.
     fn told_truth(&self, mode: Mode, name: &Wfn) -> Option<Truth>
         ensures { IfSome result (λ truth. truth ≡ fact_truth self.now mode name.now) }
     {
         kept_truth(&self.parts.registry, &self.parts.verdicts, mode, name)
     }
 
-    // Whether it is kept that a fact reference has a truth by which its name stands so to no item.
+    // Whether the kept truth of a fact says that there is no such item: none that its name covers or may cover, as `relates`
+    // says.
     fn is_ruled_out(&self, relates: Relates, mode: Mode, name: &Wfn) -> bool
         ensures { result ≡ true → find (is_followed (related relates) (followed self.now mode) name.now) self.now.items ≡ None }
     {
@@ -89,7 +91,7 @@ impl Engine {
         }
     }
 
-    // Whether a name stands so to an item.
+    // Whether there is an item that a name covers or may cover in a mode, as `relates` says.
     fn is_found(
         &self,
         alloc: Global,
@@ -103,7 +105,7 @@ impl Engine {
         Ok(item.is_some())
     }
 
-    // The truth of a fact reference, by whether an item shows it.
+    // The truth of a fact, by a search among the items.
     fn sought_truth(&self, alloc: Global, mode: Mode, name: &Wfn) -> Result<Truth, Memory>
         ensures { IfOk result (λ truth. truth ≡ fact_truth self.now mode name.now) }
     {
@@ -115,7 +117,7 @@ impl Engine {
     }
 }
 
-// The deprecation of the entry at a place.
+// The deprecation of the entry at a place, if it has one.
 fn deprecation_at(engine: &Engine, place: usize) -> Option<&Deprecation>
     ensures { option_copied result ≡ option_map_or (λ e. e.deprecation) (slice_get engine.now.entries place) None }
 {

@@ -1,4 +1,4 @@
-// Where names lead, and the first item by where both lead.
+// The names to which names lead, and the first item that a name covers or may cover by the names to which both lead.
 ghost use Rattle.std.specs.Prelude.{◌≡◌, ◌∷◌, [], ℕ, IfOk, find, map, true, option_copied};
 ghost use Rattle.std.specs.List.{AllByRecursion, filter_map, list_any};
 ghost use Rattle.cpe_rows.specs.Prelude.{ends, is_followed, IsLower, Rows};
@@ -86,7 +86,7 @@ fn one_relates(relates: Relates, names: &[&Wfn], others: &[&Wfn]) -> bool
         .any(|name| relates_to_one(relates, *name, others))
 }
 
-// Whether one of these stands so to an end of an item.
+// Whether one of these names covers an end of an item, or may cover it, as `relates` says.
 fn is_met(
     registry: &Registry,
     alloc: Global,
@@ -100,7 +100,7 @@ fn is_met(
     Ok(one_relates(relates, fact_ends, &item_ends))
 }
 
-/// The first item to an end of which some end of the name stands so. It goes over the items.
+/// The first item with an end that some end of the name covers or may cover, as `relates` says. It compares the items one by one.
 ///
 /// # Errors
 /// Only that memory ran out.
@@ -124,7 +124,7 @@ pub(crate) fn first_followed<'t>(
     Ok(None)
 }
 
-// The names to which a name leads in a mode.
+// The names to which a name leads in a mode: itself in mode `plain`, its ends in mode `follow`.
 fn leads_of<'a>(
     registry: &'a Registry,
     alloc: Global,
@@ -139,7 +139,7 @@ fn leads_of<'a>(
     }
 }
 
-// The items that lead in a mode to a name to which a name in lower case stands so.
+// The items that lead, in a mode, to a name that this name covers or may cover, as `relates` says. This name is in lower case.
 fn items_shown(
     registry: &Registry,
     verdicts: &Verdicts,
@@ -159,7 +159,7 @@ fn items_shown(
     }
 }
 
-// The same for one of these names.
+// The same items for all of these names together.
 fn all_shown(
     registry: &Registry,
     verdicts: &Verdicts,
@@ -181,8 +181,8 @@ fn all_shown(
     Ok(all)
 }
 
-/// The first item to which a name in lower case stands so in a mode: some name to which the name leads stands so to one to which the
-/// item leads. It is found by products.
+/// The first item that a name covers or may cover in a mode, as `relates` says: some name to which the name leads is so related
+/// to some name to which the item leads. The name is in lower case. The item is found by products.
 ///
 /// # Errors
 /// Only that memory ran out.

@@ -1,4 +1,4 @@
-// Items by their slots, and the first to which a name stands so.
+// Items by their slots, and the first item that a name covers or may cover.
 ghost use Rattle.std.specs.Prelude.{◌≡◌, find, length, slice_get, filter_map, option_copied};
 ghost use Rattle.cpe_explain.specs.checked_certificates.Relates.{related};
 
@@ -6,7 +6,7 @@ use cpe_explain::Relates;
 use cpe_rows::Wfn;
 use engine_edits::ItemSlots;
 
-// The item at a place, where some slots may be empty.
+// The item at a place in the list of items. Some slots may be empty.
 fn nth_item<'t>(slots: &ItemSlots<'t>, k: usize) -> Option<&'t Wfn>
     ensures { option_copied result ≡ slice_get (filter_map (λ slot. slot) slots.now) k }
 {
@@ -22,7 +22,8 @@ fn nth_item<'t>(slots: &ItemSlots<'t>, k: usize) -> Option<&'t Wfn>
     None
 }
 
-/// The item at a place, where some slots may be empty, and it is known how many items there are: where no slot is empty it is found in one step.
+/// The item at a place in the list of items, whose length is `count`. Some slots may be empty. If none is, the item is found in
+/// one step.
 pub(crate) fn item_of<'t>(slots: &ItemSlots<'t>, count: usize, k: usize) -> Option<&'t Wfn>
     requires { count ≡ length (filter_map (λ slot. slot) slots.now) }
     ensures { option_copied result ≡ slice_get (filter_map (λ slot. slot) slots.now) k }
@@ -33,7 +34,7 @@ pub(crate) fn item_of<'t>(slots: &ItemSlots<'t>, count: usize, k: usize) -> Opti
     nth_item(slots, k)
 }
 
-/// The first item to which a name stands so. It goes over the items.
+/// The first item that a name covers or may cover, as `relates` says. It compares the items one by one.
 pub(crate) fn first_related<'t>(
     slots: &ItemSlots<'t>,
     relates: Relates,

@@ -1,4 +1,4 @@
-// Truths that are kept of facts.
+// The truths of facts that are kept.
 ghost use Rattle.std.specs.Prelude.{◌≡◌, IfSome};
 ghost use Rattle.cpe_rows.specs.Prelude.{fact_truth, Rows};
 ghost use Rattle.verdicts.specs.Verdicts.{HasVerdicts};
@@ -6,7 +6,7 @@ ghost use Rattle.verdicts.specs.Verdicts.{HasVerdicts};
 use cpe_rows::{Mode, Truth, Wfn};
 use verdicts::{Registry, Verdicts};
 
-/// The truth of a fact of a mode, if a statement uses it.
+/// The truth of a fact in a mode, if it is kept.
 pub(crate) fn kept_truth(
     registry: &Registry,
     verdicts: &Verdicts,

@@ -1,4 +1,4 @@
--- Advisories by the products of their names.
+-- Advisories in groups, by the products of their names.
 use Rattle.std.proofs.Common.{◌≡◌, ℕ, List, [], ◌∷◌, ◌++◌, map, filter, find, Bool, true, false, not, cond, ◌&&◌, ◌||◌, IsTrue, refl, ap, sym, subst, ◌∙◌}
 use Rattle.std.specs.Prelude.{None, Some}
 use Rattle.std.specs.Option.{option_map_or}
@@ -30,7 +30,7 @@ use Rattle.cpe_ranges.specs.Rows.{has_id}
 use Rattle.cpe_ranges.specs.declared.advisory.Advisory.{Advisory}
 use Rattle.cpe_ranges.proofs.KeptLemmas.{Pairs, ids-cons, one_affecting}
 
--- ---- groups where an advisory is put or dropped
+-- ---- groups after an advisory is added or removed
 
 abbrev ids : List Advisory → List (List ℕ)
 ids ads = map (λ (a : Advisory). a.id) ads
@@ -66,7 +66,7 @@ module _ (v : Value) where
         go false e found later =
             further (is_in_group v x) (is_in_group v a) x (filter (is_in_group v) xs) (filter (is_in_group v) (without_first (has_id id) xs)) e (later found)
 
--- ---- groups where an empty one is let go
+-- ---- groups after an empty group is dropped
 
 pub emptied : (p v : Value) (gs : Grouped) → group gs p ≡ [] → option_map_or (λ ids. ids) (cond (same_value p v) None (lookup (same_value v) gs)) [] ≡ group gs v
 emptied p v gs h = go (same_value p v) refl
@@ -116,7 +116,7 @@ module _ (s t : Parts) (lower_s : lower_value (value.Text s) ≡ value.Text s) (
       let trail : s.trail ≡ t.trail = nothing s.trail a.1 ∙ sym (nothing t.trail b.1) in
       λ i. value.Text (parts (lead i) (bodies h i) (trail i))
 
--- where a product is near another, both are plain and the same, or the first isn't plain
+-- if a product is near another, both are plain and the same, or the first isn't plain
 same_group : (p q : Value) → same_value (group_of p) value.Any ≡ false → lower_value p ≡ p → lower_value q ≡ q → near p q ≡ true → (is_plain q && same_value (group_of p) q) ≡ true
 same_group value.Any q other lp lq h = let wrong : ⊥ = cc in absurd wrong
 same_group value.Na q other lp lq h = let wrong : ⊥ = cc in absurd wrong
@@ -132,7 +132,7 @@ same_group (value.Text s) (value.Text t) other lp lq h = go (has_special s) refl
         (ap (λ b. same_value (cond (not b) (value.Text s) value.Any) (value.Text t)) e
         ∙ (same_value-Decides (value.Text s) (value.Text t)).1 (same_text s t lp lq e (double_not (has_special t) near_by.0) near_by.1))
 
--- ---- what affects a name is of its product, or has no plain one
+-- ---- an advisory that affects a name is of its product, or has no plain product
 
 module _ (near_law : (a b : Values) → IsTrue (covers a b) → IsTrue (near a.product b.product)) (n : Values) (lower_n : IsLower n) where
   elsewhere : (a : Advisory) → IsLower a.name → is_beside n.product a ≡ false → affects a n ≡ false
@@ -150,7 +150,7 @@ module _ (near_law : (a b : Values) → IsTrue (covers a b) → IsTrue (near a.p
           let covered = (and_parts (covers a.name n) (is_in_range a.start a.end n.version) e).0 in
           sym (beside (is_in_group value.Any a) refl (near_law a.name n covered)) ∙ out
 
-  -- so the others may be left out
+  -- so the other advisories need not be tested
   pub beside_suffice : (es : Pairs) → AreLower es → ids_affecting n (advisories_in (filter (λ e. is_beside n.product (advisory_from e)) es)) ≡ ids_affecting n (advisories_in es)
   beside_suffice [] all = refl
   beside_suffice (e ∷ es) all = go (is_beside n.product (advisory_from e)) refl (beside_suffice es all.1)

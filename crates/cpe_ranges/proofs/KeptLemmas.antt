@@ -1,4 +1,4 @@
--- Advisories found by their ids, and those that affect a name.
+-- Advisories that are found by their ids, and those that affect a name.
 use Rattle.std.proofs.Common.{◌≡◌, ℕ, List, [], ◌∷◌, ◌++◌, map, filter, find, Bool, true, false, cond, ◌||◌, is_some, refl, ap, sym, subst, ◌∙◌}
 use Rattle.std.specs.Prelude.{Option, Some, None, option_map, IfSome}
 use Rattle.std.specs.List.{list_any}
@@ -21,9 +21,9 @@ Pairs = List (List ℕ × Terms)
 abbrev pub with_id : List ℕ → Terms → Advisory
 with_id id t = advisory_from (id, t)
 
--- ---- by their ids
+-- ---- advisories by their ids
 
--- at an id that passes, the pair is that of the id
+-- if an id passes, the pair is the pair of this id
 one_found : (id key : List ℕ) (t : Terms) (b : Bool) → bytes_eq id key ≡ b → (rest : Option Advisory) (more : Option Terms) → rest ≡ option_map (with_id id) more
     → cond b (Some (advisory_from (key, t))) rest ≡ option_map (with_id id) (cond b (Some t) more)
 one_found id key t true e rest more h = ap (λ (k : List ℕ). Some (advisory_from (k, t))) (sym ((bytes_eq-Decides id key).0 e))
@@ -33,7 +33,7 @@ pub found_by_id : (id : List ℕ) (es : Pairs) → find (has_id id) (advisories_
 found_by_id id [] = refl
 found_by_id id (e ∷ es) = one_found id e.0 e.1 (bytes_eq id e.0) refl (find (has_id id) (advisories_in es)) (lookup (bytes_eq id) es) (found_by_id id es)
 
--- what is found stands after a reference
+-- what is found may be behind a reference
 pub behind_reference : {R : Type 0} (now : R → Terms) (id : List ℕ) (o : Option R) → option_map (λ t. advisory_from (id, now t)) o ≡ option_map (with_id id) (option_map now o)
 behind_reference now id None = refl
 behind_reference now id (Some t) = refl
@@ -86,7 +86,7 @@ pub reference_lower : {R : Type 0} (now : R → Terms) (o : Option R) (test : Li
 reference_lower now None test es h e = tt
 reference_lower now (Some t) test es h e = found_lower test es (now t) h (sym e)
 
--- ---- those that affect a name
+-- ---- advisories that affect a name
 
 module _ (n : Values) where
   kept_one : (b : Bool) (a : Advisory) (rest : List Advisory) → map (λ (x : Advisory). x.id) (cond b (a ∷ rest) rest)

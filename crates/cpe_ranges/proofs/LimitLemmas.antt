@@ -1,4 +1,4 @@
--- Rows within their limits stay so where something is dropped.
+-- Rows within their limits stay within them after something is removed.
 use Rattle.std.proofs.Common.{◌≡◌, ◌≤◌, ℕ, length, nat_lt, List, [], ◌∷◌, Bool, true, false, cond, refl, ap, ◌∙◌, arith}
 use Rattle.std.specs.Prelude.{Some, None, option_map}
 use Rattle.std.proofs.lemmas.Bool.Decides.{nat_tests}
@@ -16,7 +16,7 @@ use Rattle.cpe_ranges.specs.declared.edit.AdviceEdit.TheVariants as edit
 use Rattle.cpe_ranges.specs.declared.edit.AdviceFault.TheVariants as fault
 use Rattle.cpe_ranges.specs.declared.edit.AdviceWhich.TheVariants as limit
 
--- numbers within their limits
+-- The numbers are within their limits.
 record AreWithin (items advisories heavy : ℕ) : Type 0 where
   items_within : items ≤ MOST_ITEMS
   advisories_within : advisories ≤ MOST_ADVISORIES

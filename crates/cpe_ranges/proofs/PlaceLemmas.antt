@@ -1,4 +1,4 @@
--- Where the advisories of a group stand among all.
+-- The places of the advisories of a group in the list of all advisories.
 use Rattle.std.proofs.Common.{◌≡◌, ℕ, suc, ◌+◌, ◌<◌, Bool, true, false, cond, ◌&&◌, ◌||◌, ltb, List, [], ◌∷◌, ◌++◌, length, map, filter, get_or, Option, Some, None, slice_get, refl, sym, ap, ◌∙◌, arith, lt-ltb}
 use Rattle.std.specs.Prelude.{option_map, option_to_list}
 use Rattle.std.specs.Option.{option_map_or}
@@ -52,7 +52,7 @@ module _ (es : Pairs) (different : IsDistinct bytes_eq (keys_of es)) where
       let at : slice_get all k ≡ Some e.0 = slice_get-map (λ (x : List ℕ × Terms). x.0) es k ∙ ap (option_map (λ (x : List ℕ × Terms). x.0)) there in
       ap (place_in all) (sym (get_or_from_slice_get all k e.0 [] at)) ∙ place_at k (slice_get_within all k e.0 at)
 
-  -- of those in a group
+  -- the places of the advisories of a group
   module _ (v : Value) where
     abbrev in_group : ℕ → Bool
     in_group = passes_at (is_in_group v) es
@@ -81,9 +81,9 @@ module _ (es : Pairs) (different : IsDistinct bytes_eq (keys_of es)) where
     pub group_places : flat_map (place_in all) (ids_in_group v (advisories_in es)) ≡ places_where (is_in_group v) es
     group_places = group_from es 0 (λ k. ap (slice_get es) (omega arith))
 
--- ---- the places of either group
+-- ---- the places of two groups
 
--- where no number passes both tests
+-- if no number passes both tests
 module _ (p q : ℕ → Bool) (apart : (k : ℕ) → p k ≡ true → q k ≡ false) where
   weigh : (f : ℕ → ℕ) (k : ℕ) (b : Bool) → p k ≡ b → cond (b || q k) (f k) 0 ≡ cond b (f k) 0 + cond (q k) (f k) 0
   weigh f k true e = omega (arith, ap (λ (c : Bool). cond c (f k) 0) (apart k e))
@@ -112,7 +112,7 @@ module _ (p q : ℕ → Bool) (apart : (k : ℕ) → p k ≡ true → q k ≡ fa
         sum_by-append f (filter p ks) (filter q ks),
       )
 
--- ---- the places of all that a question goes over
+-- ---- the places of all advisories that a question tests
 
 none_pass : (ks : List ℕ) → filter (λ k. false) ks ≡ []
 none_pass [] = refl
@@ -143,7 +143,7 @@ module _ (product : Value) (es : Pairs) where
       by None true = refl
       by None false = refl
 
-  -- a plain product's group isn't that of ANY
+  -- the group of a plain product isn't the group of ANY
   not_any : (v : Value) → same_value v value.Any ≡ true → (p : Value) → (is_plain p && same_value v p) ≡ false
   not_any v e value.Any = refl
   not_any v e value.Na = refl
@@ -173,7 +173,7 @@ module _ (product : Value) (es : Pairs) where
     own true = of_group product
     own false = refl
 
-    -- those found in both groups are those of all that are beside the product
+    -- the places from both groups are the places of all advisories that are to be tested for the product
     pub found_beside : SameElements (places_where (is_beside product) es) (flat_map (place_in (keys_of es)) (group gs value.Any) ++ flat_map (place_in (keys_of es)) (own_group gs product))
     found_beside f =
         let numbers = range_with_len 0 (length es) in
@@ -182,7 +182,7 @@ module _ (product : Value) (es : Pairs) where
         ∙ ap (λ (ks : List ℕ). sum_by f (places_where (is_in_group value.Any) es ++ ks)) (own_places (is_plain product) ∙ sym (own (is_plain product)))
         ∙ ap (λ (ks : List ℕ). sum_by f (ks ++ flat_map (place_in (keys_of es)) (own_group gs product))) (sym (of_group value.Any))
 
--- ---- what stands at places, one after the other
+-- ---- advisories at places, one after another
 
 module _ (n : Values) (es : Pairs) where
   affecting_at : (places : List ℕ) → flat_map (affecting_there n es) places ≡ ids_affecting n (advisories_in (rows_at es places))
@@ -196,7 +196,7 @@ module _ (n : Values) (es : Pairs) where
           ∙ sym (ids-cons n (advisory_from e) (advisories_in (rows_at es ks)))
       go None h = h
 
-  -- at the places that pass stand the advisories that pass
+  -- the advisories at the places that pass are the advisories that pass
   pub affecting_where : (p : Advisory → Bool) → flat_map (affecting_there n es) (places_where p es) ≡ ids_affecting n (advisories_in (filter (λ e. p (advisory_from e)) es))
   affecting_where p =
       affecting_at (places_where p es)

@@ -1,4 +1,4 @@
--- What is read of a line, and that it is in order.
+-- The record that is read from a line is valid.
 use Rattle.std.proofs.Common.{◌≡◌, ℕ, List, Bool, true, false, ◌&&◌, if◌then◌else◌, refl, subst}
 use Rattle.std.specs.Prelude.{Option, Some, None, Result, Ok, Err, IfOk, option_map, option_and_then}
 use Rattle.std.specs.Option.{option_map_or}
@@ -39,7 +39,7 @@ name_lower d = behind is_lower (required member.Name (text_in (key_of member.Nam
 id_valid : (d : Data) → Yields is_id (id_at d)
 id_valid d = tested_yields is_id (fault.Member member.Id) (text_in (key_of member.Id) d)
 
--- a version of the form of an id, if there is one
+-- a version, if there is one, has the form of an id
 abbrev is_version : Option (List ℕ) → Bool
 is_version v = option_map_or is_id v true
 
@@ -96,7 +96,7 @@ line_valid : (line : List ℕ) → Yields is_valid_advice (advice_of line)
 unfolding advice_of
 line_valid line = behind is_valid_advice (json_of (value_of line)) _ (λ d. behind is_valid_advice (record_kind_at d) _ (λ v. advice_valid v d))
 
--- what a reader of the line answered is in order
+-- a record that a function reads from the line is valid
 pub valid_by : (line : List ℕ) (r : Result Advice AdviceReadFault) → Gives r (advice_of line) → IfOk r (λ a. is_valid_advice a ≡ true)
 valid_by line (Ok x) h = subst (Yields is_valid_advice) h (line_valid line)
 valid_by line (Err e) h = tt

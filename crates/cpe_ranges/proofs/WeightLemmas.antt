@@ -1,4 +1,4 @@
--- What edits make of the weight of items and advisories.
+-- How edits change the weight of items and advisories.
 use Rattle.std.proofs.Common.{◌≡◌, ◌≤◌, ◌↔◌, length, ℕ, ◌+◌, ◌-◌, nat_lt, List, [], ◌∷◌, find, Bool, true, false, cond, not, refl, sym, ap, ◌∙◌, arith}
 use Rattle.std.specs.Prelude.{Option, Some, None, IsTrue, option_map}
 use Rattle.std.specs.Option.{option_map_or}
@@ -24,7 +24,7 @@ use Rattle.cpe_ranges.specs.declared.edit.AdviceFault.{AdviceFault}
 use Rattle.cpe_ranges.specs.declared.edit.AdviceFault.TheVariants as fault
 use Rattle.cpe_ranges.specs.declared.edit.AdviceWhich.TheVariants as limit
 
--- ---- what is put
+-- ---- what is added
 
 pub weighs_item : (rows : AdviceRows) (n : Values) → weight (after rows (edit.Item n)) ≡ weight rows + name_weight n
 weighs_item rows n = let one = total-added name_weight rows.items n in omega (arith, one)
@@ -32,7 +32,7 @@ weighs_item rows n = let one = total-added name_weight rows.items n in omega (ar
 pub weighs_put : (rows : AdviceRows) (a : Advisory) → weight (after rows (edit.Put a)) ≡ weight rows + advisory_weight a
 weighs_put rows a = let one = total-added advisory_weight rows.advisories a in omega (arith, one)
 
--- with what an edit adds, the number that is kept is the weight that the edit leaves, capped
+-- the kept number with the weight that the edit adds, capped, is the weight after the edit, capped
 pub weight_after : {number found : ℕ} {kept given : AdviceRows} (part : ℕ) (e : AdviceEdit) → found ≡ capped (number + part) → IsWeight number kept → weight (after kept e) ≡ weight kept + part
     → kept ≡ given → found ≡ capped (weight (after given e))
 weight_after {number} {found} {kept} {given} part e is weighs sum same =
@@ -41,7 +41,7 @@ weight_after {number} {found} {kept} {given} part e is weighs sum same =
     ∙ ap capped (sym sum)
     ∙ ap (λ (r : AdviceRows). capped (weight (after r e))) same
 
--- ---- what is dropped
+-- ---- what is removed
 
 pub weighs_drop_item : ((a b : Values) → IsTrue (is_same a b) ↔ (a ≡ b)) → (rows : AdviceRows) (n : Values) → list_any (is_same n) rows.items ≡ true
     → weight (after rows (edit.DropItem n)) + name_weight n ≡ weight rows
@@ -84,7 +84,7 @@ weight_kept number next kept is within same =
     let exact : number ≡ weight next = is ∙ uncapped (weight next) within in
     record { weighs = exact ∙ ap weight same; within = let small : weight next ≤ MOST_WEIGHT = within in omega (arith, exact) }
 
--- what is lost of a weight is no more than it was
+-- the weight that an edit removes is at most the whole weight
 pub part_known : (number lost part : ℕ) (rows next : AdviceRows) → IsWeight number rows → lost ≡ capped (0 + part) → weight next + part ≡ weight rows → lost ≡ part
 part_known number lost part rows next kept is sum =
     let weighs = kept.weighs in

@@ -1,4 +1,4 @@
--- What the answer to a question is, and how many looks at names it may take.
+-- The answers to questions, and the most looks at names that an answer takes.
 use Rattle.std.specs.Prelude.{ℕ, List, map, filter, option_map}
 use Rattle.std.specs.Option.{option_map_or}
 use Rattle.cpe_rows.specs.cpe_name.Eleven.{Values}
@@ -19,7 +19,8 @@ abbrev pub answer : AdviceRows → AdviceQuery → AdviceReply
 answer rows (query.Affected id) = reply.Affected id (option_map (λ a. filter (affects a) rows.items) (advisory_of rows id))
 answer rows (query.Advisories n) = reply.Advisories n (ids_affecting n rows.advisories)
 
--- as many as items have a product to which that of the advisory is near. The advisories of a name are found without a look at an item
+-- For an advisory: the number of items to whose product the product of its name is near. For a name: none, because its advisories are
+-- found without a look at an item.
 abbrev pub looks : AdviceRows → AdviceQuery → ℕ
 looks rows (query.Affected id) = option_map_or (λ a. near_count a.name rows.items) (advisory_of rows id) 0
 looks rows (query.Advisories n) = 0

@@ -1,4 +1,4 @@
--- Reading a record, up to its first fault.
+-- How a record is read, up to its first fault: a function gives what the definition gives, unless memory runs out.
 use Rattle.std.specs.Prelude.{Bool, true, false, Result}
 use Rattle.cpe_members.specs.FirstFault.{GivesUnless}
 use Rattle.cpe_ranges.specs.declared.member.AdviceReadFault.{AdviceReadFault}

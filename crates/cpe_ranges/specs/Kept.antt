@@ -1,4 +1,4 @@
--- Advisories as they are kept: what they have beside their ids, by their ids.
+-- Advisories as they are kept: a map from the id of an advisory to all that it has besides the id.
 use Rattle.std.specs.Prelude.{◌≡◌, ◌≤◌, ℕ, List, map}
 use Rattle.std.specs.List.{AllByRecursion}
 use Rattle.cpe_rows.specs.cpe_name.Eleven.{Values}
@@ -23,7 +23,7 @@ AreLower = AllByRecursion (λ e. IsLower e.1.name)
 abbrev pub rows_in : List Values → List Advisory → AdviceRows
 rows_in items advisories = record { items = items; advisories = advisories }
 
--- the number is the weight of the rows, and within its limit
+-- The number is the weight of the rows, and at most the limit.
 pub record IsWeight (number : ℕ) (rows : AdviceRows) : Type 0 where
   pub weighs : number ≡ weight rows
   pub within : number ≤ most limit.Weight

@@ -11,7 +11,7 @@ use Rattle.cpe_ranges.specs.declared.edit.AdviceReply.TheVariants.{Affected, Adv
 unfoldable pub name_text : Values → List ℕ
 name_text name = fs_text name
 
--- what follows the name or the id that was asked for: how many lines follow
+-- the end of a first line: the number of lines that follow
 abbrev pub count_end : ℕ → List ℕ
 count_end count = codes " " ++ decimal count ++ codes "\n"
 
@@ -21,7 +21,7 @@ item_line name = codes "item " ++ name_text name ++ codes "\n"
 abbrev pub advisory_line : List ℕ → List ℕ
 advisory_line id = codes "advisory " ++ id ++ codes "\n"
 
--- the items, or `absent` where there is no such advisory
+-- the items that the advisory affects, or `absent` if there is no such advisory
 abbrev pub affected_text : List ℕ → Option (List Values) → List ℕ
 affected_text id (Some items) = codes "affected " ++ id ++ count_end (length items) ++ flat_map item_line items
 affected_text id None = codes "affected " ++ id ++ codes " absent\n"

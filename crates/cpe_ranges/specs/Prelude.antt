@@ -1,4 +1,4 @@
--- What most contracts over advisories and the items that they affect name, in one place.
+-- Definitions that most contracts over advisories and items use, in one place.
 pub use Rattle.cpe_ranges.specs.Valid.{is_valid_advisory, is_valid_edit, is_valid_query}
 pub use Rattle.cpe_ranges.specs.Rows.{AdviceRows, has_id, no_rows}
 pub use Rattle.cpe_ranges.specs.Affected.{affects, is_in_range}

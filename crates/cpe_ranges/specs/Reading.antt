@@ -1,4 +1,4 @@
--- The record of a line, by its members in the order in which they are tested.
+-- The record of a line. Its members are read in the order in which they are tested.
 use Rattle.std.specs.Prelude.{ℕ, List, [], ◌∷◌, codes, Bool, Option, Some, None, option_map, option_and_then, Result, Ok, Err, ok_or}
 use Rattle.serde_json.specs.Data.{Data}
 use Rattle.serde_json.specs.Find.{as_str, get}
@@ -24,7 +24,7 @@ use Rattle.cpe_ranges.specs.declared.read.Bounds.{Bounds}
 use Rattle.cpe_ranges.specs.declared.record_kind.RecordKind.{RecordKind}
 use Rattle.cpe_ranges.specs.declared.record_kind.RecordKind.TheVariants as record_kind
 
--- how a member is written
+-- the key of a member, as it is written
 abbrev pub key_of : AdviceMember → List ℕ
 key_of member.Do = codes "do"
 key_of member.Id = codes "id"
@@ -47,37 +47,37 @@ record_kind_of = spelled record_word (record_kind.Item ∷ record_kind.DropItem 
 
 -- ---- forms of single members
 
--- what the form makes of a member, or the member's fault
+-- the value of a member, or the fault of the member if it doesn't have its form
 abbrev pub required : {A : Type 0} → AdviceMember → Option A → Result A AdviceReadFault
 required m form = ok_or form (fault.Member m)
 
 abbrev pub record_kind_at : Data → Result RecordKind AdviceReadFault
 record_kind_at d = required member.Do (option_and_then record_kind_of (text_in (key_of member.Do) d))
 
--- 1 to 256 visible characters
+-- an id has 1 to 256 visible characters
 abbrev pub id_at : Data → Result (List ℕ) AdviceReadFault
 id_at d = required member.Id (option_and_then (tested is_id) (text_in (key_of member.Id) d))
 
--- the name in lower case, or where its text goes wrong
+-- the name in lower case, or the place of the refusal
 abbrev pub named : Result Values ℕ → Result Values AdviceReadFault
 named (Ok w) = Ok (lowered w)
 named (Err place) = Err (fault.Name place)
 
--- a text, and then that of a name in either binding
+-- the member is a text, and this text is a name in one of the two bindings
 unfoldable pub name_at : Data → Result Values AdviceReadFault
 name_at d = do
   text ← required member.Name (text_in (key_of member.Name) d)
   named (read_any text)
 
--- a version of the form of an id
+-- a version, which has the form of an id
 abbrev pub version_in : Data → Option (Option (List ℕ))
 version_in d = option_map (λ v. Some v) (option_and_then (tested is_id) (as_str d))
 
--- one that may be absent
+-- a version, which may be absent
 abbrev pub version_at : AdviceMember → Data → Result (Option (List ℕ)) AdviceReadFault
 version_at m d = required m (or_default None version_in (get (key_of m) d))
 
--- `true` or `false`, which may be absent and is then `false`
+-- a flag, which is `true` or `false`; if it is absent, it is `false`
 abbrev pub flag_at : AdviceMember → Data → Result Bool AdviceReadFault
 flag_at m d = required m (flag_in (key_of m) d)
 
@@ -86,7 +86,7 @@ flag_at m d = required m (flag_in (key_of m) d)
 abbrev pub bound_of : Bool → Option (List ℕ) → Option Bound
 bound_of excluded version = option_map (λ v. record { version = v; excluded = excluded }) version
 
--- the bounds: both versions, and then whether they are excluded, which says nothing where there is no version
+-- the bounds: first both versions, and then whether they are excluded; a flag without its version has no effect
 unfoldable pub bounds_in : Data → Result Bounds AdviceReadFault
 bounds_in d = do
   start ← version_at member.Start d
@@ -102,7 +102,7 @@ advisory_in d = do
   bounds ← bounds_in d
   Ok (record { id = id; name = name; start = bounds.start; end = bounds.end })
 
--- the record of this kind, by its members
+-- the record of this kind, from its members
 abbrev pub advice_by : RecordKind → Data → Result Advice AdviceReadFault
 advice_by record_kind.Item d = name_at d >>= λ n. Ok (Edit (edit.Item n))
 advice_by record_kind.DropItem d = name_at d >>= λ n. Ok (Edit (edit.DropItem n))
@@ -114,7 +114,7 @@ advice_by record_kind.Advisories d = name_at d >>= λ n. Ok (Query (query.Adviso
 abbrev pub json_of : Option Data → Result Data AdviceReadFault
 json_of value = ok_or value fault.Json
 
--- a value, its kind, and then the members of that kind
+-- the record of a line: first a JSON value, then its kind, and then the members of this kind
 unfoldable pub advice_of : List ℕ → Result Advice AdviceReadFault
 advice_of line = do
   d ← json_of (value_of line)

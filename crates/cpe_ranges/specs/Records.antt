@@ -1,4 +1,4 @@
--- What a line of a record says, and what it makes of the items and advisories.
+-- What a line of a record writes, and how it changes the items and advisories.
 use Rattle.std.specs.Prelude.{ℕ, List, [], false, Ok, Err}
 use Rattle.std.specs.declared.result.Result.{Result}
 use Rattle.cpe_session.specs.cpe_io.Lines.{lines}
@@ -14,18 +14,18 @@ use Rattle.cpe_ranges.specs.declared.read.Advice.TheVariants.{Edit, Query}
 use Rattle.cpe_ranges.specs.Lines.{reply_text}
 use Rattle.cpe_ranges.specs.Reasons.{read_fault_text, edit_fault_text}
 
--- an accepted edit writes nothing
+-- an accepted edit writes nothing, and a refused one has its fault as the reason
 abbrev pub by_step : Result AdviceRows AdviceFault → Saying AdviceRows
 by_step (Ok next) = Ok ([], next)
 by_step (Err fault) = Err (edit_fault_text fault)
 
--- an edit is applied, and a question is answered
+-- an edit changes the rows, a question is answered, and a line that is no record is refused
 abbrev pub by_advice : AdviceRows → Result Advice AdviceReadFault → Saying AdviceRows
 by_advice rows (Ok (Edit e)) = by_step (step rows e)
 by_advice rows (Ok (Query query)) = Ok (reply_text (answer rows query), rows)
 by_advice rows (Err fault) = Err (read_fault_text fault)
 
--- a question as many looks as its answer may take in these rows; an edit none
+-- the most looks at names: for a question the looks of its answer in these rows, and for an edit none
 abbrev pub advice_cost : AdviceRows → Result Advice AdviceReadFault → ℕ
 advice_cost rows (Ok (Edit e)) = 0
 advice_cost rows (Ok (Query query)) = looks rows query
@@ -40,6 +40,6 @@ advice_session = record {
   end_cost = λ rows. 0;
 }
 
--- the most steps that the lines of these bytes may take, each in the rows that the lines before it leave
+-- the most steps that the lines of these bytes may take; each line has the rows that the lines before it leave
 abbrev pub most_steps : List ℕ → ℕ
 most_steps taken = total_cost advice_session no_rows (lines taken)

@@ -1,4 +1,4 @@
--- The plain state: the items and advisories that accepted edits left, in the order in which they came. Names are in lower case.
+-- The rows: the items and advisories that accepted edits leave, in the order in which they were added. Names are in lower case.
 use Rattle.std.specs.Prelude.{ℕ, List, [], Bool, Option, find}
 use Rattle.std.specs.List.{list_any}
 use Rattle.std.specs.Str.{bytes_eq}

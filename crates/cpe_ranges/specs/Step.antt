@@ -1,4 +1,4 @@
--- What an edit makes of the rows: the first of its faults, or else the rows that it leaves.
+-- The result of an edit: its first fault, or else the rows that it leaves.
 use Rattle.std.specs.Prelude.{◌≡◌, ℕ, ◌++◌, ◌∷◌, [], List, length, find, Bool, true, false, not, nat_lt, if◌then◌else◌, Option, Some, None, option_map, Result, Ok, Err, ⊤}
 use Rattle.cpe_rows.specs.cpe_values.declared.value.Value.{Value}
 use Rattle.cpe_rows.specs.cpe_values.declared.value.Value.TheVariants as value
@@ -16,7 +16,7 @@ use Rattle.cpe_ranges.specs.declared.edit.AdviceFault.TheVariants as fault
 use Rattle.cpe_ranges.specs.declared.edit.AdviceWhich.{AdviceWhich}
 use Rattle.cpe_ranges.specs.declared.edit.AdviceWhich.TheVariants as limit
 
--- ---- the rows that an edit leaves, where it is accepted
+-- ---- the rows that an accepted edit leaves
 
 abbrev pub after : AdviceRows → AdviceEdit → AdviceRows
 after rows (edit.Item n) = record rows { items = rows.items ++ n ∷ [] }
@@ -26,7 +26,7 @@ after rows (edit.Drop id) = record rows { advisories = without_first (has_id id)
 
 -- ---- limits
 
--- no number is greater
+-- the limit: the greatest number that is allowed
 abbrev pub most : AdviceWhich → ℕ
 most limit.Items = MOST_ITEMS
 most limit.Advisories = MOST_ADVISORIES
@@ -36,13 +36,13 @@ most limit.Weight = MOST_WEIGHT
 abbrev pub limited : List AdviceWhich
 limited = limit.Items ∷ limit.Advisories ∷ limit.Weight ∷ []
 
--- one of these numbers, of items, of advisories, and the weight
+-- the number that is limited: the number of items, the number of advisories, or the weight
 abbrev pub number_by : ℕ → ℕ → ℕ → AdviceWhich → ℕ
 number_by items advisories heavy limit.Items = items
 number_by items advisories heavy limit.Advisories = advisories
 number_by items advisories heavy limit.Weight = heavy
 
--- the first of them that exceeds its limit
+-- the first of these numbers that exceeds its limit, as a fault
 abbrev pub full_by : ℕ → ℕ → ℕ → Option AdviceFault
 full_by items advisories heavy = option_map fault.Full (find (λ w. nat_lt (most w) (number_by items advisories heavy w)) limited)
 
@@ -59,7 +59,7 @@ is_any value.Any = true
 is_any value.Na = false
 is_any (value.Text t) = false
 
--- the causes of each edit, in the order in which they are tested. What is dropped makes no number greater
+-- the faults of each edit, in the order in which they are tested; an edit that removes something exceeds no limit
 abbrev pub faults : AdviceRows → AdviceEdit → List (Option AdviceFault)
 faults rows (edit.Item n) = when (has_wildcards n) fault.Wildcards ∷ when (is_item rows n) fault.Exists ∷ full (after rows (edit.Item n)) ∷ []
 faults rows (edit.DropItem n) = when (not (is_item rows n)) fault.Unknown ∷ []
@@ -75,12 +75,12 @@ unless None rows = Ok rows
 abbrev pub step : AdviceRows → AdviceEdit → Result AdviceRows AdviceFault
 step rows e = unless (first_some (faults rows e)) (after rows e)
 
--- the fault is the step's, unless memory ran out
+-- the fault is the fault of the step, or memory ran out
 abbrev pub Refuses : AdviceFault → Result AdviceRows AdviceFault → Type 0
 Refuses fault.Memory stepped = ⊤
 Refuses f stepped = stepped ≡ Err f
 
--- the new rows are the step's; after a fault, and where memory ran out, they are the old ones
+-- without a fault, the new rows are the rows that the step leaves; with a fault, or if memory ran out, they are the old rows
 abbrev pub Applied : {A : Type 0} → AdviceRows → AdviceRows → AdviceEdit → Result A AdviceFault → Type 0
 Applied old new e (Ok answer) = step old e ≡ Ok new
 Applied old new e (Err f) = (new ≡ old) × Refuses f (step old e)

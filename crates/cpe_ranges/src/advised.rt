@@ -1,4 +1,4 @@
-// Advisories in the order in which they came.
+// Advisories in the order in which they were added.
 ghost use Rattle.std.specs.Prelude.{◌≡◌, ◌<◌, ℕ, List, [], ◌∷◌, ◌++◌, IfOk, IfNone, IfSome, IsOk, OnOk, OnErr, false, find, if◌then◌else◌, length, option_map, bytes_eq};
 ghost use Rattle.std.specs.List.{flat_map, list_any};
 ghost use Rattle.indexmap.specs.IndexMap.{keys, spare};
@@ -21,7 +21,7 @@ use indexmap::IndexMap;
 use std::alloc::Global;
 use std::marker::Model;
 
-/// What an advisory has beside its id.
+/// All that an advisory has besides its id.
 #[derive(Debug, Drop)]
 pub(crate) struct Terms {
     pub(crate) name: Wfn,
@@ -29,12 +29,14 @@ pub(crate) struct Terms {
     pub(crate) end: Option<Bound>,
 }
 
-/// Advisories of different ids, in the order in which they came. Contracts see them as a list. Their names are in lower case.
+/// Advisories of different ids, in the order in which they were added. Their names are in lower case. Contracts see the list of
+/// these advisories.
 #[derive(Drop)]
 pub(crate) struct Advised {
     alloc: Global,
     by_id: IndexMap<Text, Terms>,
-    // Their ids by the products of their names: a question for a name goes over those of its product, and those without a plain one.
+    // The ids of the advisories, by the products of their names. A question about a name tests only the advisories of its
+    // product, and those without a plain product.
     groups: Groups,
 }
 
@@ -74,7 +76,7 @@ fn is_plain(product: &Value) -> bool
     }
 }
 
-// Puts the id of an advisory into the group of its product.
+// Adds the id of an advisory to the group of its product.
 fn push_grouped(
     alloc: Global,
     groups: &mut Groups,
@@ -91,7 +93,7 @@ fn push_grouped(
     }
 }
 
-// Takes the id of an advisory out of the group of its product, and lets its terms go.
+// Removes the id of an advisory from the group of its product, and drops the rest of the advisory.
 fn remove_grouped(alloc: Global, groups: &mut Groups, terms: Terms, id: &Text)
     ensures { (v : Value) → group groups.new v ≡ (if same_value (group_of terms.name.product) v then without_first (bytes_eq id.now) (group groups.old v) else group groups.old v) }
 {
@@ -104,7 +106,7 @@ fn remove_grouped(alloc: Global, groups: &mut Groups, terms: Terms, id: &Text)
     drop(terms);
 }
 
-// Makes room for an advisory, and puts its id into its group. No group changes where memory runs out.
+// Makes room for an advisory, and adds its id to its group. If memory runs out, no group changes.
 fn add_to_group(
     alloc: Global,
     by_id: &mut IndexMap<Text, Terms>,
@@ -125,7 +127,7 @@ fn add_to_group(
     )
 }
 
-// Puts an advisory last. Where there is room for one more, memory doesn't run out.
+// Adds an advisory at the end. If there is room for it, memory doesn't run out.
 fn put_last(by_id: &mut IndexMap<Text, Terms>, advisory: Advisory) -> Result<(), Memory>
     requires fresh { list_any (has_id advisory.id) (advisories_in by_id.old.entries) ≡ false }
     requires lower { IsLower advisory.name }
@@ -155,7 +157,7 @@ fn take_out(by_id: &mut IndexMap<Text, Terms>, id: &Text) -> Option<Terms>
     by_id.shift_remove(id)
 }
 
-// Lets an advisory go for which memory ran out.
+// Drops an advisory after memory ran out.
 fn let_go(advisory: Advisory, memory: Memory) -> Memory {
     drop(advisory);
     memory
@@ -168,7 +170,7 @@ fn affects(terms: &Terms, item: &Wfn) -> bool
     covers(&terms.name, item) && is_in_range(&terms.start, &terms.end, item.get(Attribute::Version))
 }
 
-// Puts the id last where an advisory of these terms affects an item of this name.
+// Appends the id, if an advisory of these terms affects an item of this name.
 fn push_affecting(
     alloc: Global,
     id: &Text,
@@ -184,7 +186,7 @@ fn push_affecting(
     Ok(())
 }
 
-// Puts the place of the advisory of this id last.
+// Appends the place of the advisory of this id, if there is one.
 fn push_place(
     by_id: &IndexMap<Text, Terms>,
     id: &Text,
@@ -198,7 +200,7 @@ fn push_place(
     Ok(())
 }
 
-// And those of these ids.
+// Appends the places of the advisories of these ids.
 fn push_places(
     by_id: &IndexMap<Text, Terms>,
     ids: &[Text],
@@ -212,7 +214,7 @@ fn push_places(
     Ok(())
 }
 
-// And those of the own group of a product.
+// Appends the places of the advisories in the own group of a product. Only a plain product has such a group.
 fn push_own_places(
     by_id: &IndexMap<Text, Terms>,
     groups: &Groups,
@@ -228,7 +230,7 @@ fn push_own_places(
     }
 }
 
-// The places of the advisories of this product, if it is plain, and of those whose product isn't, rising.
+// The places, in rising order, of the advisories of this product, if it is plain, and of all advisories without a plain product.
 fn find_places(
     alloc: Global,
     by_id: &IndexMap<Text, Terms>,
@@ -238,7 +240,7 @@ fn find_places(
     requires { AreGrouped (advisories_in by_id.now.entries) groups.now }
     ensures { IfOk result (λ places. places.items ≡ places_where (is_beside product.now) by_id.now.entries) }
 {
-    // That ids are different is told by any call of the map.
+    // Any call of the map gives the proof that its ids are different.
     let _count = by_id.len();
     let mut places = Vec::new(alloc);
     push_places(by_id, groups.of(&Value::Any), &mut places)?;
@@ -247,7 +249,7 @@ fn find_places(
     Ok(places)
 }
 
-// Puts the id last where the advisory at this place affects an item of this name.
+// Appends the id of the advisory at this place, if it affects an item of this name.
 fn push_affecting_at(
     alloc: Global,
     by_id: &IndexMap<Text, Terms>,
@@ -263,7 +265,7 @@ fn push_affecting_at(
     }
 }
 
-// The ids of those at these places that affect an item of this name.
+// The ids of the advisories at these places that affect an item of this name.
 fn find_affecting(
     alloc: Global,
     by_id: &IndexMap<Text, Terms>,
@@ -280,7 +282,7 @@ fn find_affecting(
 }
 
 impl Advised {
-    /// No advisories. It takes no memory.
+    /// No advisories. Allocates: no.
     pub(crate) fn new(alloc: Global) -> Advised
         ensures { result ≡ [] }
     {
@@ -291,21 +293,21 @@ impl Advised {
         }
     }
 
-    /// How many there are.
+    /// The number of advisories.
     pub(crate) fn len(&self) -> usize
         ensures { result ≡ length self.now }
     {
         self.by_id.len()
     }
 
-    /// Whether one has this id.
+    /// Whether an advisory has this id.
     pub(crate) fn has(&self, id: &Text) -> bool
         ensures { result ≡ list_any (has_id id.now) self.now }
     {
         has_id(&self.by_id, id)
     }
 
-    /// What the one of this id has beside it.
+    /// All that the advisory of this id has besides the id, if there is such an advisory.
     pub(crate) fn find(&self, id: &Text) -> Option<&Terms>
         ensures found { option_map (λ t. advisory_from (id.now, t.now)) result ≡ find (has_id id.now) self.now }
         ensures lower { IfSome result (λ t. IsLower t.now.name) }
@@ -313,11 +315,11 @@ impl Advised {
         find_terms(&self.by_id, id)
     }
 
-    /// Puts one of a new id last, whose name is in lower case. It is moved; its id is copied once, and its product where it is the
-    /// first of it.
+    /// Adds an advisory of a new id at the end. Its name is in lower case. The advisory is moved. Its id is copied once, and its
+    /// product if it is the first of its group.
     ///
     /// # Errors
-    /// Only that memory ran out; the advisories are then as they were.
+    /// Only that memory ran out. The advisories are then unchanged.
     pub(crate) fn put(&mut self, advisory: Advisory) -> Result<(), Memory>
         requires fresh { list_any (has_id advisory.id) self.old ≡ false }
         requires lower { IsLower advisory.name }
@@ -335,8 +337,8 @@ impl Advised {
         }
     }
 
-    /// Takes the one of this id out, if there is one. Those after it close up: it costs as much as they and those of its product
-    /// are many.
+    /// Removes the advisory of this id, if there is one. Time is proportional to the number of advisories after it, and of its
+    /// group.
     pub(crate) fn remove(&mut self, id: &Text)
         ensures { self.new ≡ without_first (has_id id.now) self.old }
     {
@@ -346,8 +348,8 @@ impl Advised {
         }
     }
 
-    /// The ids of those that affect an item of this name in lower case, in their order. It goes over those of the name's product, and
-    /// over those whose product isn't plain.
+    /// The ids of the advisories that affect an item of this name, in their order. The name is in lower case. It tests only the
+    /// advisories of the name's product, and those without a plain product.
     ///
     /// # Errors
     /// Only that memory ran out.

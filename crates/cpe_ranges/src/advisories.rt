@@ -1,4 +1,4 @@
-// Items and advisories, edits of them, and answers.
+// Items and advisories, edits of them, and answers to questions.
 ghost use Rattle.std.specs.Prelude.{◌≡◌, ◌≤◌, ◌+◌, ℕ, List, IfOk, Err, None, filter, length, not, true};
 ghost use Rattle.std.specs.List.{list_any};
 ghost use Rattle.cpe_rows.specs.Prelude.{covers, first_some, is_lower, is_same, IsLower};
@@ -20,7 +20,7 @@ use std::alloc::Global;
 use std::marker::Model;
 use std::sync::ledger::Ledger;
 
-/// Items and advisories. Contracts see them as the two lists, in the order in which they came.
+/// Items and advisories. Contracts see the two lists, in the order in which the rows were added.
 #[derive(Drop)]
 pub struct Advisories {
     items: Items,
@@ -51,7 +51,7 @@ fn with_bound(weight: u64, bound: &Option<Bound>) -> u64
     }
 }
 
-// The weight with that of an advisory, or the largest number where it would be more.
+// The given weight with the weight of an advisory, or the largest number if the sum is larger.
 fn with_terms(weight: u64, id: &Text, name: &Wfn, start: &Option<Bound>, end: &Option<Bound>) -> u64
     ensures { result ≡ capped (weight + advisory_weight (record { id = id.now; name = name.now; start = start.now; end = end.now })) }
 {
@@ -73,7 +73,7 @@ fn with_advisory(weight: u64, advisory: &Advisory) -> u64
 
 // ---- faults
 
-// The first of these numbers that exceeds its limit.
+// The first of these numbers that exceeds its limit, as a fault.
 fn full_by(items: u64, advisories: u64, weight: u64) -> Option<AdviceFault>
     ensures { result ≡ full_by items advisories weight }
 {
@@ -95,14 +95,14 @@ fn is_any(value: &Value) -> bool
     matches!(value, Value::Any)
 }
 
-// One more, or the largest number where there is none.
+// The number plus one, or the largest number if there is no larger one.
 fn one_more(count: usize) -> u64
     ensures { result ≡ capped (count + 1) }
 {
     (count as u64).saturating_add(1)
 }
 
-// ---- what is let go
+// ---- what is dropped
 
 fn refused_name(name: Wfn, fault: AdviceFault) -> Result<(), AdviceFault>
     ensures { result ≡ Err fault }
@@ -126,7 +126,7 @@ fn is_version_in_range(terms: &Terms, name: &Wfn) -> bool
     is_in_range(&terms.start, &terms.end, name.get(Attribute::Version))
 }
 
-// Those whose version is in the range of these terms.
+// The names whose version is in the range of these terms.
 fn in_range(names: List<Wfn>, terms: &Terms) -> List<Wfn>
     ensures { result ≡ filter (λ n. is_in_range terms.now.start terms.now.end n.version) names }
 {
@@ -151,7 +151,7 @@ fn find_affected<L: Ledger>(
 }
 
 impl Advisories {
-    /// No items and no advisories. It takes no memory.
+    /// No items and no advisories. Allocates: no.
     pub fn new(alloc: Global) -> Advisories
         ensures { result ≡ no_rows }
     {
@@ -208,7 +208,7 @@ impl Advisories {
         }
     }
 
-    // Adds an item that has no fault.
+    // Adds an item without a fault.
     fn put_item(&mut self, name: Wfn, weight: u64) -> Result<(), AdviceFault>
         requires lower { is_lower name ≡ true }
         requires none { first_some (faults self.old (AdviceEdit.Item name)) ≡ None }
@@ -246,7 +246,7 @@ impl Advisories {
         }
     }
 
-    // Puts an advisory that has no fault.
+    // Adds an advisory without a fault at the end.
     fn put_last(&mut self, advisory: Advisory, weight: u64) -> Result<(), AdviceFault>
         requires lower { is_lower advisory.name ≡ true }
         requires none { first_some (faults self.old (AdviceEdit.Put advisory)) ≡ None }
@@ -259,7 +259,7 @@ impl Advisories {
         Ok(())
     }
 
-    // The weight of the advisory of this id, if there is one.
+    // The weight of the advisory of this id, or 0 if there is none.
     fn weight_of_id(&self, id: &Text) -> u64
         ensures { result ≡ weight_of_first advisory_weight (has_id id.now) self.now.advisories }
     {
@@ -281,11 +281,11 @@ impl Advisories {
         Ok(())
     }
 
-    /// Makes an edit, which is in order. What it brings is moved in; of an advisory its id is copied once besides, and its product where
-    /// it is the first of it. It takes no step.
+    /// Makes a valid edit. What it adds is moved. The id of an advisory is also copied once, and its product if it is the first
+    /// of its group. It takes no step.
     ///
     /// # Errors
-    /// The first fault of the edit in the order of [`AdviceFault`], or that memory ran out. After either the rows are as they were.
+    /// The first fault of the edit in the order of [`AdviceFault`], or that memory ran out. The rows are then unchanged.
     pub fn apply<L: Ledger>(
         &mut self,
         edit: AdviceEdit,
@@ -304,9 +304,11 @@ impl Advisories {
         }
     }
 
-    /// The answer to a question, which is in order. The name or id is moved into it. A step is a look at the name of an item
-    /// through the index: which items an advisory affects takes at most as many as there are items to whose product that of the
-    /// advisory's name is near. Which advisories affect a name is asked of the advisories themselves, which is no step.
+    /// The answer to a valid question. The name or id is moved into the answer.
+    ///
+    /// A step is a look at the name of an item through the index. For the items that an advisory affects, there is at most one
+    /// step for each item to whose product the product of the advisory's name is near. For the advisories that affect a name
+    /// there is no step.
     ///
     /// # Errors
     /// Only that memory ran out.
@@ -354,7 +356,7 @@ impl Advisories {
     }
 }
 
-// Lets the name of a question go where memory ran out. Under a `?` each of its eleven values would be let go in place.
+// Drops the name of a question after memory ran out. Under a `?` each of its eleven values would be dropped in place.
 fn let_go(name: Wfn, memory: Memory) -> Memory {
     drop(name);
     memory

@@ -1,24 +1,24 @@
 // Advisories.
 use cpe_rows::{Text, Wfn};
 
-/// A bound of versions.
+/// A bound of a range of versions.
 #[derive(Debug, Drop)]
 pub struct Bound {
     /// The version at which the range begins or ends: 1 to 256 visible ASCII characters.
     pub version: Text,
-    /// Whether this version is outside.
+    /// Whether this version itself is outside the range.
     pub excluded: bool,
 }
 
-/// An advisory: a name, and perhaps bounds of the version.
+/// An advisory: a name, and perhaps bounds of its versions.
 #[derive(Debug, Drop)]
 pub struct Advisory {
-    /// What it is known by: 1 to 256 visible ASCII characters.
+    /// The id: 1 to 256 visible ASCII characters.
     pub id: Text,
-    /// What it is about. Its version is ANY.
+    /// The name of what it is about. The version of this name is ANY.
     pub name: Wfn,
-    /// From which version on, if from one.
+    /// The start of the range, if the range has one.
     pub start: Option<Bound>,
-    /// Up to which version, if up to one.
+    /// The end of the range, if the range has one.
     pub end: Option<Bound>,
 }

@@ -10,33 +10,33 @@ use cpe_rows::{List, Memory, Text, Wfn};
 pub enum AdviceEdit {
     /// Adds an item.
     Item(Wfn),
-    /// Drops an item.
+    /// Removes an item.
     DropItem(Wfn),
-    /// Puts an advisory.
+    /// Adds an advisory.
     Put(Advisory),
-    /// Drops the advisory of this id.
+    /// Removes the advisory of this id.
     Drop(Text),
 }
 
-/// A question about them.
+/// A question about the items and advisories.
 #[derive(Debug, Drop)]
 pub enum AdviceQuery {
     /// The items that the advisory of this id affects.
     Affected(Text),
-    /// The advisories that affect an item of this name, whether or not it is kept.
+    /// The advisories that affect an item of this name. The item need not be kept.
     Advisories(Wfn),
 }
 
 /// The answer to a question.
 #[derive(Debug, Drop)]
 pub enum AdviceReply {
-    /// The items that the advisory of this id affects, in their order, where there is such an advisory.
+    /// The items that the advisory of this id affects, in their order, if there is such an advisory.
     Affected { id: Text, rows: Option<List<Wfn>> },
     /// The ids of the advisories that affect an item of this name, in their order.
     Advisories { name: Wfn, ids: List<Text> },
 }
 
-/// What a limit bounds.
+/// What is limited.
 #[derive(Debug, Clone, Copy, PartialEq, Eq)]
 pub enum AdviceWhich {
     /// The items.
@@ -47,18 +47,18 @@ pub enum AdviceWhich {
     Weight,
 }
 
-/// Why an edit was refused: the first cause, in this order.
+/// Why an edit is refused: its first fault, in this order.
 #[derive(Debug, Clone, Copy, PartialEq, Eq)]
 pub enum AdviceFault {
     /// The name of an item that is added has a special.
     Wildcards,
     /// The version of an advisory's name isn't ANY.
     Version,
-    /// Such an item, or an advisory of this id, is there already.
+    /// The item, or an advisory of this id, is kept already.
     Exists,
     /// There is no such item, or no advisory of this id.
     Unknown,
-    /// This would pass its limit.
+    /// With the edit, this would exceed its limit.
     Full(AdviceWhich),
     /// Memory ran out.
     Memory,

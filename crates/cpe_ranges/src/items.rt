@@ -1,4 +1,4 @@
-// Items that an owner keeps with a table of their own.
+// Items with a table of their own.
 ghost use Rattle.std.specs.Prelude.{◌≡◌, ◌∷◌, ◌++◌, [], List, OnOk, OnErr, false, length, true};
 ghost use Rattle.std.specs.Bool.{OnFalse};
 ghost use Rattle.std.specs.List.{list_any};
@@ -14,7 +14,7 @@ use names_in_order::{ChangingNames, add_name};
 use std::alloc::Global;
 use std::marker::Model;
 
-/// Names in lower case in the order in which they came, in a table that nothing else uses. Contracts see them as the list of these
+/// Names in lower case, in the order in which they were added. Nothing else uses their table. Contracts see the list of these
 /// names.
 #[derive(Drop)]
 pub(crate) struct Items {
@@ -30,7 +30,7 @@ impl Model for Items {
     ghost invariant = { λ i. AreOwn i.table i.names.held i.names.numbers };
 }
 
-// Takes a number out, and lets its name go.
+// Removes a number, and releases its name.
 fn remove_number(table: &mut NameTable, names: &mut ChangingNames, id: NameId)
     requires own { AreOwn table.old names.old.held names.old.numbers }
     requires has { list_any (same_id id) names.old.numbers ≡ true }
@@ -44,7 +44,7 @@ fn remove_number(table: &mut NameTable, names: &mut ChangingNames, id: NameId)
     table.release(id);
 }
 
-// Takes a name out, if it is there, and tells whether it was.
+// Removes a name, if it is there, and returns whether it was.
 fn remove_name(table: &mut NameTable, names: &mut ChangingNames, name: &Wfn) -> bool
     requires own { AreOwn table.old names.old.held names.old.numbers }
     ensures own { AreOwn table.new names.new.held names.new.numbers }
@@ -63,7 +63,7 @@ fn remove_name(table: &mut NameTable, names: &mut ChangingNames, name: &Wfn) -> 
 }
 
 impl Items {
-    /// No items. It takes no memory.
+    /// No items. Allocates: no.
     pub(crate) fn new(alloc: Global) -> Items
         ensures { result ≡ [] }
     {
@@ -74,24 +74,24 @@ impl Items {
         }
     }
 
-    /// How many items there are.
+    /// The number of items.
     pub(crate) fn len(&self) -> usize
         ensures { result ≡ length self.now }
     {
         self.names.len()
     }
 
-    /// The items, found by their hashes and products.
+    /// The items as a list, in which items are found by hash and by product.
     pub(crate) fn all(&self) -> ItemView<'_>
         ensures { result ≡ self.now }
     {
         ItemView::new(&self.table, &self.names)
     }
 
-    /// Puts an item of a new name last, which is in lower case. The name is moved.
+    /// Adds an item of a new name at the end. The name is in lower case, and is moved.
     ///
     /// # Errors
-    /// Only that memory ran out; the items are then as they were.
+    /// Only that memory ran out. The items are then unchanged.
     pub(crate) fn add(&mut self, name: Wfn) -> Result<(), Memory>
         requires lower { IsLower name }
         requires fresh { list_any (is_same name) self.old ≡ false }
@@ -102,7 +102,7 @@ impl Items {
         add_name(&mut self.table, &mut self.names, name)
     }
 
-    /// Takes the item of this name out, and tells whether there was one; the others stay in their order.
+    /// Removes the item of this name, and returns whether there was one. The other items keep their order.
     pub(crate) fn remove(&mut self, name: &Wfn) -> bool
         ensures found { result ≡ list_any (is_same name.now) self.old }
         ensures items { self.new ≡ without_first (is_same name.now) self.old }

@@ -6,8 +6,8 @@ ghost use Rattle.cpe_ranges.specs.Step.{after, full};
 
 use crate::edit::AdviceEdit;
 
-/// In rows within their limits nothing is full where something is dropped, so that such an edit needn't be asked for it. It does
-/// nothing, and tells a proof so.
+/// If rows are within their limits, an edit that removes something exceeds no limit. So such an edit isn't tested for it. The
+/// function does nothing: its clause is the law.
 pub fn drops_are_never_full()
     ensures items { (rows : AdviceRows) (n : Values) → full rows ≡ None → full (after rows (AdviceEdit.DropItem n)) ≡ None }
     ensures advisories { (rows : AdviceRows) (id : List ℕ) → full rows ≡ None → full (after rows (AdviceEdit.Drop id)) ≡ None }

@@ -1,4 +1,4 @@
-// How many advisories there may be. Items and the weight have the limits of an inventory.
+// The greatest number of advisories. Items and weight have the limits of an inventory.
 
-/// The most advisories.
+/// The greatest number of advisories.
 pub const MOST_ADVISORIES: u64 = 100_000;

@@ -1,4 +1,4 @@
-// Members of records, and what may be wrong with them.
+// Members of records, and their faults.
 ghost use Rattle.std.specs.Prelude.{◌≡◌};
 ghost use Rattle.cpe_ranges.specs.Reading.{key_of};
 ghost use Rattle.cpe_ranges.specs.declared.member.AdviceReadFault.TheVariants as fault;
@@ -18,27 +18,27 @@ pub enum AdviceMember {
     Start,
     /// The version at which a range ends.
     End,
-    /// Whether the start is outside.
+    /// Whether the start itself is outside the range.
     StartExcluded,
-    /// Whether the end is outside.
+    /// Whether the end itself is outside the range.
     EndExcluded,
 }
 
-/// Why a line is no record: the first cause.
+/// Why a line is no record: its first fault.
 #[derive(Debug, Clone, Copy, PartialEq, Eq)]
 pub enum AdviceReadFault {
     /// The line is no JSON value.
     Json,
-    /// This member has not its form, or is absent and has no default.
+    /// This member doesn't have its form, or is absent and has no default.
     Member(AdviceMember),
-    /// No name has the text of the member `name`, and this is the place at which it goes wrong.
+    /// No name has the text of the member `name`. The number is the place of the refusal.
     Name(usize),
     /// Memory ran out.
     Memory,
 }
 
 impl AdviceMember {
-    /// How the member is written in a record.
+    /// The key of the member, as it is written in a record.
     pub fn key(self) -> &'static str
         ensures { result.now ≡ key_of self }
     {

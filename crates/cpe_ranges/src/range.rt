@@ -1,4 +1,4 @@
-// Which versions are in a range, and which items an advisory affects.
+// Which versions are in a range.
 ghost use Rattle.std.specs.Prelude.{◌≡◌, ◌&&◌, not, true};
 ghost use Rattle.std.specs.Option.{option_map_or};
 ghost use Rattle.cpe_rows.specs.cpe_values.Parts.{has_special};
@@ -61,7 +61,8 @@ fn is_text_in(start: &Option<Bound>, end: &Option<Bound>, text: &Pattern) -> boo
     !text.has_wildcards() && meets_start(start, text.stem()) && meets_end(end, text.stem())
 }
 
-/// Whether a version is in the range of these bounds: there is none, or it is a plain text that meets them. It takes no memory.
+/// Whether a version is in the range of these bounds: there is no bound, or the version is a text without specials that meets
+/// them. Allocates: no.
 pub(crate) fn is_in_range(start: &Option<Bound>, end: &Option<Bound>, version: &Value) -> bool
     ensures { result ≡ is_in_range start.now end.now version.now }
 {

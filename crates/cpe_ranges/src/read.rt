@@ -16,12 +16,12 @@ use cpe_rows::{Text, Wfn, is_id};
 use serde_json::Value;
 use std::alloc::Global;
 
-/// What a line asks for.
+/// The record of a line.
 #[derive(Debug, Drop)]
 pub enum Advice {
     /// A change of the items or of the advisories.
     Edit(AdviceEdit),
-    /// A question about them.
+    /// A question about the items and advisories.
     Query(AdviceQuery),
 }
 
@@ -137,7 +137,8 @@ fn bounds_in(alloc: Global, source: &Value) -> Result<Bounds, AdviceReadFault>
     })
 }
 
-// The fault, and the name is let go. Where it is let go beside other facts, its eleven values hide them from the proof.
+// The given fault. The name is dropped in this function, because in a longer one its eleven values would hide other clauses from
+// the proof.
 fn refused<T>(_name: Wfn, fault: AdviceReadFault) -> Result<T, AdviceReadFault>
     ensures { result ≡ Err fault }
 {
@@ -177,7 +178,7 @@ fn advice_by(alloc: Global, kind: RecordKind, source: &Value) -> Result<Advice, 
     }
 }
 
-// The record of a line, before it is known that it is in order.
+// The record of a line. Its caller proves that the record is valid.
 #[tactic(auto, unfolding(crate::specs::Reading::advice_of))]
 fn advice_in(alloc: Global, line: &[u8]) -> Result<Advice, AdviceReadFault>
     ensures { Gives result (advice_of line.now) }
@@ -187,7 +188,8 @@ fn advice_in(alloc: Global, line: &[u8]) -> Result<Advice, AdviceReadFault>
     advice_by(alloc, kind, &value)
 }
 
-/// The record of a line: a JSON value, of a kind that its member `do` says, whose members have their forms. Its names are in lower case.
+/// The record of a line: a JSON value whose member `do` says its kind, with the members of this kind. Its names are in lower
+/// case.
 ///
 /// | `do` | Members in order |
 /// |---|---|
@@ -195,16 +197,15 @@ fn advice_in(alloc: Global, line: &[u8]) -> Result<Advice, AdviceReadFault>
 /// | `advisory` | `id`; `name`; `start`, else none; `end`, else none; `start-excluded`, else `false`; `end-excluded`, else `false` |
 /// | `drop-advisory`, `affected` | `id` |
 ///
-/// An id and a version have 1 to 256 visible characters of ASCII. Members that a kind does not know are passed over, and of
-/// members that stand twice the last counts. A member that is there has its form or is refused, `null` too.
+/// An id and a version have 1 to 256 visible characters of ASCII. Members that a kind doesn't know are ignored. If a line has the
+/// same member twice, the last one counts. A member that is there must have its form, so `null` is refused.
 ///
 /// # Errors
-/// The first cause why the line is no record, exactly where it is none: `Json` where it is no JSON value; `Member` of `do` where
-/// this is none of the kinds' words; and then the fault of the first member of its kind that fails. Else `Memory`, where memory
-/// runs out.
+/// The first fault of the line, exactly if it is no record. `Json`: it is no JSON value. `Member` of `do`: this is no word for a
+/// kind. After these, the fault of the first member of its kind that fails. `Memory`: memory ran out.
 pub fn read_advice(alloc: Global, line: &[u8]) -> Result<Advice, AdviceReadFault>
     ensures read { Gives result (advice_of line.now) }
-    // It is in order.
+    // The record is valid.
     ensures valid { IfOk result (λ a. is_valid_advice a ≡ true) }
 {
     advice_in(alloc, line)

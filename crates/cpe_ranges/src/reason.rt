@@ -10,9 +10,9 @@ use std::alloc::{AllocError, Global};
 /// Why a line is refused.
 #[derive(Debug, Clone, Copy, PartialEq, Eq)]
 pub enum AdviceReason {
-    /// It is no record.
+    /// The line is no record.
     Unread(AdviceReadFault),
-    /// Its edit can't be applied.
+    /// The edit of the line is refused.
     Refused(AdviceFault),
 }
 

@@ -2,7 +2,7 @@
 ghost use Rattle.std.specs.Prelude.{◌≡◌};
 ghost use Rattle.cpe_ranges.specs.Reading.{record_word, record_kind_of};
 
-/// The kind of a record, as its member `do` says it.
+/// The kind of a record, which its member `do` says.
 #[derive(Clone, Copy)]
 pub(crate) enum RecordKind {
     Item,
@@ -28,7 +28,7 @@ impl RecordKind {
     }
 }
 
-/// The kind of this word. There is none exactly where no kind has it. It takes no memory.
+/// The kind of this word. There is none exactly if no kind has this word. Allocates: no.
 pub(crate) fn record_kind_of(text: &str) -> Option<RecordKind>
     ensures { result ≡ record_kind_of text.now }
 {

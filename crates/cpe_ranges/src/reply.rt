@@ -8,10 +8,10 @@ use cpe_rows::{List, Text, Wfn};
 use cpe_session::Page;
 use std::alloc::{AllocError, Global};
 
-/// Puts the lines of an answer after what is gathered.
+/// Appends the lines of an answer to the page.
 ///
 /// # Errors
-/// Only that memory ran out. What is gathered may be lost then.
+/// Only that memory ran out. The content of the page may then be lost.
 pub(crate) fn push_reply(
     alloc: Global,
     page: &mut Page,
@@ -56,7 +56,7 @@ fn push_name(alloc: Global, page: &mut Page, name: &Wfn) -> Result<(), AllocErro
     page.with_bytes(alloc, |bytes| append_fs(bytes, name))
 }
 
-// How many lines follow.
+// Appends the number of lines that follow.
 fn push_count(page: &mut Page, count: usize) -> Result<(), AllocError>
     ensures { OnOk result (page.new ≡ page.old ++ count_end count) }
 {

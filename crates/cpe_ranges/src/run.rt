@@ -13,10 +13,10 @@ use name_index::Steps;
 use std::alloc::Global;
 use std::sync::ledger::Ledger;
 
-/// Answers each line of the source as a record, over items and advisories that begin with none.
+/// The status of a run of the command. It answers each line of the source as a record, and begins without items and advisories.
 ///
-/// What stands written at each status is said as for every command that answers lines ([`answer_from`]). A step is a look at the
-/// name of an item, and only a question takes some.
+/// What is written at each status is the same as for every command that answers lines ([`answer_from`]). A step is a look at the
+/// name of an item. Only a question takes steps.
 pub fn advise<S: Source, K: Sink, L: Ledger>(
     alloc: Global,
     source: &mut S,

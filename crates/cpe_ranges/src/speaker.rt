@@ -1,4 +1,4 @@
-// What a line of a record says.
+// What a line of a record changes and writes.
 ghost use Rattle.std.specs.Prelude.{◌≡◌, ◌++◌, [], ℕ, List, true, None, IfOk, OnErr, option_map};
 ghost use Rattle.cpe_session.specs.Prelude.{IsSaid, StepsWithin};
 ghost use Rattle.cpe_ranges.specs.Prelude.{answer, is_valid_edit, is_valid_query, looks, step};
@@ -17,7 +17,7 @@ use name_index::Steps;
 use std::alloc::{AllocError, Global};
 use std::sync::ledger::Ledger;
 
-/// Each line is a record: an edit is applied to the items and advisories, and a question is answered from them.
+/// Each line is a record: an edit changes the items and advisories, and a question is answered from them.
 #[derive(Clone, Copy, Debug, PartialEq, Eq)]
 pub struct Advise;
 
@@ -60,7 +60,7 @@ impl Speaker for Advise {
     }
 }
 
-// Applies an edit, or tells why it can't be applied. Nothing is written for one that was.
+// Makes an edit, or returns why it is refused. An edit that is made writes nothing.
 #[inline(never)]
 fn make_edit<L: Ledger>(
     advisories: &mut Advisories,
@@ -80,7 +80,7 @@ fn make_edit<L: Ledger>(
     }
 }
 
-// Puts the answer to a question after what is gathered.
+// Appends the answer to a question to the page.
 #[inline(never)]
 fn say_answer<L: Ledger>(
     alloc: Global,

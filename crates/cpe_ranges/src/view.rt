@@ -1,4 +1,4 @@
-// Items beside the table of their names.
+// Items with the table of their names.
 ghost use Rattle.std.specs.Prelude.{◌≡◌, ◌+◌, List, IfOk, OnOk, filter};
 ghost use Rattle.std.specs.List.{list_any};
 ghost use Rattle.names_in_order.specs.Prelude.{AreInOrder, IsLower, looked_count, names_numbered, near_count, StepsWithin};
@@ -12,7 +12,8 @@ use std::alloc::Global;
 use std::marker::Model;
 use std::sync::ledger::Ledger;
 
-/// Items beside the table of their names: names in lower case in the order in which they came. Contracts see the list of these names.
+/// Items with the table of their names: names in lower case, in the order in which they were added. Contracts see the list of
+/// these names.
 #[derive(Drop)]
 pub(crate) struct ItemView<'t> {
     table: &'t NameTable,
@@ -27,7 +28,7 @@ impl<'t> Model for ItemView<'t> {
     ghost invariant = { λ i. AreInOrder i.table.now i.names.now.held i.names.now.numbers };
 }
 
-// The names of these numbers.
+// Copies of the names of these numbers.
 fn names_of(alloc: Global, table: &NameTable, ids: &[NameId]) -> Result<List<Wfn>, Memory>
     ensures { IfOk result (λ found. found ≡ names_kept table.now ids.now) }
 {
@@ -41,7 +42,7 @@ fn names_of(alloc: Global, table: &NameTable, ids: &[NameId]) -> Result<List<Wfn
 }
 
 impl<'t> ItemView<'t> {
-    /// Items beside the table of their names.
+    /// Items with the table of their names.
     pub(crate) fn new(table: &'t NameTable, names: &'t ChangingNames) -> ItemView<'t>
         requires { AreInOrder table.now names.now.held names.now.numbers }
         ensures { result ≡ names_numbered table.now names.now.numbers }
@@ -49,7 +50,7 @@ impl<'t> ItemView<'t> {
         ItemView { table, names }
     }
 
-    /// Whether an item has this name. It is found by its hash.
+    /// Whether an item has this name. The name is found by its hash.
     #[tactic(auto, unfolding(cpe_rows::specs::Names::is_same))]
     pub(crate) fn has(&self, name: &Wfn) -> bool
         ensures { result ≡ list_any (is_same name.now) self.now }
@@ -57,11 +58,13 @@ impl<'t> ItemView<'t> {
         self.names.find(self.table, name).is_some()
     }
 
-    /// The items that a name in lower case covers (NIST IR 7696), in their order. A step is a look at an item: it looks once at each
-    /// whose product that of the name covers, and at no other: all these are items to whose product that of the name is near.
+    /// The items that a name in lower case covers (NIST IR 7696), in their order.
+    ///
+    /// A step is a look at an item. Each item whose product the name's product covers is looked at once, and no other item. The
+    /// product of the name is near to the product of each of these.
     ///
     /// # Errors
-    /// Only that memory ran out. The bound on steps holds then, too.
+    /// Only that memory ran out. The bound on steps then holds too.
     pub(crate) fn covered<L: Ledger>(
         &self,
         alloc: Global,

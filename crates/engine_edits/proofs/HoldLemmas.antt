@@ -1,4 +1,4 @@
--- Names that are held for the fact references of a statement, one after the other, and let go.
+-- The names of a statement's facts: they are held one after another, and released.
 use Rattle.std.proofs.Common.{◌≡◌, ℕ, suc, ◌+◌, ◌≤◌, ◌<◌, Bool, true, false, ◌&&◌, cond, List, [], ◌∷◌, ◌++◌, drop, take, get_or, length, refl, sym, ap, subst, ◌∙◌, arith}
 use Rattle.std.specs.Prelude.{None, map, IsSome, nat_lt}
 use Rattle.std.specs.List.{flat_map, list_all}
@@ -32,9 +32,9 @@ use Rattle.verdicts.specs.Verdicts.{HasVerdicts, VerdictsNow}
 use Rattle.engine_edits.specs.Holding.{AreFew, Grows}
 use Rattle.engine_edits.specs.Parts.{AreOf}
 
--- ---- orders
+-- ---- lists with the same elements in another order
 
--- the first of all comes last in the first of three lists
+-- the first element may be moved to the end of the first of three lists
 last_in_first : (x : Values) (xs ys zs : List Values) → SameElements (x ∷ ((xs ++ ys) ++ zs)) (((xs ++ x ∷ []) ++ ys) ++ zs)
 last_in_first x xs ys zs f =
     omega (
@@ -48,7 +48,7 @@ last_in_first x xs ys zs f =
       sum_by-cons f x [],
     )
 
--- the last of four comes second
+-- the last of four lists may be moved to the second place
 last_second : (xs ys zs ws : List Values) → SameElements (xs ++ ((ys ++ zs) ++ ws)) ((xs ++ ws) ++ (ys ++ zs))
 last_second xs ys zs ws f =
     omega (
@@ -125,7 +125,7 @@ module _ (old new : Registered) (id : NameId) (name : Values) (ids : List NameId
 
 -- ---- a name that is released
 
--- what the registry is asked: its entries and items come last
+-- the table holds what the registry requires: the names of its entries and items are last
 pub are_held : (r : Registered) (v : VerdictsNow) (rows : Rows) (name : Values) (others : List Values)
     → ((list other : List Values) → SameElements list other → Shows r.table (holds_in r.table) list → Shows r.table (holds_in r.table) other)
     → AreOf r v rows (name ∷ others) → (ns : List Values) × AreHeld r (name ∷ ns)
@@ -160,7 +160,7 @@ module _ (old new : Names) (id : ℕ) (are : AreNames old) (r : Releases old new
       let more = still ys live.1 (λ m. omega (arith, among m, named_first m n (names_at old ys))) in
       ((one.0, more.0), λ k. one.1 k ∷ more.1 k)
 
--- those that are left
+-- the names that are still held
 module _ (old new : Registered) (id : NameId) (are : AreNames old.table) (live : IsLive old.table id.0) (r : Releases old.table new.table id.0) (entries : new.entries ≡ old.entries) (items : new.items ≡ old.items)
     (released : (list : List Values) → Shows old.table (holds_in old.table) (name_at old.table id ∷ list) → Shows new.table (holds_in new.table) list)
     (stands : (v : VerdictsNow) (rows : Rows) → ((n : Values) → 1 ≤ times_named n (names_kept rows) → IsKnown new.table n) → HasVerdicts old.table v rows → HasVerdicts new.table v rows) where
@@ -180,7 +180,7 @@ module _ (old new : Registered) (id : NameId) (are : AreNames old.table) (live :
         }),
       )
 
--- ---- one after the other
+-- ---- one after another
 
 pub first_there : {A : Type 0} (xs : List A) (i : ℕ) (d : A) → i < length xs → drop i xs ≡ get_or xs i d ∷ drop (i + 1) xs
 first_there xs i d lt = drop_more xs i d lt
@@ -216,7 +216,7 @@ sound_child operator negate of i d sound lt = by (is_sound (get_or of i d)) refl
     by true e = e
     by false e = let clash : true ≡ false = sym all ∙ list_all_at is_sound of i d lt e in let wrong : ⊥ = cc in absurd wrong
 
--- and less deep than the test
+-- each child of a test is less deep than the test
 pub depth_falls : (operator : Operator) (negate : Bool) (of : List Test) (i : ℕ) (d : Test) → i < length of → depth_of (get_or of i d) < depth_of (Logic operator negate of)
 depth_falls operator negate of i d lt =
     let logic : depth_of (Logic operator negate of) ≡ suc (largest (map depth_of of)) = ap depth_of (sym (rolls-Logic operator negate of)) ∙ fold-roll-Test ℕ depth_step (Test-F.Logic operator negate of) in

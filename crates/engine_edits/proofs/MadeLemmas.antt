@@ -1,4 +1,4 @@
--- What follows for the lists of rows where an edit is made.
+-- What follows for the lists of rows if an edit is made.
 use Rattle.std.proofs.Common.{find, if◌then◌else◌, ◌||◌, map, ◌≡◌, ◌≤◌, ◌∙◌, ℕ, ap, sym, subst, Bool, true, false, List, [], ◌∷◌, ◌++◌, length, arith, refl, Some}
 use Rattle.std.proofs.lemmas.List.{length-map}
 use Rattle.std.specs.List.{list_any}
@@ -31,7 +31,7 @@ pub at_err : {A B P : Type 0} (r : Result A B) → P → OnErr r P
 at_err (Ok x) p = tt
 at_err (Err e) p = p
 
--- other rows with the same entries, items and names, and their verdicts
+-- registry and verdicts belong to other rows, if entries, items and names are the same and the verdicts are theirs
 pub by_moved : (r : Registered) (v w : VerdictsNow) (rows next : Rows) (others : List Values) → next.entries ≡ rows.entries → next.items ≡ rows.items → names_kept next ≡ names_kept rows
     → HasVerdicts r.table w next → AreOf r v rows others → AreOf r w next others
 by_moved r v w rows next others entries items names stands a = record {
@@ -41,7 +41,7 @@ by_moved r v w rows next others entries items names stands a = record {
   verdicts = stands;
 }
 
--- the changes are told by what was known, where the statements are the same
+-- the changes are the differences from the known verdicts, if the statements are the same
 pub told : (rows next : Rows) (v : VerdictsNow) (cs : List Changed) → cs ≡ differing 0 (known_in v) (map (verdict next) next.statements) → known_in v ≡ map (verdict rows) rows.statements
     → next.statements ≡ rows.statements → cs ≡ others rows next rows.statements
 told rows next v cs is known same = is ∙ (λ k. differing 0 (known k) (map (verdict next) (same k)))
@@ -57,12 +57,12 @@ found_some {A = A} p (x ∷ xs) h = by (p x) refl (found_some p xs)
     by true e more = (x, ap (λ (c : Bool). if c then Some x else find p xs) e)
     by false e more = let y = more (sym (ap (λ (c : Bool). c || list_any p xs) e) ∙ h) in (y.0, ap (λ (c : Bool). if c then Some x else find p xs) e ∙ y.1)
 
--- the ends of a name, of the names as they are lent
+-- the ends of a name, by a reference to the table and by copied numbers
 pub are_ends : (table lent : Names) (es : List Entry) (id : ℕ) (ids numbers : List NameId) → lent ≡ table → numbers ≡ ids → AreLive table ids → names_at table ids ≡ ends es (kept_at table id).name
     → LeadsTo lent es Follow id numbers
 are_ends table lent es id ids numbers at same live names = subst (λ (t : Names). LeadsTo t es Follow id numbers) (sym at) (subst (LeadsTo table es Follow id) (sym same) (record { live = live; names = names }))
 
--- an item that was dropped, whose name is held still
+-- an item is removed, and its name is still held
 pub item_dropped : (old new : Registered) (w : VerdictsNow) (rows : Rows) (id : NameId) (t : Names) → new.table ≡ old.table → new.entries ≡ rows.entries → new.items ≡ without_first (is_same (name_at old.table id)) rows.items
     → Shows old.table (holds_in old.table) (name_at old.table id ∷ names_kept (after rows (edit.DropItem (name_at old.table id)))) → t ≡ old.table → HasVerdicts t w (after rows (edit.DropItem (name_at t id)))
     → AreOf new w (after rows (edit.DropItem (name_at old.table id))) (name_at new.table id ∷ [])
@@ -72,7 +72,7 @@ item_dropped old new w rows id t table entries items held at stands =
     subst (λ (x : Names). AreOf new w next (name_at x id ∷ [])) (sym table)
     (by_lists old new w next (n ∷ []) table entries items held (subst (λ (x : Names). HasVerdicts x w (after rows (edit.DropItem (name_at x id)))) at stands))
 
--- what is to be removed is there, if that isn't refused
+-- a row that is to be removed is there, if the removal isn't refused
 pub is_there : (found : Bool) → first_some (when (not found) fault.Unknown ∷ []) ≡ None → found ≡ true
 is_there true none = refl
 is_there false none = let wrong : ⊥ = cc in absurd wrong

@@ -1,4 +1,4 @@
--- A statement that comes.
+-- A new statement, and the number of its facts.
 use Rattle.std.proofs.Common.{◌≡◌, ◌+◌, ◌≤◌, List, [], ◌∷◌, ◌++◌, length, None, ap, arith}
 use Rattle.std.specs.Prelude.{nat_lt}
 use Rattle.std.specs.List.{flat_map, list_any}
@@ -20,7 +20,7 @@ length_both : (xs ys : List Values) → length (xs ++ ys) ≡ length xs + length
 length_both [] ys = omega arith
 length_both (x ∷ xs) ys = omega (arith, length_both xs ys)
 
--- a statement without a fault has no more fact references than all may have
+-- a statement without a fault has no more facts than all statements may have
 pub few_facts : (statements : List Statement) (s : Statement) → first_some (statement_causes statements s) ≡ None → length (fact_names s.test) ≤ most limit.Facts
 few_facts statements s none =
     let last = when (nat_lt (most limit.Facts) (number_of_facts (statements ++ s ∷ []))) (fault.Full limit.Facts) ∷ [] in

@@ -1,4 +1,4 @@
--- The names that come with an edit, and why a change of a deprecation is refused, whatever becomes of the deprecation.
+-- The new names of an edit, and the causes for which a change of a deprecation is refused, for each kind of change.
 use Rattle.std.proofs.Common.{◌≡◌, ℕ, Bool, List, Option, Some, refl, sym, ap, ◌∙◌}
 use Rattle.name_index.specs.Table.{Names}
 use Rattle.verdicts.specs.cpe_registry.Registered.{AreLive}
@@ -15,7 +15,7 @@ use Rattle.engine_edits.specs.declared.numbered.Numbered.TheVariants as numbered
 use Rattle.engine_edits.specs.declared.numbered.Turn.{Turn}
 use Rattle.engine_edits.specs.declared.numbered.Turn.TheVariants.{Give, Replace, TakeAway}
 
--- the names that come with an edit are live
+-- the numbers of the new names of an edit are live
 pub coming_live : (table : Names) (e : Numbered) → IsFound table e → AreLive table (coming e)
 coming_live table (numbered.Entry i title provenance) found = (found, tt)
 coming_live table (numbered.Item i) found = (found, tt)
@@ -32,7 +32,7 @@ module _ (rows : Rows) (n : Values) (date comment : List ℕ) where
   causes_turned (Replace d) = refl
   causes_turned TakeAway = refl
 
-  -- and so its first cause, by what is at hand of the dictionary and of the change
+  -- the first cause of a change, by the values of the dictionary and of the change
   pub first_cause : (t : Turn) {es : List Entry} {name : Values} {first : Bool} {d : Option Deprecation} → es ≡ rows.entries → name ≡ n → first ≡ is_first t → d ≡ given t
       → first_some (change_causes es name first d (Some (note_of t date comment))) ≡ first_some (causes rows (turned n t date comment))
   first_cause t entries named is_it gives =

@@ -1,4 +1,4 @@
--- What was taken for an edit leaves the rows unchanged.
+-- If only memory is taken for an edit, the rows are unchanged.
 use Rattle.std.proofs.Common.{◌≡◌, ◌≤◌, ◌∷◌, ◌∙◌, List, [], None, map, refl, sym, ap, subst}
 use Rattle.cpe_rows.specs.Accepted.{IsAccepted}
 use Rattle.cpe_rows.specs.After.{after}
@@ -38,15 +38,15 @@ same_parts p q r v weight = record { rows = rows_stay p q r v; known = v.known; 
 pub stay_same : (p : Parts) → SameParts p p
 stay_same p = record { rows = refl; known = refl; weight = refl }
 
--- registry and verdicts are still those of the rows
+-- registry and verdicts still belong to the rows
 pub are_still : (r s : Registered) (v w : VerdictsNow) (rows : Rows) (others : List Values) → SameRegistry r s → HasVerdicts r.table w rows → AreOf r v rows others → AreOf s w rows others
 are_still r s v w rows others same stands a = by_lists r s w rows others same.table (same.entries ∙ a.entries) (same.items ∙ a.items) a.held stands
 
--- a name that is held besides has its name still
+-- a name that is held besides the rows still has its number
 pub named_still : (r s : Registered) (w : VerdictsNow) (rows : Rows) (id : NameId) → SameRegistry r s → AreOf s w rows (name_in r.table id ∷ []) → AreOf s w rows (name_in s.table id ∷ [])
 named_still r s w rows id same a = subst (λ (t : Names). AreOf s w rows (name_in t id ∷ [])) (sym same.table) a
 
--- an edit is ready over the parts that were left, if nothing but memory was taken
+-- an edit is ready over the new parts, if only memory was taken
 pub ready_over : (p q : Parts) (e : Edit) (r : Ready) (room : Filling Changed) → SameParts p q → edit_ready q.registry.table r ≡ e → IsLawful (rows_in p) → IsAccepted (rows_in p) e (after (rows_in p) e)
     → first_some (causes (rows_in p) e) ≡ None → known_in p.verdicts ≡ map (verdict (rows_in p)) (rows_in p).statements → room.list ≡ [] → places (rows_in p) e ≤ room.spare → HasAll q r → IsReady q r room
 ready_over p q e r room same is lawful accepted none known empty spare all =

@@ -1,4 +1,4 @@
--- A statement that comes or goes.
+-- A statement that is added or removed.
 use Rattle.std.proofs.Common.{◌≡◌, ℕ, List, [], ◌∷◌, ◌++◌, length, Some, None, refl, ap, ◌∙◌}
 use Rattle.std.specs.Prelude.{Option, slice_get}
 use Rattle.std.specs.Option.{option_map}
@@ -19,7 +19,7 @@ dropped_told rows None (Some s) = refl
 dropped_told rows (Some k) None = refl
 dropped_told rows (Some k) (Some s) = refl
 
--- a statement that is put has the verdict at the place after all others
+-- a new statement has its verdict at the place after all others
 pub put_told : (rows next : Rows) (s : Statement) (place : ℕ) (truth : Option Truth) → place ≡ length rows.statements → next.statements ≡ rows.statements ++ s ∷ []
     → truth ≡ option_map (verdict next) (slice_get next.statements place) → put_by place truth ≡ change (length rows.statements) None (Some (verdict next s)) ∷ []
 put_told rows next s place truth at same is =

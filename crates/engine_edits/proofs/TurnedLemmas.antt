@@ -1,4 +1,4 @@
--- What a change of a deprecation leaves and tells, whatever becomes of the deprecation.
+-- What a change of a deprecation leaves, and which verdicts it changes, for each kind of change.
 use Rattle.std.proofs.Common.{◌≡◌, ◌∙◌, ℕ, List, Option, Some, refl, sym, ap}
 use Rattle.cpe_rows.specs.cpe_name.Eleven.{Values}
 use Rattle.cpe_rows.specs.After.{after, changed}
@@ -20,7 +20,7 @@ module _ (rows : Rows) (n : Values) (date comment : List ℕ) where
   after_turned (Replace d) = refl
   after_turned TakeAway = refl
 
-  -- and its entries are those that are written for it
+  -- the entries after the edit are the entries that are written for it
   pub written_turned : (t : Turn) (k : ℕ) (d : Option Deprecation) (note : Note) → d ≡ given t → note ≡ note_of t date comment
       → written (rewritten (given t) (Some (note_of t date comment))) k rows.entries ≡ changed (rewritten (given t) (Some (note_of t date comment))) n rows.entries
       → written (rewritten d (Some note)) k rows.entries ≡ (after rows (turned n t date comment)).entries
@@ -34,7 +34,7 @@ module _ (rows : Rows) (n : Values) (date comment : List ℕ) where
   changed_turned (Replace d) = refl
   changed_turned TakeAway = refl
 
-  -- no statement comes or goes
+  -- no statement is added or removed
   pub changes_turned : (t : Turn) → changes rows (turned n t date comment) ≡ others rows (after rows (turned n t date comment)) rows.statements
   changes_turned (Give d) = refl
   changes_turned (Replace d) = refl

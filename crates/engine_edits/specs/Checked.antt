@@ -1,4 +1,4 @@
--- An edit that has no fault.
+-- What is known of an edit without a fault.
 use Rattle.std.specs.Prelude.{◌≡◌, None}
 use Rattle.cpe_rows.specs.Accepted.{IsAccepted}
 use Rattle.cpe_rows.specs.After.{after}
@@ -10,7 +10,7 @@ use Rattle.cpe_rows.specs.declared.edit.Edit.{Edit}
 use Rattle.engine_edits.specs.Planned.{IsPlanned}
 use Rattle.engine_edits.specs.declared.checked.Checked.{Checked}
 
--- what it leaves is accepted, and has this weight
+-- The edit is accepted and has no fault. Its plan is right, and the weight is the weight of the rows that it leaves.
 pub record IsChecked (rows : Rows) (e : Edit) (c : Checked) : Type 0 where
   pub accepted : IsAccepted rows e (after rows e)
   pub none : first_some (causes rows e) ≡ None

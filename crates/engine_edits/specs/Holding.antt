@@ -1,4 +1,4 @@
--- Names that are held for the fact references of a statement.
+-- The names of a statement's facts, which the table holds for the statement.
 use Rattle.std.specs.Prelude.{◌≡◌, ◌+◌, ◌≤◌, ◌++◌, ℕ, List, length}
 use Rattle.cpe_rows.specs.cpe_name.Eleven.{Values}
 use Rattle.cpe_rows.specs.Rows.{Rows}
@@ -9,11 +9,13 @@ use Rattle.verdicts.specs.cpe_registry.Registered.{AreLive, Registered}
 use Rattle.verdicts.specs.Verdicts.{VerdictsNow}
 use Rattle.engine_edits.specs.Parts.{AreOf}
 
--- so few are held that so many more can be
+-- there is room for this number of further holds: with them the table has at most 4,294,967,295
 abbrev pub AreFew : Names → ℕ → Type 0
 AreFew table n = (list : List Values) × Shows table (holds_in table) list × (length list + n ≤ 4294967295)
 
--- more names are held, and their numbers stand after those that were there: these others, and all that is kept, stay as they were
+-- More names are held, and their numbers are live. Entries and items are unchanged. Suppose that the old registry belonged to some rows,
+-- and held the names of the old numbers and other names besides. Then the new registry belongs to the same rows, and holds the names of
+-- the new numbers and the same other names.
 pub record Grows (old new : Registered) (before now : List NameId) : Type 0 where
   pub entries : new.entries ≡ old.entries
   pub items : new.items ≡ old.items

@@ -1,5 +1,5 @@
--- How many looks at names an edit may take, which keeps the verdicts. A name that comes, goes or is asked then, of an item, of a fact reference,
--- or of their ends where deprecations lead, is looked at, and the names on the other side whose product its own meets are looked at for it.
+-- The most looks at names that an edit may take. An edit looks for the names of items and facts, and for the ends of these names. Each
+-- such name is one look. So is each name on the other side (of facts for an item, of items for a fact) whose product meets its own.
 use Rattle.std.specs.Prelude.{ℕ, Result, Ok, Err}
 use Rattle.cpe_rows.specs.After.{after}
 use Rattle.cpe_rows.specs.Rows.{Rows}
@@ -9,8 +9,9 @@ use Rattle.cpe_rows.specs.declared.edit.Edit.TheVariants as edit
 use Rattle.cpe_rows.specs.declared.fault.EditFault.{EditFault}
 use Rattle.verdicts.specs.facts.Looks.{item_looks, lead_looks, statement_looks}
 
--- an edit that is made takes for an item as many as it and its ends take, for a statement as many as its fact references take, for a change
--- of a deprecation as many as the ends take of all that leads to the entry, before and after it, and for each other edit none
+-- An edit that is made. For an item: the looks for it and its ends. For a statement: the looks for its facts. For a change of a
+-- deprecation: the looks for the ends of the items that lead to the entry, before and after the change, and for the ends, after it, of
+-- the facts that lead there. For each other edit: none.
 abbrev pub made_looks : Rows → Edit → ℕ
 made_looks rows (edit.Item n) = item_looks rows n
 made_looks rows (edit.DropItem n) = item_looks rows n
@@ -24,6 +25,6 @@ abbrev pub unless_refused : Result Rows EditFault → ℕ → ℕ
 unless_refused (Ok next) count = count
 unless_refused (Err fault) count = 0
 
--- an edit that is refused takes none
+-- an edit that is refused takes no look
 abbrev pub edit_looks : Rows → Edit → ℕ
 edit_looks rows e = unless_refused (step rows e) (made_looks rows e)

@@ -1,4 +1,4 @@
--- The parts after a step of an edit.
+-- The parts of an engine after each step of an edit.
 use Rattle.std.specs.Prelude.{◌≡◌, [], None, Result, IfErr, IfOk, OnErr}
 use Rattle.cpe_rows.specs.Accepted.{IsAccepted}
 use Rattle.cpe_rows.specs.After.{after}
@@ -14,22 +14,22 @@ use Rattle.engine_edits.specs.declared.numbered.Numbered.{Numbered}
 use Rattle.engine_edits.specs.declared.parts.Parts.{Parts}
 use Rattle.engine_edits.specs.declared.ready.Ready.{Ready}
 
--- An edit got its numbers; or there is no such name, or memory ran out.
+-- An edit gets the numbers of its names. If it fails, such a name is missing, or memory ran out.
 pub record EditNumbered (old new : Parts) (e : Edit) (result : Result Numbered EditFault) : Type 0 where
-  -- the rows stay
+  -- the rows are unchanged
   pub rows : rows_in new ≡ rows_in old
-  -- and so do the verdicts
+  -- the verdicts are unchanged
   pub verdicts : new.verdicts ≡ old.verdicts
-  -- the names that come are held besides
+  -- if it succeeds, the table also holds the new names of the edit
   pub beside : IfOk result (AreBeside new)
-  -- the edit is the one that was given
+  -- if it succeeds, the edit with its numbers is the given edit
   pub edit : IfOk result (λ n. edit_in new n ≡ e)
-  -- what is refused leaves no name held
+  -- if it fails, the table holds only the names of the rows
   pub left : OnErr result (AreKept new)
-  -- and for a reason that the step has
+  -- if it fails, the fault is a fault of the step, or memory ran out
   pub err : IfErr result (λ f. Refuses f (step (rows_in old) e))
 
--- An edit with its numbers has no fault.
+-- An edit with its numbers has no fault, so it may be made ready.
 pub record MayBeReady (p : Parts) (n : Numbered) : Type 0 where
   pub beside : AreBeside p n
   pub accepted : IsAccepted (rows_in p) (edit_in p n) (after (rows_in p) (edit_in p n))
@@ -41,12 +41,12 @@ pub record SameParts (old new : Parts) : Type 0 where
   pub known : known_in new.verdicts ≡ known_in old.verdicts
   pub weight : new.weight ≡ old.weight
 
--- An edit with its numbers was made ready, or memory ran out.
+-- All memory for an edit with its numbers is taken, or memory ran out.
 pub record MadeReady {Fault : Type 0} (old new : Parts) (n : Numbered) (result : Result Ready Fault) : Type 0 where
   pub same : SameParts old new
-  -- what is ready is this edit
+  -- if it succeeds, what is ready is this edit
   pub edit : IfOk result (λ r. edit_ready new.registry.table r ≡ edit_in old n)
-  -- and it has all that it needs
+  -- if it succeeds, the edit has all that it needs
   pub all : IfOk result (HasAll new)
-  -- without memory nothing is held for it
+  -- if memory ran out, the table holds only the names of the rows
   pub left : OnErr result (AreOf new.registry new.verdicts (rows_in old) [])

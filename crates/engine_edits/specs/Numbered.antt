@@ -1,4 +1,4 @@
--- Edits whose names are numbers of the engine's table.
+-- Edits with numbers in place of names: the numbers of the names in the engine's table.
 use Rattle.std.specs.Prelude.{◌≡◌, ◌∷◌, ⊤, Bool, true, false, List, [], ℕ, Option, Some, None}
 use Rattle.cpe_rows.specs.cpe_name.Eleven.{Values}
 use Rattle.name_index.specs.declared.table.NameId.{NameId}
@@ -21,15 +21,15 @@ use Rattle.engine_edits.specs.declared.numbered.Turn.TheVariants.{Give, Replace,
 use Rattle.engine_edits.specs.declared.numbered.Numbered.{Numbered}
 use Rattle.engine_edits.specs.declared.numbered.Numbered.TheVariants as numbered
 
--- ---- what becomes of a deprecation
+-- ---- changes of a deprecation
 
--- that of the entry then, if it has one
+-- the deprecation of the entry after the change, if it has one
 abbrev pub given : Turn → Option Deprecation
 given (Give d) = Some d
 given (Replace d) = Some d
 given TakeAway = None
 
--- the entry has to be active before
+-- the change needs an active entry
 abbrev pub is_first : Turn → Bool
 is_first (Give d) = true
 is_first (Replace d) = false
@@ -43,7 +43,7 @@ note_kind TakeAway = kind.DeprecationModification
 abbrev pub note_of : Turn → (date comment : List ℕ) → Note
 note_of t date comment = record { kind = note_kind t; date = date; comment = comment }
 
--- the edit that makes it, of the entry of this name
+-- the edit that makes this change to the entry of this name
 abbrev pub turned : Values → Turn → (date comment : List ℕ) → Edit
 turned n (Give d) date comment = edit.Deprecate n d date comment
 turned n (Replace d) date comment = edit.Amend n d date comment
@@ -51,7 +51,7 @@ turned n TakeAway date comment = edit.Restore n date comment
 
 -- ---- edits
 
--- the edit that is numbered, by the names of the table
+-- the edit with the names of the table in place of the numbers
 abbrev pub edit_of : Names → Numbered → Edit
 edit_of table (numbered.Entry id title provenance) = edit.Entry (new_entry (name_in table id) title provenance)
 edit_of table (numbered.Item id) = edit.Item (name_in table id)
@@ -62,12 +62,12 @@ edit_of table (numbered.DropStatement id) = edit.DropStatement id
 edit_of table (numbered.SetCheck k t) = edit.SetCheck k t
 edit_of table (numbered.DropCheck k) = edit.DropCheck k
 
--- the numbers are live, and are those of the names of the statement's fact references
+-- The numbers are live, and their names are the names of the statement's facts, in the order of its test.
 pub record AreNumbered (table : Names) (s : Statement) (ids : List NameId) : Type 0 where
   pub live : AreLive table ids
   pub names : names_at table ids ≡ fact_names s.test
 
--- its numbers are those of its names
+-- the numbers of the edit are live, and those of a new statement are the numbers of its facts
 abbrev pub IsFound : Names → Numbered → Type 0
 IsFound table (numbered.Entry id title provenance) = IsLive table id.0
 IsFound table (numbered.Item id) = IsLive table id.0
@@ -76,7 +76,7 @@ IsFound table (numbered.Change c) = IsLive table c.id.0
 IsFound table (numbered.PutStatement s ids) = AreNumbered table s ids.items
 IsFound table e = ⊤
 
--- the numbers of the names that come with it, which are no rows' yet
+-- the numbers of the new names of the edit, which no row has by this edit yet
 abbrev pub coming : Numbered → List NameId
 coming (numbered.Entry id title provenance) = id ∷ []
 coming (numbered.Item id) = id ∷ []
@@ -88,6 +88,6 @@ numbers_of comes.Nothing = []
 numbers_of (comes.One id) = id ∷ []
 numbers_of (comes.Many ids) = ids.items
 
--- the names that are held for it, besides those of rows
+-- the new names of the edit, which the table holds besides the names of the rows
 abbrev pub names_coming : Names → Numbered → List Values
 names_coming table e = names_at table (coming e)

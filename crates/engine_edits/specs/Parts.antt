@@ -1,4 +1,4 @@
--- The rows of an engine's parts, between edits and while an edit is on its way.
+-- The rows of an engine's parts: between edits, and while an edit is prepared.
 use Rattle.std.specs.Prelude.{◌≡◌, ◌++◌, List, [], true}
 use Rattle.cpe_rows.specs.cpe_name.Eleven.{Values}
 use Rattle.cpe_rows.specs.Formed.{IsFormed}
@@ -18,25 +18,26 @@ use Rattle.engine_edits.specs.declared.parts.Parts.{Parts}
 abbrev pub rows_in : Parts → Rows
 rows_in p = record { entries = p.registry.entries; items = p.registry.items; statements = statements_in p.verdicts; checks = checks_in p.verdicts }
 
--- Registry and verdicts are those of these rows: the table holds the names of entries, items and fact references, these others besides, each
--- as often as it is one, and no more; and each verdict is that of the rows.
+-- Registry and verdicts belong to these rows. The table holds the names of the entries, items and facts of the rows, and these other
+-- names. It holds each name as often as these lists have it, and no other name. Each kept verdict is the verdict of the rows.
 pub record AreOf (r : Registered) (v : VerdictsNow) (rows : Rows) (others : List Values) : Type 0 where
   pub entries : r.entries ≡ rows.entries
   pub items : r.items ≡ rows.items
   pub held : Shows r.table (holds_in r.table) (others ++ names_kept rows)
   pub verdicts : HasVerdicts r.table v rows
 
--- lawful rows, and their weight; the table holds their names and no other
+-- The rows are lawful, the weight is their weight, and the table holds only their names.
 pub record AreKept (p : Parts) : Type 0 where
   pub lawful : IsLawful (rows_in p)
   pub weight : p.weight ≡ weight (rows_in p)
   pub are : AreOf p.registry p.verdicts (rows_in p) []
 
--- the edit that is numbered
+-- the edit with the names of the table in place of the numbers
 abbrev pub edit_in : Parts → Numbered → Edit
 edit_in p n = edit_of p.registry.table n
 
--- lawful rows, and their weight, beside an edit in order that isn't made yet: the table holds the names that come with it besides
+-- A valid edit that isn't made yet, with its numbers. The rows are lawful, and the weight is their weight. The table holds the names of
+-- the rows and the new names of the edit.
 pub record AreBeside (p : Parts) (n : Numbered) : Type 0 where
   pub lawful : IsLawful (rows_in p)
   pub weight : p.weight ≡ weight (rows_in p)

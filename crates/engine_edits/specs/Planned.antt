@@ -1,4 +1,4 @@
--- An edit that was looked at before it is made: a change of a deprecation has its plan.
+-- The plan of an edit: a change of a deprecation has one before it is made.
 use Rattle.std.specs.Prelude.{⊤, List, Option, Some, None}
 use Rattle.cpe_rows.specs.cpe_name.Eleven.{Values}
 use Rattle.cpe_rows.specs.declared.entry.Entry.{Entry}
@@ -8,7 +8,7 @@ use Rattle.cpe_rows.specs.declared.edit.Edit.TheVariants as edit
 use Rattle.cpe_dictionary.specs.Plans.{IsPlan}
 use Rattle.cpe_dictionary.specs.declared.plans.Plan.{Plan}
 
--- there is a plan that gives the entry of this name the deprecation, or none
+-- there is a plan, and by it the entry of this name gets this deprecation, or none
 abbrev pub HasPlan : List Entry → Values → Option Deprecation → Option Plan → Type 0
 HasPlan es n d None = ⊥
 HasPlan es n d (Some p) = IsPlan es n d p

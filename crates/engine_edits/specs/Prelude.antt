@@ -1,4 +1,4 @@
--- What most contracts over the parts of an engine name, in one place.
+-- Definitions that most contracts over the parts of an engine use, in one place.
 pub use Rattle.name_index.specs.Table.{IsLive}
 pub use Rattle.verdicts.specs.cpe_registry.Registered.{name_in}
 pub use Rattle.verdicts.specs.Leads.{IsReadyLead}

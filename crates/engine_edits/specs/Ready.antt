@@ -1,4 +1,4 @@
--- An edit for which all memory is taken, and places for the verdicts that it changes.
+-- An edit for which all memory is taken, with places for the verdicts that it changes.
 use Rattle.std.specs.Prelude.{◌≡◌, ◌≤◌, ◌∷◌, ◌++◌, [], ℕ, List, None, length, map}
 use Rattle.cpe_rows.specs.Accepted.{IsAccepted}
 use Rattle.cpe_rows.specs.After.{after}
@@ -39,11 +39,11 @@ use Rattle.engine_edits.specs.declared.ready.Ready.TheVariants as ready
 use Rattle.engine_edits.specs.declared.ready.ReadyChange.{ReadyChange}
 use Rattle.engine_edits.specs.declared.ready.ReadyEdit.{ReadyEdit}
 
--- the statement that an addition adds
+-- the statement that is added
 abbrev pub added : Addition → Statement
 added a = a.statement.numbered.value.statement
 
--- the edit that is ready, by the names of the table
+-- the edit with the names of the table in place of the numbers
 abbrev pub edit_ready : Names → Ready → Edit
 edit_ready table (ready.Entry id title provenance) = edit.Entry (new_entry (name_in table id) title provenance)
 edit_ready table (ready.Item id ends) = edit.Item (name_in table id)
@@ -54,13 +54,13 @@ edit_ready table (ready.DropStatement id removal) = edit.DropStatement id
 edit_ready table (ready.SetCheck result truth) = edit.SetCheck result.key truth
 edit_ready table (ready.DropCheck key) = edit.DropCheck key
 
--- The name of a new entry is held, and there is room for the entry.
+-- The table holds the name of a new entry, and there is room for the entry.
 pub record IsReadyEntry (p : Parts) (id : NameId) : Type 0 where
   pub are : AreOf p.registry p.verdicts (rows_in p) (name_in p.registry.table id ∷ [])
   pub live : IsLive p.registry.table id.0
   pub room : HasEntryRoom p.registry id
 
--- The name of a new item is held and leads to these ends, and there is room for the item.
+-- The table holds the name of a new item. The name leads to these ends, and there is room for the item.
 pub record IsReadyItem (p : Parts) (id : NameId) (its_ends : List NameId) : Type 0 where
   pub are : AreOf p.registry p.verdicts (rows_in p) (name_in p.registry.table id ∷ [])
   pub live : IsLive p.registry.table id.0
@@ -68,13 +68,13 @@ pub record IsReadyItem (p : Parts) (id : NameId) (its_ends : List NameId) : Type
   pub room : HasItemRoom p.registry id
   pub boards : HasRoomForItem p.verdicts.facts p.registry.table (length its_ends)
 
--- An item leads to these ends.
+-- The table holds only the names of the rows. The name of the item leads to these ends.
 pub record IsReadyDrop (p : Parts) (id : NameId) (its_ends : List NameId) : Type 0 where
   pub are : AreOf p.registry p.verdicts (rows_in p) []
   pub live : IsLive p.registry.table id.0
   pub ends : LeadsTo p.registry.table (rows_in p).entries Follow id.0 its_ends
 
--- A change has its plan, the ends that it changes, and room for its edges and its note.
+-- A change of a deprecation has its plan, the ends that it changes, and room for its edges and its note.
 pub record IsReadyChange (p : Parts) (c : ReadyChange) : Type 0 where
   pub are : AreOf p.registry p.verdicts (rows_in p) []
   pub live : IsLive p.registry.table c.change.id.0
@@ -82,24 +82,24 @@ pub record IsReadyChange (p : Parts) (c : ReadyChange) : Type 0 where
   pub lead : IsReadyLead p.verdicts p.registry.table (rows_in p) (after (rows_in p) (edit_ready p.registry.table (ready.Change c))).entries (name_in p.registry.table c.change.id) c.lead
   pub room : HasChangeRoom p.registry c.plan c.note
 
--- The names of a new statement's fact references are held under these numbers, and all memory for it is taken.
+-- The table holds the names of a new statement's facts, under these numbers. All memory for the statement is taken.
 pub record IsReadyStatement (p : Parts) (a : Addition) (ids : List NameId) : Type 0 where
   pub numbered : AreNumbered p.registry.table (added a) ids
   pub held : Shows p.registry.table (holds_in p.registry.table) (names_at p.registry.table ids ++ names_kept (rows_in p))
   pub addition : IsAddition p.verdicts p.registry.table (rows_in p).entries (added a) ids a
   pub verdicts : HasVerdictsBeside p.registry.table p.verdicts (rows_in p) (added a) a
 
--- Nothing else is held, and all memory for the result is taken.
+-- The table holds only the names of the rows. All memory for the result of the check is taken.
 pub record IsReadyCheck (p : Parts) (r : ReadyResult) : Type 0 where
   pub are : AreOf p.registry p.verdicts (rows_in p) []
   pub room : IsReadyResult p.verdicts.statements r.key r
 
--- Nothing else is held, and this is what is removed with the statement.
+-- The table holds only the names of the rows. This is what is removed with the statement.
 pub record IsReadyRemoval (p : Parts) (id : List ℕ) (r : Removal) : Type 0 where
   pub are : AreOf p.registry p.verdicts (rows_in p) []
   pub removal : IsRemoval p.verdicts id r
 
--- by kind: what was found and taken is right for the edit
+-- what was found and taken is all that the edit needs, by its kind
 abbrev pub HasAll : Parts → Ready → Type 0
 HasAll p (ready.Entry id title provenance) = IsReadyEntry p id
 HasAll p (ready.Item id ends) = IsReadyItem p id ends.items
@@ -110,15 +110,16 @@ HasAll p (ready.DropStatement id r) = IsReadyRemoval p id r
 HasAll p (ready.SetCheck r truth) = IsReadyCheck p r
 HasAll p (ready.DropCheck key) = AreOf p.registry p.verdicts (rows_in p) []
 
--- The most places that the changed verdicts need: an entry changes none, a statement that is added or removed is the one change,
--- and else each statement may be one.
+-- The number of places for changed verdicts. A new entry needs none. A statement that is added or removed needs one. Any other edit needs
+-- one for each statement.
 abbrev pub places : Rows → Edit → ℕ
 places rows (edit.Entry e) = 0
 places rows (edit.PutStatement s) = 1
 places rows (edit.DropStatement id) = 1
 places rows e = length rows.statements
 
--- Lawful rows, of which callers know the verdicts, and an edit of them without fault, with all that it needs.
+-- The edit is ready. The rows are lawful, and callers know their verdicts. The edit has no fault, enough empty places for changed
+-- verdicts, and all that it needs.
 pub record IsReady (p : Parts) (r : Ready) (room : Filling Changed) : Type 0 where
   pub lawful : IsLawful (rows_in p)
   pub accepted : IsAccepted (rows_in p) (edit_ready p.registry.table r) (after (rows_in p) (edit_ready p.registry.table r))
@@ -128,7 +129,7 @@ pub record IsReady (p : Parts) (r : Ready) (room : Filling Changed) : Type 0 whe
   pub spare : places (rows_in p) (edit_ready p.registry.table r) ≤ room.spare
   pub all : HasAll p r
 
--- This edit is ready, and these rows will have the weight.
+-- What is ready is this edit, and its weight is the weight of the rows after the edit.
 pub record IsReadyEdit (p : Parts) (e : Edit) (r : ReadyEdit) : Type 0 where
   pub is : edit_ready p.registry.table r.edit ≡ e
   pub ready : IsReady p r.edit r.room

@@ -1,4 +1,4 @@
-// An edit in two stages: all memory is taken, and then the edit is made.
+// An edit in two stages: the first takes all memory, and the second makes the edit.
 ghost use Rattle.std.specs.Prelude.{◌≡◌, ◌≤◌, [], IfErr, IfOk, OnErr, map, true};
 ghost use Rattle.name_index.specs.cpe_steps.Within.{StepsWithin};
 ghost use Rattle.cpe_rows.specs.Prelude.{after, Applied, changes, is_valid_edit, Refuses, step, verdict};
@@ -26,11 +26,11 @@ use std::alloc::Global;
 use std::sync::ledger::Ledger;
 
 impl Parts {
-    /// Takes all memory for an edit without fault, and leaves the rows unchanged. What callers know of the verdicts is what they
-    /// are now. It looks at no name.
+    /// The edit, with all memory for it taken. The rows are unchanged. The verdicts that callers know are then the current ones.
+    /// It looks at no name.
     ///
     /// # Errors
-    /// The first fault of the edit in the order of [`EditFault`], or that memory ran out. No name is held for the edit then.
+    /// The first fault of the edit in the order of [`EditFault`], or that memory ran out. No name is then held for the edit.
     pub fn ready(&mut self, alloc: Global, edit: Edit) -> Result<ReadyEdit, EditFault>
         requires kept { AreKept self.old }
         requires valid { is_valid_edit edit ≡ true }
@@ -47,7 +47,7 @@ impl Parts {
         }
     }
 
-    /// Makes an edit that is ready, and returns which verdicts it changes. It can't fail. Allocates: no.
+    /// The verdicts that a ready edit changes. It makes the edit, and can't fail. Allocates: no.
     pub fn make<L: Ledger>(&mut self, ready: ReadyEdit, steps: &mut Steps<L>) -> List<Changed>
         requires { (e : Edit) × IsReadyEdit self.old e ready }
         ensures kept { AreKept self.new }
@@ -62,11 +62,12 @@ impl Parts {
         changes
     }
 
-    /// Makes an edit, and returns which verdicts it changes: [`Parts::ready`] and [`Parts::make`]. A refused edit takes no step.
+    /// The verdicts that an edit changes. It makes the edit in both stages: [`Parts::ready`] and [`Parts::make`]. A refused edit
+    /// takes no step.
     ///
     /// # Errors
-    /// The first fault of the edit in the order of [`EditFault`], or that memory ran out. The rows are then the same, and no name
-    /// is held for the edit any more.
+    /// The first fault of the edit in the order of [`EditFault`], or that memory ran out. The rows are then unchanged, and no
+    /// name is held for the edit.
     pub fn apply<L: Ledger>(
         &mut self,
         alloc: Global,
@@ -88,7 +89,7 @@ impl Parts {
     }
 }
 
-// Looks at an edit, and takes places for the verdicts that it changes. It changes nothing.
+// The plan and the weight of an edit without a fault, and places for the verdicts that it changes. The parts are unchanged.
 //
 // # Errors
 // The first fault of the edit, or that memory ran out.
@@ -108,7 +109,7 @@ fn foresee(
     Ok((checked, room))
 }
 
-// Places for the verdicts that an edit changes.
+// Empty places for the verdicts that an edit changes.
 //
 // # Errors
 // Only that memory ran out.
@@ -131,10 +132,10 @@ fn places(parts: &Parts, numbered: &Numbered) -> usize
     }
 }
 
-// Takes the rest of the memory for an edit that has no fault.
+// Takes the rest of the memory for an edit without a fault.
 //
 // # Errors
-// Only that memory ran out. The names of the edit are then released.
+// Only that memory ran out. The names that are held for the edit are then released.
 fn ready_checked(
     parts: &mut Parts,
     alloc: Global,
@@ -161,7 +162,7 @@ fn ready_checked(
     }
 }
 
-// The same, by kind.
+// Takes the same memory, by the kind of the edit.
 fn ready_by_kind(
     parts: &mut Parts,
     alloc: Global,
@@ -191,7 +192,7 @@ fn ready_by_kind(
     }
 }
 
-// Makes an edit that is ready, by kind, and returns which verdicts it changes. It leaves the weight.
+// The verdicts that a ready edit changes. It makes the edit by its kind. The caller sets the weight.
 fn make<L: Ledger>(
     parts: &mut Parts,
     edit: Ready,

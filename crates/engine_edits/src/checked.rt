@@ -1,11 +1,11 @@
-// What is known of an edit that has no fault.
+// What is known of an edit without a fault.
 use cpe_dictionary::Plan;
 
-/// What is known of an edit that has no fault.
+/// What is known of an edit without a fault.
 #[derive(Drop)]
 pub(crate) struct Checked {
-    /// The plan of a change of a deprecation.
+    /// The plan, if the edit changes a deprecation.
     pub plan: Option<Plan>,
-    /// The weight of all rows after it.
+    /// The weight of all rows after the edit.
     pub weight: u64,
 }

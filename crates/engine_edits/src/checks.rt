@@ -1,4 +1,4 @@
-// Results of checks that are set or removed.
+// Edits that set or remove the result of a check.
 ghost use Rattle.std.specs.Prelude.{◌≡◌, []};
 ghost use Rattle.cpe_rows.specs.Prelude.{after, changes};
 ghost use Rattle.engine_edits.specs.Moved.{MadeReady, MayBeReady};
@@ -25,7 +25,7 @@ pub(crate) fn ready_check(parts: &mut Parts, key: CheckKey, truth: Truth) -> Res
     }
 }
 
-/// Sets the result of a check, and changes the verdicts.
+/// Sets the result of a check, and returns the verdicts that change.
 pub(crate) fn make_check(
     parts: &mut Parts,
     key: ReadyResult,
@@ -40,7 +40,7 @@ pub(crate) fn make_check(
     parts.verdicts.changes(room)
 }
 
-/// Removes the result of a check, and changes the verdicts.
+/// Removes the result of a check, and returns the verdicts that change.
 pub(crate) fn make_dropped_check(
     parts: &mut Parts,
     key: CheckKey,

@@ -1,4 +1,4 @@
-// An edit on its way: it gets its numbers, is looked at, or is let go.
+// An edit before it is made: its names get numbers, its faults are found, or it is refused.
 ghost use Rattle.std.specs.Prelude.{◌≡◌, ◌≤◌, ◌+◌, ◌∷◌, [], IfErr, IfOk, None, OnErr, not, true};
 ghost use Rattle.cpe_rows.specs.Prelude.{after, causes, first_some, is_valid_edit, IsCause, most, Refuses, step, when};
 ghost use Rattle.std.specs.Option.{option_map_or};
@@ -27,10 +27,12 @@ use std::alloc::Global;
 // ---- numbers
 
 impl Parts {
-    /// Gives an edit in order its numbers. A name that comes is held for it; one that has to be there is found, and let go.
+    /// A valid edit with the numbers of its names. The table then holds each new name for the edit. A name that must be there
+    /// already is only found.
     ///
     /// # Errors
-    /// That there is no such name, or that memory ran out. All is then as it was.
+    /// That the table has no such name, or that memory ran out. Rows and verdicts are then unchanged, and no name is held for the
+    /// edit.
     pub(crate) fn number(&mut self, alloc: Global, edit: Edit) -> Result<Numbered, EditFault>
         requires kept { AreKept self.old }
         requires valid { is_valid_edit edit ≡ true }
@@ -41,7 +43,7 @@ impl Parts {
         self.find_numbers(alloc, edit)
     }
 
-    // The same, by kind.
+    // The edit with its numbers, by its kind.
     fn find_numbers(&mut self, alloc: Global, edit: Edit) -> Result<Numbered, EditFault>
         requires kept { AreKept self.old }
         requires valid { is_valid_edit edit ≡ true }
@@ -82,7 +84,7 @@ impl Parts {
         }
     }
 
-    // Lets an edit go that isn't made, and the name that was held for it.
+    // Drops an edit that isn't made, and releases the names that are held for it.
     fn let_go(&mut self, numbered: Numbered)
         requires { AreBeside self.old numbered }
         ensures rows { rows_in self.new ≡ rows_in self.old }
@@ -91,7 +93,7 @@ impl Parts {
         release_coming(&mut self.registry, numbered.into_coming());
     }
 
-    /// The fault for which an edit isn't made, which is let go.
+    /// The given fault. The edit isn't made: it is dropped, and the names that are held for it are released.
     pub(crate) fn refuse(&mut self, numbered: Numbered, fault: EditFault) -> EditFault
         requires { AreBeside self.old numbered }
         ensures fault { result ≡ fault }
@@ -106,7 +108,7 @@ impl Parts {
 // ---- faults
 
 impl Parts {
-    /// Looks at an edit, and changes nothing.
+    /// The plan of an edit, and the weight of all rows after it, if the edit has no fault. The parts are unchanged.
     ///
     /// # Errors
     /// The first fault of the edit, or that memory ran out.
@@ -126,10 +128,10 @@ impl Parts {
         Ok(Checked { plan, weight })
     }
 
-    // The plan of a change of a deprecation, or none.
+    // The plan, if the edit changes a deprecation.
     //
     // # Errors
-    // The first fault of the edit but for the weight, or that memory ran out.
+    // The first fault of the edit except a too large weight, or that memory ran out.
     fn plan(&self, numbered: &Numbered) -> Result<Option<Plan>, EditFault>
         requires { IsFound self.now.registry.table numbered.now }
         ensures planned { IfOk result (λ p. IsPlanned (rows_in self.now).entries (edit_in self.now numbered.now) p) }
@@ -154,7 +156,7 @@ impl Parts {
 // ---- weight
 
 impl Parts {
-    // The weight of all rows after an edit that has no other fault, or the largest number where it is more.
+    // The weight of all rows after an edit without another fault, or the largest number if the weight is larger.
     fn weight_after(&self, numbered: &Numbered) -> u64
         requires found { IsFound self.now.registry.table numbered.now }
         requires weight { self.now.weight ≡ weight_of (rows_in self.now) }
@@ -166,7 +168,7 @@ impl Parts {
         self.with_gain(self.weight - self.loss(numbered), numbered)
     }
 
-    // What the edit takes from the weight.
+    // The weight of what the edit removes.
     fn loss(&self, numbered: &Numbered) -> u64
         requires found { IsFound self.now.registry.table numbered.now }
         requires within { weight_of (rows_in self.now) ≤ most limit.Weight }
@@ -184,7 +186,7 @@ impl Parts {
         }
     }
 
-    // The weight with what the edit adds to it.
+    // The given weight with the weight of what the edit adds, or the largest number if the sum is larger.
     fn with_gain(&self, weight: u64, numbered: &Numbered) -> u64
         requires found { IsFound self.now.registry.table numbered.now }
         requires none { first_some (causes (rows_in self.now) (edit_in self.now numbered.now)) ≡ None }
@@ -207,7 +209,7 @@ impl Parts {
     }
 }
 
-// Whether there is such a row; a drop has no other fault.
+// No plan if there is such a row, and else the fault. A removal has no other fault.
 fn known(found: bool) -> Result<Option<Plan>, EditFault>
     ensures plan { IfOk result (λ p. p ≡ None) }
     ensures ok { IfOk result (λ p. first_some (when (not found) EditFault.Unknown ∷ []) ≡ None) }
@@ -220,7 +222,7 @@ fn known(found: bool) -> Result<Option<Plan>, EditFault>
     }
 }
 
-// An edit without a plan, unless it has a fault.
+// No plan if there is no fault, and else the fault.
 fn unplanned(fault: Option<EditFault>) -> Result<Option<Plan>, EditFault>
     ensures plan { IfOk result (λ p. p ≡ None) }
     ensures ok { IfOk result (λ p. fault ≡ None) }
@@ -232,7 +234,8 @@ fn unplanned(fault: Option<EditFault>) -> Result<Option<Plan>, EditFault>
     }
 }
 
-// The weight with that of the note of a change, and of the deprecation that it gives.
+// The given weight with the weight of the note of a change and of the deprecation that it gives, or the largest number if the sum
+// is larger.
 fn with_change(weight: u64, change: &Change) -> u64
     ensures { result ≡ capped (weight + (note_weight (note_of change.now.turn change.now.date change.now.comment) + option_map_or deprecation_weight (given change.now.turn) 0)) }
 {

@@ -1,4 +1,4 @@
-// New entries, and changes of deprecations.
+// Entries that are added, and changes of deprecations.
 ghost use Rattle.std.specs.Prelude.{◌≡◌, ◌≤◌, [], IfErr, IfOk, None, OnErr, true, OnOk};
 ghost use Rattle.cpe_rows.specs.Prelude.{causes, first_some, is_named, is_valid_edit, IsCause, most, after, changes, IsLawful};
 ghost use Rattle.cpe_rows.specs.declared.edit.Edit.TheVariants as edit;
@@ -32,10 +32,10 @@ use verdicts::Lead;
 // ---- numbers
 
 impl Parts {
-    /// An entry that comes: its name is held.
+    /// A new entry with the number of its name. The table then holds the name.
     ///
     /// # Errors
-    /// Only that memory ran out; all is then as it was.
+    /// Only that memory ran out. Rows, verdicts and weight are then unchanged, and the name isn't held.
     pub(crate) fn number_entry(&mut self, entry: Entry) -> Result<Numbered, Memory>
         requires kept { AreKept self.old }
         requires valid { is_valid_edit (edit.Entry entry) ≡ true }
@@ -63,10 +63,10 @@ impl Parts {
         }
     }
 
-    /// A change of the deprecation of the entry of a name, which is let go.
+    /// A change of the deprecation of the entry of this name, with the number of the name.
     ///
     /// # Errors
-    /// That nothing has this name.
+    /// That the table has no such name.
     pub(crate) fn number_change(
         &self,
         name: Wfn,
@@ -103,7 +103,7 @@ impl Parts {
     /// The plan of a change of a deprecation.
     ///
     /// # Errors
-    /// The first fault of the edit but for the weight, or that memory ran out.
+    /// The first fault of the edit except a too large weight, or that memory ran out.
     pub(crate) fn plan_change(&self, change: &Change) -> Result<Option<Plan>, EditFault>
         requires { IsLive self.now.registry.table change.now.id.0 }
         ensures planned { IfOk result (HasPlan (rows_in self.now).entries (name_in self.now.registry.table change.now.id) (given change.now.turn)) }
@@ -119,7 +119,8 @@ impl Parts {
         Ok(Some(plan))
     }
 
-    /// The weight of the deprecation of the entry of a name, if it is one and has one.
+    /// The weight of the deprecation of the entry whose name has this number, or 0 if there is no such entry or it isn't
+    /// deprecated.
     pub(crate) fn deprecation_weight(&self, id: NameId) -> u64
         requires live { IsLive self.now.registry.table id.0 }
         requires few { weight_of_first deprecated_weight (is_named (name_in self.now.registry.table id)) (rows_in self.now).entries ≤ most limit.Weight }
@@ -136,7 +137,7 @@ impl Parts {
     }
 }
 
-// Lets go what stands beside a name for which memory ran out.
+// Drops the rest of an entry after memory ran out.
 fn let_go(title: Text, provenance: Provenance, memory: Memory) -> Memory {
     drop(title);
     drop(provenance);
@@ -145,7 +146,7 @@ fn let_go(title: Text, provenance: Provenance, memory: Memory) -> Memory {
 
 // ---- the first stage: all memory
 
-/// Takes all memory for a new entry, whose name is held.
+/// Takes all memory for a new entry. Its name is held already.
 ///
 /// # Errors
 /// Only that memory ran out. The name is then released.
@@ -171,7 +172,7 @@ pub(crate) fn ready_entry(
     }
 }
 
-/// Takes all memory for a planned change of a deprecation, and finds what it changes of items and facts.
+/// Takes all memory for a planned change of a deprecation, and finds what it changes for items and facts.
 ///
 /// # Errors
 /// Only that memory ran out.
@@ -201,7 +202,7 @@ pub(crate) fn ready_change(
     }
 }
 
-// The room for the note of a change, and what the change changes of items and facts.
+// Room for the note of a change, and what the change changes for items and facts.
 fn reserve_change(
     parts: &mut Parts,
     alloc: Global,
@@ -228,7 +229,7 @@ fn reserve_change(
 
 // ---- the second stage: the change
 
-/// Adds an entry, which takes over the hold of its name. It changes no verdict.
+/// Adds an entry. The table holds its name already, and from now on holds it for the entry. No verdict changes.
 pub(crate) fn make_entry(
     parts: &mut Parts,
     id: NameId,
@@ -249,7 +250,7 @@ pub(crate) fn make_entry(
     room.into_list()
 }
 
-/// Changes the deprecation of an entry, and then the verdicts.
+/// Changes the deprecation of an entry, and returns the verdicts that change.
 pub(crate) fn make_change<L: Ledger>(
     parts: &mut Parts,
     change: ReadyChange,
@@ -272,7 +273,7 @@ pub(crate) fn make_change<L: Ledger>(
     parts.verdicts.changes(room)
 }
 
-// The same, without the changes of verdicts.
+// Changes the deprecation of an entry. The caller collects the changed verdicts.
 fn lead_change<L: Ledger>(
     parts: &mut Parts,
     change: Change,

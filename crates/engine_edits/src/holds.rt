@@ -1,4 +1,4 @@
-// Names that are held for the fact references of a statement, and let go.
+// The names of a statement's facts: the table holds them for the statement, or releases them.
 ghost use Rattle.std.specs.Prelude.{◌≡◌, ◌≤◌, ◌+◌, ◌∷◌, ◌++◌, [], ℕ, List, OnOk, length, true, vec_capacity, vec_len};
 ghost use Rattle.cpe_rows.specs.Prelude.{fact_names, is_lower, Rows, Values};
 ghost use Rattle.cpe_rows.specs.Shape.{is_sound};
@@ -15,10 +15,10 @@ use cpe_rows::{Memory, Test, Wfn};
 use name_index::NameId;
 use verdicts::Registry;
 
-/// Holds the names of all fact references of a test, in their order, and puts their numbers last.
+/// Holds the names of all facts of a test, in the order of the test, and puts their numbers last.
 ///
 /// # Errors
-/// Only that memory ran out. What was held by then has its number among those.
+/// Only that memory ran out. The names that are held by then have their numbers among `ids`.
 pub(crate) fn hold_facts(
     registry: &mut Registry,
     test: &Test,
@@ -73,7 +73,7 @@ fn reserve_one(ids: &mut Vec<NameId>) -> Result<(), Memory>
     }
 }
 
-// Puts a number last for which there is room.
+// Puts a number last. There is room for it.
 fn put_last(ids: &mut Vec<NameId>, id: NameId)
     requires { vec_len ids.old + 1 ≤ vec_capacity ids.old }
     ensures { ids.new.items ≡ ids.old.items ++ id ∷ [] }
@@ -84,7 +84,7 @@ fn put_last(ids: &mut Vec<NameId>, id: NameId)
     }
 }
 
-/// Lets go the names that were held for an edit.
+/// Releases the names that are held for an edit.
 pub(crate) fn release_coming(registry: &mut Registry, coming: Coming)
     requires live { AreLive registry.old.table (numbers_of coming) }
     requires are { (v : VerdictsNow) × (rows : Rows) × (others : List Values) × AreOf registry.old v rows (names_at registry.old.table (numbers_of coming) ++ others) }
@@ -97,7 +97,7 @@ pub(crate) fn release_coming(registry: &mut Registry, coming: Coming)
     }
 }
 
-/// Lets go the names of these numbers, each of which is held besides the rows.
+/// Releases the names of these numbers. The table holds each of them besides the names of the rows.
 pub(crate) fn release_all(registry: &mut Registry, ids: &[NameId])
     requires live { AreLive registry.old.table ids.now }
     requires are { (v : VerdictsNow) × (rows : Rows) × (others : List Values) × AreOf registry.old v rows (names_at registry.old.table ids.now ++ others) }
@@ -108,7 +108,7 @@ pub(crate) fn release_all(registry: &mut Registry, ids: &[NameId])
     }
 }
 
-// Lets go one name. The numbers of those that are held besides keep theirs.
+// Releases one name. The other names that are held besides the rows keep their numbers.
 fn release_one(registry: &mut Registry, id: NameId)
     requires live { IsLive registry.old.table id.0 }
     requires are { (v : VerdictsNow) × (rows : Rows) × (others : List Values) × AreOf registry.old v rows (name_in registry.old.table id ∷ others) }

@@ -24,10 +24,10 @@ use std::alloc::Global;
 use std::sync::ledger::Ledger;
 
 impl Parts {
-    /// Holds the name of an entry or an item that comes.
+    /// Holds the name of a new entry or a new item, and returns its number.
     ///
     /// # Errors
-    /// Only that memory ran out; all is then as it was.
+    /// Only that memory ran out. Rows, verdicts and weight are then unchanged, and the name isn't held.
     pub(crate) fn hold_name(&mut self, name: Wfn) -> Result<NameId, Memory>
         requires kept { AreKept self.old }
         requires lower { is_lower name ≡ true }
@@ -48,10 +48,10 @@ impl Parts {
         Ok(id)
     }
 
-    /// An item that goes, by its name, which is let go.
+    /// The removal of the item of this name, with the number of the name.
     ///
     /// # Errors
-    /// That nothing has this name.
+    /// That the table has no such name.
     pub(crate) fn number_dropped_item(&self, name: Wfn) -> Result<Numbered, EditFault>
         ensures edit { IfOk result (λ n. edit_in self.now n ≡ edit.DropItem name) }
         ensures found { IfOk result (IsFound self.now.registry.table) }
@@ -69,7 +69,7 @@ impl Parts {
 
 // ---- the first stage: all memory
 
-/// Takes all memory for a new item, whose name is held.
+/// Takes all memory for a new item. Its name is held already.
 ///
 /// # Errors
 /// Only that memory ran out. The name is then released.
@@ -86,7 +86,8 @@ pub(crate) fn ready_item(parts: &mut Parts, alloc: Global, id: NameId) -> Result
     }
 }
 
-// The ends of a new item, with room for it in the registry and on the boards. If memory ran out, its name is still held.
+// The ends of a new item, after room is made for it in the registry and on the boards. If memory runs out, its name is still
+// held.
 fn reserve_item(parts: &mut Parts, alloc: Global, id: NameId) -> Result<Vec<NameId>, Memory>
     requires live { IsLive parts.old.registry.table id.0 }
     requires lawful { IsLawful (rows_in parts.old) }
@@ -103,7 +104,7 @@ fn reserve_item(parts: &mut Parts, alloc: Global, id: NameId) -> Result<Vec<Name
     Ok(ends)
 }
 
-/// Finds the ends of an item that is to be removed.
+/// The removal of an item, with the ends of the item.
 ///
 /// # Errors
 /// Only that memory ran out.
@@ -119,7 +120,7 @@ pub(crate) fn ready_drop(parts: &Parts, alloc: Global, id: NameId) -> Result<Rea
 
 // ---- the second stage: the change
 
-/// Adds an item, which takes over the hold of its name, and changes the verdicts.
+/// Adds an item, and returns the verdicts that change. The table holds the name already, and from now on holds it for the item.
 pub(crate) fn make_item<L: Ledger>(
     parts: &mut Parts,
     id: NameId,
@@ -141,7 +142,7 @@ pub(crate) fn make_item<L: Ledger>(
     parts.verdicts.changes(room)
 }
 
-/// Removes an item, releases its name, and changes the verdicts.
+/// Removes an item, releases its name, and returns the verdicts that change.
 pub(crate) fn make_drop<L: Ledger>(
     parts: &mut Parts,
     id: NameId,

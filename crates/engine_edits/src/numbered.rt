@@ -1,11 +1,11 @@
-// Edits whose names are numbers of the engine's table.
+// Edits with numbers in place of names: the numbers of the names in the engine's table.
 ghost use Rattle.std.specs.Prelude.{◌≡◌, option_copied};
 ghost use Rattle.engine_edits.specs.Numbered.{coming, given, is_first, note_kind, note_of, numbers_of};
 
 use cpe_rows::{CheckKey, Date, Deprecation, Note, NoteKind, Provenance, Statement, Text, Truth};
 use name_index::NameId;
 
-/// An edit of which the names of entries and items are numbers of the engine's table. A name that comes is held for it.
+/// An edit with the numbers of the names of entries, items and facts. The table holds each new name for the edit.
 #[derive(Drop)]
 pub(crate) enum Numbered {
     /// Adds an entry.
@@ -16,43 +16,43 @@ pub(crate) enum Numbered {
     },
     /// Adds an item.
     Item(NameId),
-    /// Drops an item.
+    /// Removes an item.
     DropItem(NameId),
     /// Changes the deprecation of an entry.
     Change(Change),
-    /// Adds a statement, of whose fact references these are the numbers, in the order of its test.
+    /// Adds a statement. These are the numbers of its facts, in the order of its test.
     PutStatement {
         statement: Statement,
         ids: Vec<NameId>,
     },
-    /// Drops the statement of this id.
+    /// Removes the statement of this id.
     DropStatement(Text),
-    /// Keeps the result of a check.
+    /// Sets the result of a check.
     SetCheck {
         key: CheckKey,
         result: Truth,
     },
-    /// Drops the result that is kept for a key.
+    /// Removes the result of a check.
     DropCheck(CheckKey),
 }
 
 /// The numbers of the names that are held for an edit.
 #[derive(Drop)]
 pub(crate) enum Coming {
-    /// None.
+    /// No number.
     Nothing,
-    /// That of an entry or of an item.
+    /// The number of the name of an entry or an item.
     One(NameId),
-    /// Those of the fact references of a statement.
+    /// The numbers of the facts of a statement.
     Many(Vec<NameId>),
 }
 
-/// What becomes of the deprecation of an entry, with a note of this date and comment.
+/// A change of the deprecation of an entry, with the date and the comment of its note.
 #[derive(Drop)]
 pub(crate) struct Change {
     /// The number of the entry's name.
     pub id: NameId,
-    /// What becomes of it.
+    /// How the deprecation changes.
     pub turn: Turn,
     /// The date of the note.
     pub date: Date,
@@ -60,19 +60,19 @@ pub(crate) struct Change {
     pub comment: Text,
 }
 
-/// What becomes of a deprecation.
+/// How a deprecation changes.
 #[derive(Drop)]
 pub(crate) enum Turn {
-    /// An active entry gets this one.
+    /// An active entry gets this deprecation.
     Give(Deprecation),
-    /// This one stands in the place of another.
+    /// A deprecated entry gets this deprecation in place of its own.
     Replace(Deprecation),
-    /// It is taken away.
+    /// A deprecated entry loses its deprecation.
     TakeAway,
 }
 
 impl Numbered {
-    /// The numbers of the names that are held for the edit; the rest of it is let go.
+    /// The numbers of the names that are held for the edit. The rest of the edit is dropped.
     pub(crate) fn into_coming(self) -> Coming
         ensures { numbers_of result ≡ coming self }
     {
@@ -85,7 +85,7 @@ impl Numbered {
 }
 
 impl Turn {
-    /// The deprecation of the entry then, if it has one.
+    /// The deprecation of the entry after the change, if it has one.
     pub(crate) fn deprecation(&self) -> Option<&Deprecation>
         ensures { option_copied result ≡ given self.now }
     {
@@ -95,7 +95,7 @@ impl Turn {
         }
     }
 
-    // The same, and what the note of it tells of.
+    // The deprecation of the entry after the change, if it has one, and the kind of the note.
     fn into_parts(self) -> (Option<Deprecation>, NoteKind)
         ensures deprecation { result.0 ≡ given self }
         ensures kind { result.1 ≡ note_kind self }
@@ -107,7 +107,7 @@ impl Turn {
         }
     }
 
-    /// Whether the entry has to be active before.
+    /// Whether the change needs an active entry.
     pub(crate) fn is_first(&self) -> bool
         ensures { result ≡ is_first self.now }
     {
@@ -116,7 +116,7 @@ impl Turn {
 }
 
 impl Change {
-    /// The deprecation of the entry then, if it has one, and the note.
+    /// The deprecation of the entry after the change, if it has one, and the note.
     pub(crate) fn into_parts(self) -> (Option<Deprecation>, Note)
         ensures deprecation { result.0 ≡ given self.turn }
         ensures note { result.1 ≡ note_of self.turn self.date self.comment }

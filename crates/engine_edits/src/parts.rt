@@ -10,16 +10,16 @@ use verdicts::{Registry, Verdicts};
 /// The lists of rows that an engine keeps, and their weight.
 #[derive(Drop)]
 pub struct Parts {
-    /// The names of entries, items and fact references, and the first two lists.
+    /// The names of entries, items and facts, with the lists of entries and items.
     pub registry: Registry,
-    /// The other two, and the verdict of each statement.
+    /// The lists of statements and of results of checks, with the verdict of each statement.
     pub verdicts: Verdicts,
     /// The weight of all rows.
     pub weight: u64,
 }
 
 impl Parts {
-    /// Parts without rows. They take no memory.
+    /// Parts without rows. Allocates: no.
     pub fn new(alloc: Global) -> Parts
         ensures rows { rows_in result ≡ no_rows }
         ensures weight { result.weight ≡ 0 }
@@ -33,7 +33,7 @@ impl Parts {
         }
     }
 
-    /// From here on changes of verdicts are told by what the verdicts are now.
+    /// The verdicts that callers know are then the current ones.
     pub(crate) fn forget_changes(&mut self)
         requires { AreKept self.old }
         ensures kept { AreKept self.new }

@@ -5,18 +5,18 @@ use cpe_rows::{Changed, CheckKey, Provenance, Room, Text, Truth};
 use name_index::NameId;
 use verdicts::{Addition, Lead, ReadyResult, Removal};
 
-/// An edit without fault for which all memory is taken. [`Parts::make`](crate::Parts::make) makes it. It is no `Drop`: nothing
-/// else can become of it.
+/// An edit without a fault, for which all memory is taken. [`Parts::make`](crate::Parts::make) makes it. It isn't `Drop`, so that
+/// it can't be discarded by mistake.
 pub struct ReadyEdit {
     // The edit, with what was found and taken for it.
     pub(crate) edit: Ready,
-    // The weight of all rows after it.
+    // The weight of all rows after the edit.
     pub(crate) weight: u64,
-    // Empty places for the verdicts that it changes.
+    // Empty places for the verdicts that the edit changes.
     pub(crate) room: Room<Changed>,
 }
 
-/// What an edit adds, removes or changes, with what was found and taken for it. New names are held.
+/// What an edit adds, removes or changes, with what was found and taken for it. The table holds its new names.
 pub(crate) enum Ready {
     /// Adds an entry.
     Entry {
@@ -36,7 +36,7 @@ pub(crate) enum Ready {
     },
     /// Changes the deprecation of an entry.
     Change(ReadyChange),
-    /// Adds a statement; these are the numbers of its fact references.
+    /// Adds a statement. These are the numbers of its facts.
     PutStatement {
         addition: Addition,
         ids: Vec<NameId>,
@@ -55,7 +55,7 @@ pub(crate) enum Ready {
     DropCheck(CheckKey),
 }
 
-/// A change of a deprecation: its plan, what it changes of items and facts, and the memory for its note.
+/// A change of a deprecation: its plan, what it changes for items and facts, and the memory for its note.
 pub(crate) struct ReadyChange {
     pub change: Change,
     pub plan: Plan,

@@ -28,10 +28,11 @@ use std::sync::ledger::Ledger;
 use verdicts::{Addition, Removal, Verdicts};
 
 impl Parts {
-    /// A statement that comes: the names of its fact references are held. Where it has a fault nothing is held.
+    /// A new statement with the numbers of its facts. The table then holds the names of these facts.
     ///
     /// # Errors
-    /// The first fault of the statement but for the weight, or that memory ran out. All is then as it was.
+    /// The first fault of the statement except a too large weight, or that memory ran out. Rows, verdicts and weight are then
+    /// unchanged, and no name is held for the statement.
     pub(crate) fn number_statement(
         &mut self,
         alloc: Global,
@@ -57,7 +58,7 @@ impl Parts {
         }
     }
 
-    // The same of a statement that has no fault.
+    // The same for a statement without a fault.
     fn hold_statement(&mut self, alloc: Global, statement: Statement) -> Result<Numbered, Memory>
         requires kept { AreKept self.old }
         requires valid { is_valid_edit (edit.PutStatement statement) ≡ true }
@@ -89,7 +90,7 @@ impl Parts {
         self.verdicts.find(id).is_some()
     }
 
-    /// The weight of the statement of this id, if there is one.
+    /// The weight of the statement of this id, or 0 if there is none.
     pub(crate) fn statement_weight(&self, id: &Text) -> u64
         requires { weight_of_first statement_weight (has_id id.now) (rows_in self.now).statements ≤ most limit.Weight }
         ensures { result ≡ weight_of_first statement_weight (has_id id.now) (rows_in self.now).statements }
@@ -103,7 +104,7 @@ impl Parts {
 
 // ---- the first stage: all memory
 
-/// Takes all memory for a new statement. The names of its fact references are held.
+/// Takes all memory for a new statement. The names of its facts are held already.
 ///
 /// # Errors
 /// Only that memory ran out. The names are then released.
@@ -128,7 +129,7 @@ pub(crate) fn ready_statement(
     }
 }
 
-/// Finds what is removed with the statement of this id.
+/// The removal of the statement of this id, with what is removed with it.
 ///
 /// # Errors
 /// Only that memory ran out.
@@ -147,7 +148,7 @@ pub(crate) fn ready_removal(parts: &Parts, alloc: Global, id: Text) -> Result<Re
 
 // ---- the second stage: the change
 
-/// Adds a statement. Its verdict alone changes, which was none.
+/// Adds a statement, and returns the changed verdict. Only the new statement's verdict changes: before, it had none.
 pub(crate) fn make_statement<L: Ledger>(
     parts: &mut Parts,
     addition: Addition,
@@ -170,8 +171,8 @@ pub(crate) fn make_statement<L: Ledger>(
     put_change(room, place, truth_at(&parts.verdicts, place))
 }
 
-/// Removes the statement of an id, and releases the names of its fact references. Its verdict alone changes: there is none any
-/// more.
+/// Removes the statement of an id, and returns the changed verdict. The names of its facts are released. Only its own verdict
+/// changes: after that, it has none.
 pub(crate) fn make_removal<L: Ledger>(
     parts: &mut Parts,
     id: Text,
@@ -191,7 +192,7 @@ pub(crate) fn make_removal<L: Ledger>(
     dropped_change(room, place, truth)
 }
 
-// The same, without the change.
+// Removes the statement, and releases the names of its facts. The caller makes the changed verdict.
 fn take_statement<L: Ledger>(parts: &mut Parts, id: &Text, removal: Removal, steps: &mut Steps<L>)
     requires lawful { IsLawful (rows_in parts.old) }
     requires are { AreOf parts.old.registry parts.old.verdicts (rows_in parts.old) [] }
@@ -217,7 +218,7 @@ fn truth_at(verdicts: &Verdicts, place: usize) -> Option<Truth>
     }
 }
 
-// A statement that is put at a place has this verdict then.
+// The changed verdict if a statement is added at this place and then has this verdict.
 fn put_change(room: Room<Changed>, place: usize, truth: Option<Truth>) -> List<Changed>
     requires few { place < 2 ^ 32 }
     requires empty { room.list ≡ [] }
@@ -230,7 +231,7 @@ fn put_change(room: Room<Changed>, place: usize, truth: Option<Truth>) -> List<C
     }
 }
 
-// A statement that is dropped had this place and this verdict.
+// The changed verdict if a statement is removed from this place and had this verdict.
 fn dropped_change(room: Room<Changed>, place: Option<usize>, truth: Option<Truth>) -> List<Changed>
     requires few { IfSome place (λ k. k < 2 ^ 32) }
     requires empty { room.list ≡ [] }

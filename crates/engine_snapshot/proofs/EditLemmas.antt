@@ -1,4 +1,4 @@
--- What an edit that was applied says, and one that was refused.
+-- What follows from an edit that is made, and from an edit that is refused.
 use Rattle.std.proofs.Common.{◌≡◌, true, List, ◌∷◌, Option, Some, None, refl, sym, ap, subst, ◌∙◌}
 use Rattle.std.specs.Prelude.{IfErr, IsErrAnd, Result, Ok, Err}
 use Rattle.std.proofs.lemmas.Result.{err_from_is_err_and}
@@ -21,7 +21,7 @@ unrefused None left next e = cc
 pub applied_is : (rows next : Rows) (e : Edit) → step rows e ≡ Ok next → next ≡ after rows e
 applied_is rows next e stepped = unrefused (first_some (faults rows e)) (after rows e) next stepped
 
--- one that was made is in order and has no fault
+-- an edit that is made is valid and has no fault
 pub applied_taken : (rows next : Rows) (e : Edit) → is_valid_edit e ≡ true → step rows e ≡ Ok next → IsTaken rows e
 applied_taken rows next e valid stepped = record { valid = valid; taken = stepped ∙ ap Ok (applied_is rows next e stepped) }
 
@@ -47,7 +47,7 @@ refused_is (fault.TooWide n) rows e refused is taken = both_ways (fault.TooWide 
 refused_is (fault.Full w) rows e refused is taken = both_ways (fault.Full w) rows (after rows e) (sym refused ∙ taken.taken)
 refused_is fault.Memory rows e refused is taken = memory_is_none is
 
--- all but want of memory
+-- each fault except the lack of memory says that the rows aren't lawful
 pub unless_memory : (f : EditFault) → (f ≡ fault.Memory → ⊥) → Unlawful ≡ adopt_fault f
 unless_memory fault.NotIdentifier other = refl
 unless_memory fault.Wildcards other = refl
@@ -63,13 +63,13 @@ unless_memory (fault.TooWide n) other = refl
 unless_memory (fault.Full w) other = refl
 unless_memory fault.Memory other = absurd (other refl)
 
--- a refusal that is handed on
+-- a refusal that is passed on
 pub handed_on : {T E : Type 0} (r : Result T E) (e : E) (Q : E → Type 0) → IsErrAnd r (λ f. f ≡ e) → Q e → IfErr r Q
 handed_on r e Q is q =
     let p = err_from_is_err_and r is in
     subst (λ s. IfErr s Q) (sym (p.1 ∙ ap Err p.2)) q
 
--- where rows are put one after the other, and the next is not taken, what is to come of all of them does not fit
+-- rows are added one after another; if the next row isn't taken, the rows with all further rows don't fit
 pub not_taken : {A : Type 0} (put : Rows → List A → Rows) (Fits : Rows → Type 0) (rows : Rows) {target : Rows} {x : A} {all rest : List A} {Taken : Type 0}
     → put rows all ≡ target → all ≡ x ∷ rest → (Fits (put rows (x ∷ rest)) → Taken) → (Taken → ⊥) → Fits target → ⊥
 not_taken put Fits rows so_far is taken none fit = none (taken (subst Fits (sym (ap (put rows) (sym is) ∙ so_far)) fit))

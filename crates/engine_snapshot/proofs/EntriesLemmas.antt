@@ -1,4 +1,4 @@
--- Entries that were put as active ones, and are given their deprecations.
+-- Entries that are added as active ones, and then get their deprecations.
 use Rattle.std.proofs.Common.{◌≡◌, ℕ, true, List, length, map, Option, Some, refl, sym, ap, subst, ◌∙◌}
 use Rattle.std.specs.Prelude.{is_none}
 use Rattle.std.specs.List.{list_all}
@@ -24,7 +24,7 @@ bare_each ps = record { active = active_placed_each ps; items = refl; statements
 lawful_given : (ps : List PlacedEntry) (es : List Entry) → AreMeantEntries ps ps es → IsLawful (entries_alone es) → IsLawful (with_deprecations (entries_alone (map active_placed ps)) (given_in es))
 lawful_given ps es meant lawful = subst (λ (l : List Entry). IsLawful (entries_alone l)) (sym (given_back ps ps es meant)) lawful
 
--- where there is no deprecation at all
+-- if no entry has a deprecation
 pub none_are_given : (rows : Rows) (all : List (Option PlacedDeprecation)) → IsBare rows → list_all is_none all ≡ true → AreGiven rows all rows
 none_are_given rows all bare none = record {
   deprecations = nones all;
@@ -32,7 +32,7 @@ none_are_given rows all bare none = record {
   are_given = ap (λ (es : List Entry). record rows { entries = es }) (sym (still_active rows.entries all bare.active));
 }
 
--- where no entries can be put that fit
+-- if no entries that fit can be added
 pub none_put : (read : Option (List PlacedEntry × List ℕ)) (old : Rows) → old ≡ no_rows
     → ((xs : List PlacedEntry) (left : List ℕ) → read ≡ Some (xs, left) → AreFine (with_placed old xs) → ⊥) → NoEntries read
 none_put read old none refused placed left entries found meant lawful =

@@ -1,4 +1,4 @@
--- Deprecations that are meant, one after the other.
+-- Deprecations that are meant, one after another.
 use Rattle.std.proofs.Common.{◌≡◌, refl, sym, ap, subst, ◌∙◌, ℕ, zero, suc, ◌+◌, ◌<◌, List, [], ◌∷◌, ◌++◌, length, map, take, get_or, Option, Some, None, arith, true}
 use Rattle.std.specs.Prelude.{is_none}
 use Rattle.std.specs.List.{list_all}
@@ -29,7 +29,7 @@ placed_name [] (suc k) = refl
 placed_name (p ∷ ps) zero = refl
 placed_name (p ∷ ps) (suc k) = placed_name ps k
 
--- ---- in other rows of the same names
+-- ---- in other rows with the same names
 
 module _ (ps qs : List PlacedEntry) (same : (k : ℕ) → name_at ps k ≡ name_at qs k) where
   named_there : (ks : List ℕ) (ns : List Values) → AreNamed ps ks ns → AreNamed qs ks ns
@@ -62,7 +62,7 @@ from_seen ps os ds = all_there (seen ps) ps (seen_names ps) os ds
 pub to_seen : (ps : List PlacedEntry) (os : List (Option PlacedDeprecation)) (ds : List (Option Deprecation)) → AreMeantDeprecations ps os ds → AreMeantDeprecations (seen ps) os ds
 to_seen ps os ds = all_there ps (seen ps) (λ k. sym (seen_names ps k)) os ds
 
--- ---- one after the other
+-- ---- one after another
 
 one_meant : (all : List PlacedEntry) (os : List (Option PlacedDeprecation)) (ds : List (Option Deprecation)) (o : Option PlacedDeprecation) (d : Option Deprecation) → AreMeantDeprecations all os ds
     → IsMeantDeprecation all o d → AreMeantDeprecations all (os ++ o ∷ []) (ds ++ d ∷ [])
@@ -83,7 +83,7 @@ none_meant all (q ∷ os) i o [] below none are = are
 none_meant all (q ∷ os) zero o (d ∷ ds) below none are = none d are.0
 none_meant all (q ∷ os) (suc i) o (d ∷ ds) below none are = none_meant all os i o ds (omega (arith, below)) none are.1
 
--- ---- no two are meant
+-- ---- at most one list is meant
 
 pub meant_once : (es : List PlacedEntry) (os : List (Option PlacedDeprecation)) (ds fs : List (Option Deprecation)) → AreMeantDeprecations es os ds → AreMeantDeprecations es os fs → ds ≡ fs
 meant_once es [] [] [] a b = refl
@@ -93,7 +93,7 @@ meant_once es (o ∷ os) [] fs a b = absurd a
 meant_once es (o ∷ os) (d ∷ ds) [] a b = absurd b
 meant_once es (o ∷ os) (d ∷ ds) (f ∷ fs) a b = λ i. deprecation_once es o d f a.0 b.0 i ∷ meant_once es os ds fs a.1 b.1 i
 
--- ---- none at all
+-- ---- no deprecation at all
 
 abbrev pub nones : List (Option PlacedDeprecation) → List (Option Deprecation)
 nones os = map (λ o. None) os
@@ -134,7 +134,7 @@ deprecations_meant all [] (e ∷ es) are = absurd are
 deprecations_meant all (p ∷ ps) [] are = absurd are
 deprecations_meant all (p ∷ ps) (e ∷ es) are = (are.0.deprecation, deprecations_meant all ps es are.1)
 
--- entries that are meant are those with places as active ones, once they have their deprecations
+-- the entries that are meant are the active entries after they get their deprecations
 pub given_back : (all ps : List PlacedEntry) (es : List Entry) → AreMeantEntries all ps es → each_deprecated (map active_placed ps) (given_in es) ≡ es
 given_back all [] [] are = refl
 given_back all [] (e ∷ es) are = absurd are

@@ -1,4 +1,4 @@
--- What stands behind the entries, read kind by kind.
+-- The rows after the entries, read kind by kind.
 use Rattle.std.proofs.Common.{◌≡◌, ℕ, List, [], Option, Some, map, sym, ap, subst, ◌∙◌}
 use Rattle.cpe_rows.specs.Lawful.{IsLawful}
 use Rattle.cpe_rows.specs.Rows.{Rows}

@@ -1,4 +1,4 @@
--- The first of some lists, and what holds of them where it holds of all.
+-- The beginnings of lists, and what holds for a beginning if it holds for the whole.
 use Rattle.std.proofs.Common.{◌≡◌, ℕ, ◌+◌, ◌≤◌, Bool, true, false, not, List, [], ◌∷◌, ◌++◌, length, map, refl, sym, ap, subst, ◌∙◌, arith}
 use Rattle.std.specs.Prelude.{All}
 use Rattle.std.specs.List.{flat_map, list_any, list_all}
@@ -44,7 +44,7 @@ module _ {A : Type 0} where
       and_from (not (list_any (same x) xs)) (are_different same xs)
       (not_from_false (list_any (same x) xs) (none_prefix (same x) xs ys (not-true (list_any (same x) (xs ++ ys)) parts.0))) (different_prefix same xs ys parts.1)
 
-  -- one that differs from those before it
+  -- an element that differs from the elements before it
   pub apart_before : (same : A → A → Bool) → ((a b : A) → same a b ≡ false → same b a ≡ false) → (xs : List A) (y : A) (ys : List A) → are_different same (xs ++ y ∷ ys) ≡ true
       → list_any (same y) xs ≡ false
   apart_before same other [] y ys h = refl
@@ -69,14 +69,14 @@ module _ {A : Type 0} where
 
 -- ---- rows
 
--- the whole list is the first ones and others
+-- the whole list begins with this list
 abbrev pub IsFront : {A : Type 0} → List A → List A → Type 0
 IsFront {A} xs whole = (ys : List A) × (whole ≡ xs ++ ys)
 
 pub all_of_it : {A : Type 0} (xs : List A) → IsFront xs xs
 all_of_it xs = ([], sym (append-nil xs))
 
--- rows of which these have the first of each list
+-- Each list of these rows is a beginning of the list of the whole rows.
 pub record IsPart (part whole : Rows) : Type 0 where
   pub entries : IsFront part.entries whole.entries
   pub items : IsFront part.items whole.items
@@ -118,7 +118,7 @@ module _ (part whole : Rows) (is : IsPart part whole) where
         prefix_total part.checks whole.checks is.checks check_weight,
       )
 
-  -- where all entries are there
+  -- if these rows have all entries
   pub lawful_part : whole.entries ≡ part.entries → IsLawful whole → IsLawful part
   lawful_part same h = record {
     formed = record {

@@ -1,4 +1,4 @@
--- What is read one after the other, and the case of names that are read.
+-- Parts that are read one after another, and the letter case of names that are read.
 use Rattle.std.proofs.Common.{◌≡◌, ℕ, List, Option, Some, true, ap, subst, ◌∙◌}
 use Rattle.cpe_rows.specs.cpe_name.Eleven.{Values}
 use Rattle.cpe_rows.specs.cpe_fs.Unbound.{read_fs}
@@ -8,7 +8,7 @@ use Rattle.cpe_snapshot.specs.declared.rows.PlacedEntry.{PlacedEntry}
 use Rattle.cpe_snapshot.proofs.PartReaders.{when_some}
 use Rattle.cpe_snapshot.proofs.Readers.{bind_some, some_is}
 
--- ---- what stands one after the other
+-- ---- parts one after another
 
 pub record InBoth {A B : Type 0} (first : List ℕ → Option (A × List ℕ)) (second : List ℕ → Option (B × List ℕ)) (bytes : List ℕ) (z : (A × B) × List ℕ) : Type 0 where
   pub left : List ℕ

@@ -1,4 +1,4 @@
--- Rows that are put as they are read, one after the other: what was put and what is still read is what is read in all.
+-- Rows that are added as they are read, one after another: the added rows and the rows still to be read are all rows.
 use Rattle.std.proofs.Common.{◌≡◌, ℕ, ◌+◌, ◌-◌, ◌≤◌, ◌<◌, List, [], ◌∷◌, ◌++◌, map, Option, Some, None, Err, refl, sym, ap, subst, ◌∙◌, append_assoc}
 use Rattle.std.proofs.lemmas.List.{append-nil, map-append}
 use Rattle.cpe_rows.specs.cpe_name.Eleven.{Values}
@@ -19,7 +19,7 @@ use Rattle.engine_snapshot.specs.Begun.{with_items, with_statements}
 use Rattle.engine_snapshot.specs.Meant.{active_placed}
 use Rattle.engine_snapshot.specs.Read.{ArePut, NonePut, NotAfter, with_placed, with_results}
 
--- ---- putting none, and more
+-- ---- adding no row, and adding more
 
 pub no_items : (rows : Rows) → with_items rows [] ≡ rows
 no_items rows = ap (λ (ns : List Values). record rows { items = ns }) (append-nil rows.items)
@@ -49,9 +49,9 @@ more_placed rows xs ys =
     ap (λ (es : List Entry). record rows { entries = es })
     (append_assoc rows.entries (map active_placed xs) (map active_placed ys) ∙ ap (λ (es : List Entry). rows.entries ++ es) (sym (map-append active_placed xs ys)))
 
--- ---- rows so far
+-- ---- the rows so far
 
--- these were put, and with what is still read they are what is read in all
+-- These rows are added, and with the rows still to be read they are all rows.
 pub record ArePutSoFar {A : Type 0} (put : Rows → List A → Rows) (total rest : Option (List A × List ℕ)) (old now : Rows) : Type 0 where
   pub rows : List A
   pub so_far : with_prefix rows rest ≡ total
@@ -104,7 +104,7 @@ module _ {A : Type 0} (read : List ℕ → Option (A × List ℕ)) {put : Rows �
       ap (put old) (b.1 ∙ append_assoc so_far.rows (x ∷ []) b.0) ∙ sym (more_of old so_far.rows (x ∷ b.0)) ∙ ap (λ r. put r (x ∷ b.0)) (sym so_far.are_put) in
       not_after is b.0 (subst Fits all fit)
 
--- the same of entries, with their deprecations
+-- The same for entries, with their deprecations.
 pub record AreEntriesSoFar (total rest : Option (List PlacedEntry × List ℕ)) (old now : Rows) (deprecations : List (Option PlacedDeprecation)) : Type 0 where
   pub are_put : ArePutSoFar with_placed total rest old now
   pub deprecations_are : deprecations ≡ map (λ p. p.deprecation) are_put.rows

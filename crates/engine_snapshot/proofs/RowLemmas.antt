@@ -1,4 +1,4 @@
--- Entries as active ones, before they are given their deprecations.
+-- Entries as active ones, before they get their deprecations.
 use Rattle.std.proofs.Common.{◌≡◌, ◌≤◌, ◌||◌, ◌&&◌, Bool, not, List, [], ◌∷◌, length, map, Option, None, refl, sym, ap, ◌∙◌, arith}
 use Rattle.std.specs.List.{AllByRecursion, list_any, list_all}
 use Rattle.std.specs.Option.{option_map_or}
@@ -16,7 +16,7 @@ use Rattle.engine_snapshot.specs.Begun.{AreFine, entries_alone}
 abbrev pub AreActive : List Entry → Type 0
 AreActive es = AllByRecursion (λ (e : Entry). e.deprecation ≡ None) es
 
--- ---- where deprecations are given, names stay and no weight falls
+-- ---- if entries get deprecations, names are unchanged and no weight falls
 
 each_name : (p : Values → Bool) (es : List Entry) (ds : List (Option Deprecation)) → list_all (λ (e : Entry). p e.name) (each_deprecated es ds) ≡ list_all (λ (e : Entry). p e.name) es
 each_name p [] ds = refl
@@ -39,7 +39,7 @@ each_length [] ds = refl
 each_length (e ∷ es) [] = refl
 each_length (e ∷ es) (d ∷ ds) = omega (arith, each_length es ds)
 
--- an active entry weighs no more than with a deprecation
+-- an active entry weighs no more than the same entry with a deprecation
 lighter : (e : Entry) (d : Option Deprecation) → e.deprecation ≡ None → entry_weight e ≤ entry_weight (record e { deprecation = d })
 lighter e d active = let none : option_map_or deprecation_weight e.deprecation 0 ≡ 0 = ap (λ o. option_map_or deprecation_weight o 0) active in omega (arith, none)
 

@@ -1,4 +1,4 @@
--- Deprecations in their order, where those that have none are counted.
+-- The deprecations of entries in their order, if entries without one are only counted.
 use Rattle.std.proofs.Common.{◌≡◌, ℕ, zero, suc, true, List, [], ◌∷◌, length, None, replicate, refl, arith}
 use Rattle.std.proofs.lemmas.Bool.Decides.{nat_tests}
 use Rattle.std.specs.Prelude.{is_none, nat_eq}
@@ -14,7 +14,7 @@ none_each (suc n) = none_each n
 zero_is : (n : ℕ) → nat_eq n 0 ≡ true → n ≡ 0
 zero_is n h = grind (arith, nat_tests)
 
--- without a run there is none
+-- without a run, no entry has a deprecation
 pub none_given : (runs : List Run) (active : ℕ) → nat_eq (length runs) 0 ≡ true → list_all (is_none {T = PlacedDeprecation}) (deprecations_in runs active) ≡ true
 none_given [] active none = none_each active
 none_given (r ∷ rs) active none = absurd (omega (arith, zero_is (length (r ∷ rs)) none))

@@ -1,4 +1,4 @@
--- Reading a snapshot row by row is reading all of its rows.
+-- To read a snapshot row by row is to read all of its rows.
 use Rattle.std.proofs.Common.{◌≡◌, ℕ, Bool, true, false, List, [], length, Option, Some, None, cond, eqb, refl, sym, ap, subst, ◌∙◌}
 use Rattle.std.proofs.lemmas.Bool.{eqb-true}
 use Rattle.std.proofs.lemmas.List.{nil_from_length}
@@ -47,7 +47,7 @@ Rest = List Values × (List Statement × List KeptResult)
 abbrev rest_at : Head → List ℕ → Option (Rest × List ℕ)
 rest_at h bytes = both (many name_at h.items) (both (many statement_at h.statements) (many result_at h.results)) bytes
 
--- the rows of the parts, to the end of the bytes
+-- The rows of all parts, to the end of the bytes.
 record InRows (head : Head) (bytes : List ℕ) (p : PlacedRows) : Type 0 where
   pub entries : List PlacedEntry
   pub after_entries : List ℕ
@@ -95,7 +95,7 @@ in_others head bytes rest e =
 abbrev pub rows_with : {head : Head} → {bytes : List ℕ} → List PlacedEntry → Others head bytes → PlacedRows
 rows_with entries others = record { entries = entries; items = others.items; statements = others.statements; results = others.results }
 
--- ---- what was said of rows of which some bytes are the snapshot
+-- ---- what holds for rows that have these bytes as their snapshot
 
 module _ (bytes : List ℕ) (rows : Rows) (snap : Snap rows bytes) where
   said : rows_of bytes ≡ Some snap.0
@@ -160,7 +160,7 @@ module _ (bytes : List ℕ) (rows : Rows) (snap : Snap rows bytes) where
       has_others lawful none =
           none others (subst IsLawful (rows_are ∙ ap (λ (r : Rows). with_others r others) (sym loaded.are_rows)) lawful)
 
--- ---- rows that were read are those of which the bytes are the snapshot
+-- ---- the rows that are read have these bytes as their snapshot
 
 all_read : (bytes : List ℕ) (head : Head) (left : List ℕ) (entries : List PlacedEntry) (next : List ℕ) (others : Others head next) → head_at bytes ≡ Some (head, left)
     → many entry_at head.entries left ≡ Some (entries, next) → rows_of bytes ≡ Some (rows_with entries others)

@@ -1,4 +1,4 @@
--- Edits that put the rows of lawful rows one after the other are taken.
+-- Edits that add the rows of lawful rows one after another are taken.
 use Rattle.std.proofs.Common.{◌≡◌, ℕ, ◌+◌, ◌&&◌, true, false, not, nat_lt, cond, List, [], ◌∷◌, ◌++◌, length, None, refl, sym, ap, subst, ◌∙◌, append_assoc}
 use Rattle.std.specs.Prelude.{is_none}
 use Rattle.std.specs.List.{list_any}
@@ -27,11 +27,11 @@ use Rattle.cpe_rows.proofs.Refused.{light_accepted}
 use Rattle.engine_snapshot.specs.Begun.{AreFine, IsTaken, with_checks, with_entries, with_items, with_statements}
 use Rattle.engine_snapshot.proofs.PartLemmas.{all_middle, all_of_it, apart_before, fewer, lawful_part}
 
--- rows within their limits aren't heavy
+-- rows within their limits aren't too heavy
 light : (next : Rows) → AreWithin next → heavy next ≡ None
 light next within = ap (λ b. when b (fault.Full limit.Weight)) (each_within next within limit.Weight)
 
--- one more is no more than may be
+-- one more element is within the limit, if the longer list is
 no_more : {A : Type 0} (m : ℕ) (xs : List A) (x : A) → nat_lt m (length (xs ++ x ∷ [])) ≡ false → nat_lt m (length xs + 1) ≡ false
 no_more m xs x h = ap (nat_lt m) (sym (length-append xs (x ∷ []))) ∙ h
 
@@ -79,7 +79,7 @@ module _ (rows : Rows) (e : Entry) (more : List Entry) (active : e.deprecation �
     taken = light_accepted rows (edit.Entry e) within_before no_cause (light next_entries within_after);
   }
 
--- ---- rows of lawful rows are lawful before the last of a kind
+-- ---- lawful rows are lawful without the last rows of a kind
 
 pub lawful_before_items : (rows : Rows) (ns : List Values) → IsLawful (with_items rows ns) → IsLawful rows
 lawful_before_items rows ns h =
@@ -132,7 +132,7 @@ module _ (rows : Rows) (s : Statement) (more : List Statement) (h : IsLawful (wi
 
 -- ---- results
 
--- a result of a new key goes last
+-- the result of a new key is added at the end
 pub goes_last : (k : CheckKey) (t : Truth) (cs : List (CheckKey × Truth)) → list_any (has_key k) cs ≡ false → with_check k t cs ≡ cs ++ (k, t) ∷ []
 goes_last k t [] new = refl
 goes_last k t (c ∷ cs) new =

@@ -1,4 +1,4 @@
--- What has a snapshot is made of texts, so that no snapshot is too long.
+-- Rows that have a snapshot consist of texts, so no snapshot is too long.
 use Rattle.std.proofs.Common.{◌≡◌, sym, ◌∙◌, subst, ℕ, zero, suc, ◌≤◌, List, [], ◌∷◌, length, map}
 use Rattle.std.specs.List.{AllByRecursion, flat_map}
 use Rattle.cpe_rows.specs.Rows.{Rows}

@@ -1,4 +1,4 @@
--- Rows that are written one after the other, by their places.
+-- Rows that are written one after another, by their places.
 use Rattle.std.proofs.Common.{◌≡◌, refl, sym, ap, subst, ◌∙◌, ℕ, zero, suc, ◌+◌, ◌<◌, ◌||◌, Bool, true, false, cond, List, [], ◌∷◌, ◌++◌, length, take, get_or, Option, Some, None, slice_get, append_assoc, add-one, position}
 use Rattle.std.specs.Prelude.{IfOk, IfSome, Result, Ok, Err, filter_map}
 use Rattle.std.specs.List.{AllByRecursion, flat_map, list_any, list_all, position_from}
@@ -63,18 +63,18 @@ position_there p k (x ∷ xs) none = go (p x) none (position_there p (k + 1) xs)
   go true e later = absurd cc
   go false e later = later e
 
--- what is there has a place
+-- an element of a list has a place
 pub has_place : {A : Type 0} (p : A → Bool) (xs : List A) → list_any p xs ≡ true → position p xs ≡ None → ⊥
 has_place p xs any none = let not_there = position_there p 0 xs (sym (position_from-zero p xs) ∙ none) in cc
 
--- what holds of all holds at a place
+-- what holds for all elements holds at each place
 pub holds_at : {A : Type 0} (p : A → Bool) (xs : List A) (k : ℕ) (x : A) → list_all p xs ≡ true → slice_get xs k ≡ Some x → p x ≡ true
 holds_at p [] zero x all at = absurd (none-some x at)
 holds_at p [] (suc k) x all at = absurd (none-some x at)
 holds_at p (y ∷ xs) zero x all at = ap p (sym (same_Some y x at)) ∙ (and_parts (p y) (list_all p xs) all).0
 holds_at p (y ∷ xs) (suc k) x all at = holds_at p xs k x (and_parts (p y) (list_all p xs) all).1 at
 
--- what holds of the first and of the next holds of one more
+-- what holds for the first elements, and for the next, holds for one more
 pub holds_next : {A : Type 0} (P : A → Type 0) (xs : List A) (k : ℕ) (d : A) → k < length xs → AllByRecursion P (take k xs) → P (get_or xs k d) → AllByRecursion P (take (k + 1) xs)
 holds_next P xs k d below all one = subst (AllByRecursion P) (sym (take_more xs k d below)) (last (take k xs) all) where
   last : (ys : List _) → AllByRecursion P ys → AllByRecursion P (ys ++ get_or xs k d ∷ [])
@@ -103,7 +103,7 @@ all_written rows a b c d room one two three four ea eb ec ed none e1 e2 e3 e4 =
     ap (λ (l : List ℕ). l ++ r) (e4 ∙ ap (λ (l : List ℕ). l ++ s) (e3 ∙ ap (λ (l : List ℕ). l ++ i) (e2 ∙ ap (λ (l : List ℕ). l ++ e) (e1 ∙ ap (λ (l : List ℕ). l ++ h) none))))
     ∙ five_groups h e i s r ∙ (λ j. heads j ++ (rows_of_entries j ++ (i ++ (s ++ rows_of_results j))))
 
--- what holds of a value by two clauses
+-- what follows for a value from two clauses
 pub by_both : {T E : Type 0} (r : Result T E) (P Q R : T → Type 0) → IfOk r P → IfOk r Q → ((x : T) → P x → Q x → R x) → IfOk r R
 by_both (Ok x) P Q R p q both = both x p q
 by_both (Err e) P Q R p q both = tt

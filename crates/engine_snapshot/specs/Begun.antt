@@ -1,4 +1,4 @@
--- Rows that an engine puts one after the other.
+-- Rows that are added to an engine one after another.
 use Rattle.std.specs.Prelude.{◌≡◌, ◌++◌, List, true, Ok}
 use Rattle.cpe_rows.specs.cpe_name.Eleven.{Values}
 use Rattle.std.specs.List.{list_all}
@@ -18,7 +18,7 @@ use Rattle.cpe_rows.specs.declared.truth.Truth.{Truth}
 use Rattle.cpe_engine.specs.declared.adopting.AdoptFault.{AdoptFault}
 use Rattle.cpe_engine.specs.declared.adopting.AdoptFault.TheVariants.{Unlawful, Memory}
 
--- ---- more rows behind those that are there
+-- ---- rows with further rows at the end
 
 abbrev pub with_entries : Rows → List Entry → Rows
 with_entries rows es = record rows { entries = rows.entries ++ es }
@@ -32,26 +32,26 @@ with_statements rows ss = record rows { statements = rows.statements ++ ss }
 abbrev pub with_checks : Rows → List (CheckKey × Truth) → Rows
 with_checks rows cs = record rows { checks = rows.checks ++ cs }
 
--- entries and nothing else
+-- the rows are these entries and nothing else
 abbrev pub entries_alone : List Entry → Rows
 entries_alone es = record no_rows { entries = es }
 
--- ---- entries that may be put one after the other
+-- ---- entries that may be added one after another
 
--- as active ones: their names are those of entries, and differ, and they are no more than may be
+-- They may be added as active entries: their names are names of entries, the names differ, and the rows are within their limits.
 pub record AreFine (rows : Rows) : Type 0 where
   pub names : list_all (λ e. is_entry_name e.name) rows.entries ≡ true
   pub names_differ : are_different (λ e. is_named e.name) rows.entries ≡ true
   pub within : AreWithin rows
 
--- ---- an edit that puts one
+-- ---- an edit that adds one row
 
--- it is in order and has no fault
+-- The edit is valid and has no fault.
 pub record IsTaken (rows : Rows) (e : Edit) : Type 0 where
   pub valid : is_valid_edit e ≡ true
   pub taken : step rows e ≡ Ok (after rows e)
 
--- what isn't taken is no part of lawful rows
+-- the fault if a row can't be added: memory ran out, or else the rows aren't lawful
 abbrev pub adopt_fault : EditFault → AdoptFault
 adopt_fault edit.Memory = Memory
 adopt_fault f = Unlawful

@@ -1,4 +1,4 @@
--- The deprecations that are meant by rows with places.
+-- The deprecations that are meant by places: a place represents the entry at this place in the list.
 use Rattle.std.specs.Prelude.{◌≡◌, ℕ, List, [], ◌∷◌, Option, None, map, slice_get}
 use Rattle.std.specs.Option.{option_map}
 use Rattle.cpe_rows.specs.cpe_name.Eleven.{Values}
@@ -14,7 +14,7 @@ use Rattle.cpe_snapshot.specs.declared.rows.PlacedEntry.{PlacedEntry}
 abbrev pub active_placed : PlacedEntry → Entry
 active_placed p = record { name = p.name; title = p.title; provenance = p.provenance; deprecation = None }
 
--- an entry without what deprecates it: its place can be told already
+-- the entry without its deprecation, in the form with places
 abbrev pub undeprecated : Entry → PlacedEntry
 undeprecated e = record { name = e.name; title = e.title; provenance = e.provenance; deprecation = None }
 
@@ -22,14 +22,14 @@ undeprecated e = record { name = e.name; title = e.title; provenance = e.provena
 abbrev pub name_in : List Entry → ℕ → Option Values
 name_in entries k = option_map (λ e. e.name) (slice_get entries k)
 
--- one for each of these, by the names at the places in all entries
+-- each deprecation with names is meant by the deprecation with places, one by one; a place is a place in the list of all entries
 abbrev pub AreMeantDeprecations : List PlacedEntry → List (Option PlacedDeprecation) → List (Option Deprecation) → Type 0
 AreMeantDeprecations entries [] [] = Unit {0}
 AreMeantDeprecations entries [] (d ∷ ds) = ⊥
 AreMeantDeprecations entries (p ∷ ps) [] = ⊥
 AreMeantDeprecations entries (p ∷ ps) (d ∷ ds) = IsMeantDeprecation entries p d × AreMeantDeprecations entries ps ds
 
--- rows whose entries have those that are meant
+-- The new rows are the old rows, and each entry has the deprecation that is meant for it, or none.
 pub record AreGiven (old : Rows) (placed : List (Option PlacedDeprecation)) (new : Rows) : Type 0 where
   pub deprecations : List (Option Deprecation)
   pub are_meant : AreMeantDeprecations (map undeprecated old.entries) placed deprecations

@@ -1,4 +1,4 @@
--- Rows that are read from bytes, and put one after the other.
+-- Rows that are read from bytes and added one after another.
 use Rattle.std.specs.Prelude.{◌≡◌, ℕ, List, [], ◌∷◌, map, Option, Some}
 use Rattle.cpe_rows.specs.cpe_name.Eleven.{Values}
 use Rattle.cpe_rows.specs.Lawful.{IsLawful}
@@ -17,9 +17,9 @@ use Rattle.engine_snapshot.specs.Begun.{with_checks, with_entries, with_items, w
 use Rattle.engine_snapshot.specs.Meant.{active_placed}
 use Rattle.engine_snapshot.specs.Begun.{entries_alone}
 
--- ---- more rows behind those that are there
+-- ---- rows with further rows at the end
 
--- entries as active ones
+-- the rows with these entries at the end, as active ones
 abbrev pub with_placed : Rows → List PlacedEntry → Rows
 with_placed rows ps = with_entries rows (map active_placed ps)
 
@@ -28,30 +28,30 @@ with_results rows ks = with_checks rows (map pair_of ks)
 
 -- ---- one row
 
--- no rows that fit begin with this one
+-- if the fault is `NotSnapshot`, these rows with this row and any further rows at the end don't fit
 abbrev pub NotAfter : {A : Type 0} → (Rows → List A → Rows) → (Rows → Type 0) → Rows → A → LoadFault → Type 0
 NotAfter {A} put Fits rows x f = f ≡ NotSnapshot → (more : List A) → Fits (put rows (x ∷ more)) → ⊥
 
--- ---- so many
+-- ---- rows of one kind
 
--- what is read are rows, and these are put
+-- The rows that are read are added.
 pub record ArePut {A : Type 0} (put : Rows → List A → Rows) (read : Option (List A × List ℕ)) (left : List ℕ) (old new : Rows) : Type 0 where
   pub rows : List A
   pub are_read : read ≡ Some (rows, left)
   pub are_put : new ≡ put old rows
 
--- no rows are read that fit once they are put
+-- if the fault is `NotSnapshot`, these rows with the rows that are read at the end don't fit
 abbrev pub NonePut : {A : Type 0} → (Rows → List A → Rows) → (Rows → Type 0) → Option (List A × List ℕ) → Rows → LoadFault → Type 0
 NonePut {A} put Fits read rows f = f ≡ NotSnapshot → (xs : List A) (left : List ℕ) → read ≡ Some (xs, left) → Fits (put rows xs) → ⊥
 
--- entries, with their deprecations
+-- The entries that are read are added as active ones, and their deprecations are kept.
 pub record AreEntriesPut (read : Option (List PlacedEntry × List ℕ)) (left : List ℕ) (old new : Rows) (deprecations : List (Option PlacedDeprecation)) : Type 0 where
   pub are_put : ArePut with_placed read left old new
   pub deprecations_are : deprecations ≡ map (λ p. p.deprecation) are_put.rows
 
 -- ---- all entries
 
--- what is read are entries with places, and the rows are the entries that they mean
+-- The entries that are read have places, and the rows are the entries that they mean.
 pub record AreEntriesLoaded (read : Option (List PlacedEntry × List ℕ)) (left : List ℕ) (rows : Rows) : Type 0 where
   pub placed : List PlacedEntry
   pub entries : List Entry
@@ -59,13 +59,13 @@ pub record AreEntriesLoaded (read : Option (List PlacedEntry × List ℕ)) (left
   pub are_meant : AreMeantEntries placed placed entries
   pub are_rows : rows ≡ entries_alone entries
 
--- no entries are read that mean lawful ones
+-- no entries are read that mean lawful entries
 abbrev pub NoEntries : Option (List PlacedEntry × List ℕ) → Type 0
 NoEntries read = (placed : List PlacedEntry) (left : List ℕ) (entries : List Entry) → read ≡ Some (placed, left) → AreMeantEntries placed placed entries → IsLawful (entries_alone entries) → ⊥
 
--- ---- the others
+-- ---- all other rows
 
--- what stands behind the entries, to the end of the bytes
+-- The rows after the entries: items, statements and results of checks, to the end of the bytes.
 pub record Others (head : Head) (bytes : List ℕ) : Type 0 where
   pub items : List Values
   pub after_items : List ℕ

@@ -6,9 +6,9 @@ use cpe_snapshot::PlacedDeprecation;
 use std::alloc::Global;
 use std::marker::Model;
 
-/// A deprecation in memory of its own, so that a list with one or none for each entry is small.
+/// A deprecation in memory of its own. So a list with one or none for each entry is small.
 ///
-/// Contracts see it as they see the deprecation.
+/// Contracts see it as the deprecation.
 #[derive(Drop)]
 pub(crate) struct BoxedDeprecation {
     placed: Box<PlacedDeprecation>,
@@ -26,7 +26,7 @@ impl BoxedDeprecation {
     /// The deprecation, moved to memory of its own.
     ///
     /// # Errors
-    /// Only that memory ran out; the deprecation is then dropped.
+    /// Only that memory ran out. The deprecation is then dropped.
     pub(crate) fn new(alloc: Global, placed: PlacedDeprecation) -> Result<BoxedDeprecation, Memory>
         ensures { IfOk result (λ b. b ≡ placed) }
     {
@@ -36,7 +36,7 @@ impl BoxedDeprecation {
         }
     }
 
-    /// The deprecation. It takes no memory.
+    /// The deprecation. Allocates: no.
     pub(crate) fn as_placed(&self) -> &PlacedDeprecation
         ensures { result.now ≡ self.now }
     {

@@ -1,4 +1,4 @@
-// The edits that put rows. Each puts one row, and is taken if the rows that are meant are lawful.
+// Edits that each add one row. The edit is taken if the rows that the snapshot means are lawful.
 ghost use Rattle.std.specs.Prelude.{◌≡◌, ◌∷◌, [], IfErr, List as Items, OnErr, OnOk, true};
 ghost use Rattle.cpe_rows.specs.Prelude.{after, is_valid_edit, IsLawful};
 ghost use Rattle.cpe_rows.specs.declared.test.CheckKey.{CheckKey as KeyRow};
@@ -11,7 +11,7 @@ use cpe_rows::{Edit, EditFault};
 use cpe_snapshot::KeptResult;
 use std::sync::ledger::Ledger;
 
-// Lets an edit go that isn't in order, or a key for which a result is kept already.
+// Drops an edit that isn't valid, or a key for which a result is kept already, and returns that the rows aren't lawful.
 fn refuse<T: Drop>(refused: T) -> AdoptFault
     ensures { result ≡ AdoptFault.Unlawful }
 {
@@ -31,10 +31,10 @@ fn fault_of(fault: EditFault) -> AdoptFault
     }
 }
 
-/// Makes an edit that is in order.
+/// Makes an edit that is valid.
 ///
 /// # Errors
-/// The edit has a fault, or memory ran out; the rows are then as they were.
+/// That the edit has a fault, or that memory ran out. The rows are then unchanged.
 pub(crate) fn make_valid<L: Ledger>(
     engine: &mut Engine,
     edit: Edit,
@@ -55,10 +55,10 @@ pub(crate) fn make_valid<L: Ledger>(
     }
 }
 
-/// Makes an edit, if it is in order.
+/// Makes an edit, if it is valid.
 ///
 /// # Errors
-/// The edit isn't in order or has a fault, or memory ran out; the rows are then as they were.
+/// That the edit isn't valid or has a fault, or that memory ran out. The rows are then unchanged.
 pub(crate) fn make<L: Ledger>(
     engine: &mut Engine,
     edit: Edit,
@@ -76,11 +76,11 @@ pub(crate) fn make<L: Ledger>(
     }
 }
 
-/// Puts this result last, of a key for which none is kept.
+/// Adds the result of a check at the end, if none is kept for its key.
 ///
 /// # Errors
-/// A result is kept for the key, so no lawful rows have this one next, or there are too many, or memory ran out; the rows are then as they
-/// were.
+/// That a result is kept for the key, or there are too many results: no lawful rows then continue with this result. Or that
+/// memory ran out. The rows are then unchanged.
 pub(crate) fn add_check<L: Ledger>(
     engine: &mut Engine,
     kept: KeptResult,

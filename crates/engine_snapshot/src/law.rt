@@ -1,7 +1,7 @@
 // Laws of snapshots of engines. The function does nothing: its clause is the law.
 ghost use Rattle.engine_snapshot.specs.Within.{SnapsAreWithin};
 
-/// No snapshot of lawful rows has more than 536,870,936 bytes: a reader may refuse what is longer.
+/// No snapshot of lawful rows has more than 536,870,936 bytes, so a reader may refuse longer bytes.
 pub fn snapshots_are_within()
     ensures { SnapsAreWithin }
 {

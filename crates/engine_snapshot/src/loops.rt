@@ -1,4 +1,4 @@
-// Rows that are read one after the other, each put before the next is read: none stands beside the engine.
+// Rows that are read one after another. Each is added before the next is read, so at most one row is kept outside the engine.
 ghost use Rattle.std.specs.Prelude.{◌≡◌, [], IfErr, OnOk};
 ghost use Rattle.cpe_rows.specs.Prelude.{IsLawful};
 ghost use Rattle.cpe_snapshot.specs.Reading.{entry_at, many, name_at, result_at, statement_at};
@@ -13,7 +13,7 @@ use cpe_snapshot::{Cursor, KeptResult, LoadFault, Part, PlacedEntry};
 use std::alloc::Global;
 use std::sync::ledger::Ledger;
 
-/// Reads so many entries, and puts them last as active ones. Their deprecations are kept by their places.
+/// Reads this number of entries, and adds them at the end as active ones. Their deprecations are kept with places.
 pub(crate) fn read_entries<L: Ledger>(
     alloc: Global,
     cursor: &mut Cursor<'_>,
@@ -33,7 +33,7 @@ pub(crate) fn read_entries<L: Ledger>(
     Ok(())
 }
 
-/// Reads so many items, and puts them last.
+/// Reads this number of items, and adds them at the end.
 pub(crate) fn read_items<L: Ledger>(
     alloc: Global,
     cursor: &mut Cursor<'_>,
@@ -51,7 +51,7 @@ pub(crate) fn read_items<L: Ledger>(
     Ok(())
 }
 
-/// Reads so many statements, and puts them last.
+/// Reads this number of statements, and adds them at the end.
 pub(crate) fn read_statements<L: Ledger>(
     alloc: Global,
     cursor: &mut Cursor<'_>,
@@ -69,7 +69,7 @@ pub(crate) fn read_statements<L: Ledger>(
     Ok(())
 }
 
-/// Reads so many results, and puts them last.
+/// Reads this number of results, and adds them at the end.
 pub(crate) fn read_results<L: Ledger>(
     alloc: Global,
     cursor: &mut Cursor<'_>,

@@ -1,4 +1,4 @@
-// The deprecations that are meant by places of entries, once an engine has these entries as active ones.
+// The deprecations that places of entries mean, once an engine has these entries as active ones.
 ghost use Rattle.std.specs.Prelude.{◌≡◌, IfErr, IfOk, List as Items, None, Option as Perhaps, Some, length, map};
 ghost use Rattle.cpe_rows.specs.Prelude.{IsLawful, Values};
 ghost use Rattle.cpe_rows.specs.declared.entry.Deprecation.{Deprecation as DeprecationRow};
@@ -14,7 +14,7 @@ use cpe_rows::{Deprecation, List, Wfn};
 use cpe_snapshot::{LoadFault, PlacedDeprecation};
 use std::alloc::Global;
 
-// The name of the entry at this place, as a copy.
+// A copy of the name of the entry at this place.
 fn name_at(alloc: Global, engine: &Engine, place: u32) -> Result<Wfn, LoadFault>
     ensures named { IfOk result (λ n. name_in engine.now.entries place ≡ Some n) }
     ensures refused { IfErr result (λ f. f ≡ LoadFault.NotSnapshot → name_in engine.now.entries place ≡ None) }
@@ -28,7 +28,7 @@ fn name_at(alloc: Global, engine: &Engine, place: u32) -> Result<Wfn, LoadFault>
     }
 }
 
-// The names of the entries at these places, one by one, as copies.
+// Copies of the names of the entries at these places, in this order.
 fn names_at(alloc: Global, engine: &Engine, places: &[u32]) -> Result<List<Wfn>, LoadFault>
     ensures named { IfOk result (λ ns. AreNamed (map undeprecated engine.now.entries) places.now ns) }
     ensures refused { IfErr result (λ f. f ≡ LoadFault.NotSnapshot → (ns : Items Values) → AreNamed (map undeprecated engine.now.entries) places.now ns → ⊥) }
@@ -56,7 +56,7 @@ fn deprecation_of(
     })
 }
 
-// The deprecation of an entry, if it has one, by the names at its places.
+// The deprecation of an entry, if it has one, with names in place of places.
 fn meant_at(
     alloc: Global,
     engine: &Engine,
@@ -74,7 +74,7 @@ fn meant_at(
     }
 }
 
-// The deprecations of all entries.
+// The deprecations of all entries, in their order, with names in place of places.
 fn deprecations_of(
     alloc: Global,
     engine: &Engine,
@@ -91,7 +91,7 @@ fn deprecations_of(
     Ok(deprecations)
 }
 
-// The same, where the places are let go.
+// The same deprecations. The deprecations with places are dropped.
 fn named_in(
     alloc: Global,
     engine: &Engine,
@@ -105,7 +105,7 @@ fn named_in(
     deprecations
 }
 
-// The same, where entries without one are counted.
+// The same deprecations, from a list in which entries without a deprecation are counted.
 fn named(
     alloc: Global,
     engine: &Engine,
@@ -120,7 +120,7 @@ fn named(
     }
 }
 
-// Lets an engine go that has some of the rows.
+// Drops an engine that has only some of the rows, and returns the given fault.
 fn let_go(engine: Engine, fault: LoadFault) -> LoadFault
     ensures { result ≡ fault }
 {
@@ -128,7 +128,7 @@ fn let_go(engine: Engine, fault: LoadFault) -> LoadFault
     fault
 }
 
-// The engine with these deprecations.
+// The engine after its entries get these deprecations.
 fn deprecate_all(
     engine: Engine,
     deprecations: List<Option<Deprecation>>,
@@ -144,11 +144,11 @@ fn deprecate_all(
     }
 }
 
-/// The engine, whose entries are active, with the deprecations that these mean, one or none for each entry. Where there is none at all
-/// nothing is done.
+/// The engine after its active entries get the deprecations that `all` means, one or none for each entry. If no entry has a
+/// deprecation, the engine is returned at once.
 ///
 /// # Errors
-/// `NotSnapshot` where some place has no entry, or the rows aren't lawful; or memory runs out.
+/// `NotSnapshot` if some place has no entry, or if the rows aren't lawful; or that memory ran out.
 pub(crate) fn give_all(
     alloc: Global,
     engine: Engine,

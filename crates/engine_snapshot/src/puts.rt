@@ -1,4 +1,4 @@
-// Rows that an engine puts as they are read, one at a time.
+// Rows that are added to an engine as they are read, one at a time.
 ghost use Rattle.std.specs.Prelude.{◌≡◌, ◌++◌, ◌∷◌, [], IfErr, OnOk, true};
 ghost use Rattle.cpe_rows.specs.Prelude.{after, is_lower, is_valid_edit, IsLawful};
 ghost use Rattle.engine_snapshot.specs.Begun.{AreFine, IsTaken, with_items, with_statements};
@@ -12,7 +12,7 @@ use cpe_snapshot::{KeptResult, LoadFault, PlacedDeprecation, PlacedEntry};
 use std::alloc::Global;
 use std::sync::ledger::Ledger;
 
-/// What a fault is of that rows have which are read.
+/// The fault of the snapshot whose rows have this fault.
 pub(crate) fn load_fault(fault: AdoptFault) -> LoadFault
     ensures { result ≡ LoadFault.NotSnapshot → fault ≡ AdoptFault.Unlawful }
 {
@@ -22,7 +22,7 @@ pub(crate) fn load_fault(fault: AdoptFault) -> LoadFault
     }
 }
 
-// Makes an edit that is in order.
+// Makes an edit that is valid.
 fn put<L: Ledger>(engine: &mut Engine, edit: Edit, steps: &mut Steps<L>) -> Result<(), LoadFault>
     requires { is_valid_edit edit ≡ true }
     ensures ok { OnOk result (engine.new ≡ after engine.old edit) }
@@ -34,7 +34,7 @@ fn put<L: Ledger>(engine: &mut Engine, edit: Edit, steps: &mut Steps<L>) -> Resu
     }
 }
 
-// Lets the deprecation of an entry go that isn't put.
+// Drops the deprecation of an entry that isn't added, and returns the given fault.
 fn let_go(deprecation: Option<PlacedDeprecation>, fault: LoadFault) -> LoadFault
     ensures { result ≡ fault }
 {
@@ -42,8 +42,8 @@ fn let_go(deprecation: Option<PlacedDeprecation>, fault: LoadFault) -> LoadFault
     fault
 }
 
-/// Puts an entry last as an active one, and its deprecation behind those of the entries before it. Its name is in lower case, as it was
-/// read.
+/// Adds an entry at the end as an active one, and its deprecation at the end of the list of deprecations. Its name is in lower
+/// case: names are read so.
 pub(crate) fn put_entry<L: Ledger>(
     alloc: Global,
     engine: &mut Engine,
@@ -77,7 +77,7 @@ pub(crate) fn put_entry<L: Ledger>(
     }
 }
 
-/// Puts an item last. It is in lower case, as it was read.
+/// Adds an item at the end. Its name is in lower case: names are read so.
 pub(crate) fn put_item<L: Ledger>(
     engine: &mut Engine,
     name: Wfn,
@@ -90,7 +90,7 @@ pub(crate) fn put_item<L: Ledger>(
     put(engine, Edit::Item(name), steps)
 }
 
-/// Puts a statement last.
+/// Adds a statement at the end.
 pub(crate) fn put_statement<L: Ledger>(
     engine: &mut Engine,
     statement: Statement,
@@ -105,7 +105,7 @@ pub(crate) fn put_statement<L: Ledger>(
     }
 }
 
-/// Puts a result last, of a key for which none is kept.
+/// Adds the result of a check at the end, if none is kept for its key.
 pub(crate) fn put_result<L: Ledger>(
     engine: &mut Engine,
     kept: KeptResult,

@@ -14,10 +14,10 @@ use cpe_snapshot::{Cursor, Head, LoadFault, read_head};
 use std::alloc::Global;
 use std::sync::ledger::Ledger;
 
-/// The most bytes that a snapshot has: 24 more than rows may weigh.
+/// The most bytes of a snapshot: 24 more than the most weight of rows.
 pub const MOST_BYTES: usize = 536_870_936;
 
-// Lets an engine go that has some of the rows.
+// Drops an engine that has only some of the rows, and returns the given fault.
 fn let_go(engine: Engine, fault: LoadFault) -> LoadFault
     ensures { result ≡ fault }
 {
@@ -25,7 +25,7 @@ fn let_go(engine: Engine, fault: LoadFault) -> LoadFault
     fault
 }
 
-// The same with deprecations that it has not got.
+// Drops an engine, and deprecations that its entries have not got, and returns the given fault.
 fn let_both_go(engine: Engine, deprecations: PlacedDeprecations, fault: LoadFault) -> LoadFault
     ensures { result ≡ fault }
 {
@@ -33,8 +33,8 @@ fn let_both_go(engine: Engine, deprecations: PlacedDeprecations, fault: LoadFaul
     let_go(engine, fault)
 }
 
-// An engine with the entries that stand next. They come as active ones, and then their deprecations all at once: one may lead to an entry
-// behind it.
+// An engine with the entries that are read next. First all entries are added as active ones, and then they get their deprecations
+// all at once: a successor may be behind its entry in the list.
 fn load_entries<L: Ledger>(
     alloc: Global,
     cursor: &mut Cursor<'_>,
@@ -52,7 +52,7 @@ fn load_entries<L: Ledger>(
     }
 }
 
-// Reads what isn't an entry, to the end of the bytes, and puts it.
+// Reads all rows after the entries, to the end of the bytes, and adds them.
 fn read_others<L: Ledger>(
     alloc: Global,
     cursor: &mut Cursor<'_>,
@@ -73,11 +73,11 @@ fn read_others<L: Ledger>(
     }
 }
 
-/// An engine that keeps the rows whose snapshot these bytes are, all of the bytes. Each row is put as it is read: beside the engine stand
-/// the bytes, and of each entry that is deprecated the places of its successors.
+/// The engine whose snapshot is exactly these bytes. Each row is added as it is read. Beside the engine, memory is taken for at
+/// most one row, and for the places of the successors of deprecated entries.
 ///
 /// # Errors
-/// No lawful rows have this snapshot, or memory runs out.
+/// That no lawful rows have this snapshot, or that memory ran out.
 pub fn read_snapshot<L: Ledger>(
     alloc: Global,
     bytes: &[u8],

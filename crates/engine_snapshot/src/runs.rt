@@ -1,4 +1,4 @@
-// The deprecations of entries in their order. An entry that has none takes no memory.
+// The deprecations of entries, in the order of the entries. An entry without a deprecation takes no memory.
 ghost use Rattle.std.specs.Prelude.{◌≡◌, ◌++◌, ◌∷◌, [], IfOk, None, OnOk, Some, is_none, replicate, true};
 ghost use Rattle.std.specs.List.{flat_map, list_all};
 ghost use Rattle.engine_snapshot.specs.Runs.{deprecations_in, run_of};
@@ -9,20 +9,21 @@ use cpe_snapshot::PlacedDeprecation;
 use std::alloc::Global;
 use std::marker::Model;
 
-/// An entry that is deprecated, and how many stand right before it that aren't.
+/// A deprecated entry, and the number of active entries between it and the deprecated entry before it.
 #[derive(Drop)]
 pub(crate) struct Run {
     active: usize,
     deprecation: BoxedDeprecation,
 }
 
-/// A deprecation, or none, for each entry, in their order: few entries have one, and entries are read by the million.
+/// A deprecation, or none, for each entry, in the order of the entries. Few entries have one, and snapshots have millions of
+/// entries, so entries without one are only counted.
 ///
-/// Contracts see the list of them.
+/// Contracts see the list of these deprecations.
 #[derive(Drop)]
 pub(crate) struct PlacedDeprecations {
     runs: List<Run>,
-    // How many stand after the last that is deprecated.
+    // The number of active entries after the last deprecated one.
     active: usize,
 }
 
@@ -36,7 +37,7 @@ impl Model for PlacedDeprecations {
     ghost view = { λ d. deprecations_in d.runs d.active };
 }
 
-// Puts so many entries last that have none.
+// Adds this number of entries without a deprecation at the end.
 fn push_none(all: &mut List<Option<BoxedDeprecation>>, count: usize) -> Result<(), Memory>
     ensures { OnOk result (all.new ≡ all.old ++ replicate count None) }
 {
@@ -46,7 +47,7 @@ fn push_none(all: &mut List<Option<BoxedDeprecation>>, count: usize) -> Result<(
     Ok(())
 }
 
-// Puts the entries of a run last.
+// Adds the entries of a run at the end.
 fn push_run(all: &mut List<Option<BoxedDeprecation>>, run: Run) -> Result<(), Memory>
     ensures { OnOk result (all.new ≡ all.old ++ run_of run) }
 {
@@ -60,13 +61,13 @@ fn push_run(all: &mut List<Option<BoxedDeprecation>>, run: Run) -> Result<(), Me
     }
 }
 
-// Lets a deprecation go for which memory ran out.
+// Drops a deprecation after memory ran out.
 fn let_go(deprecation: BoxedDeprecation, memory: Memory) -> Memory {
     drop(deprecation);
     memory
 }
 
-// Puts the entries of all runs last.
+// Adds the entries of all runs at the end.
 fn push_runs(all: &mut List<Option<BoxedDeprecation>>, runs: List<Run>) -> Result<(), Memory>
     ensures { OnOk result (all.new ≡ all.old ++ flat_map run_of runs) }
 {
@@ -77,7 +78,7 @@ fn push_runs(all: &mut List<Option<BoxedDeprecation>>, runs: List<Run>) -> Resul
 }
 
 impl PlacedDeprecations {
-    /// Those of no entries. It takes no memory.
+    /// The deprecations of no entries. Allocates: no.
     pub(crate) fn new(alloc: Global) -> PlacedDeprecations
         ensures { result ≡ [] }
     {
@@ -87,7 +88,7 @@ impl PlacedDeprecations {
         }
     }
 
-    /// Puts the deprecation of the next entry last, or that it has none, which takes no memory.
+    /// Adds the next entry at the end: its deprecation, or none. An entry without a deprecation takes no memory.
     ///
     /// # Errors
     /// Only that memory ran out.
@@ -104,7 +105,7 @@ impl PlacedDeprecations {
         }
     }
 
-    // One entry more that has none. More than can be counted would be more than memory has.
+    // Counts one more entry without a deprecation. If the count is the largest number already, it returns that memory ran out.
     fn count_active(&mut self) -> Result<(), Memory>
         ensures { OnOk result (self.new ≡ self.old ++ None ∷ []) }
     {
@@ -115,7 +116,7 @@ impl PlacedDeprecations {
         Ok(())
     }
 
-    // One entry more that has this one, and ends the run.
+    // Adds one entry with this deprecation, which ends the run.
     fn end_run(&mut self, alloc: Global, placed: PlacedDeprecation) -> Result<(), Memory>
         ensures { OnOk result (self.new ≡ self.old ++ Some placed ∷ []) }
     {
@@ -128,14 +129,14 @@ impl PlacedDeprecations {
         Ok(())
     }
 
-    /// Whether it is known without a look at each that there are none.
+    /// Whether no entry has a deprecation, as far as this is known without a look at each. The answer `true` is always right.
     pub(crate) fn are_none(&self) -> bool
         ensures { result ≡ true → list_all is_none self.now ≡ true }
     {
         self.runs.len() == 0
     }
 
-    /// The list of them.
+    /// The deprecations as a list.
     ///
     /// # Errors
     /// Only that memory ran out.

@@ -1,4 +1,4 @@
-// What is so of texts by their type: they are UTF-8. These functions do nothing: their clauses are facts of every row.
+// Texts are UTF-8 by their type. These functions do nothing: their clauses say so for each row.
 ghost use Rattle.std.specs.List.{AllByRecursion};
 ghost use Rattle.cpe_rows.specs.Lent.{entry_lent};
 ghost use Rattle.cpe_rows.specs.declared.entry.Note.{Note as NoteRow};
@@ -20,7 +20,7 @@ fn are_comments(notes: &[Note])
     }
 }
 
-/// The texts of an entry are.
+/// The texts of an entry are UTF-8.
 pub(crate) fn are_entry_texts(put: EntryRef<'_>)
     ensures { IsTextEntry (entry_lent put.entry) }
 {
@@ -30,7 +30,7 @@ pub(crate) fn are_entry_texts(put: EntryRef<'_>)
     are_comments(put.provenance.notes.as_slice());
 }
 
-/// The texts of a key are.
+/// The texts of a key are UTF-8.
 pub(crate) fn are_key_texts(key: &CheckKey)
     ensures { IsTextKey key.now }
 {
@@ -53,7 +53,7 @@ fn are_test_texts(test: &Test)
     }
 }
 
-/// The texts of a statement are.
+/// The texts of a statement are UTF-8.
 pub(crate) fn are_statement_texts(statement: &Statement)
     ensures { IsTextStatement statement.now }
 {

@@ -1,5 +1,4 @@
-// The snapshot of an engine, row by row. Each function puts what it writes after what a buffer holds. Where memory runs out the buffer
-// is dropped.
+// The snapshot of an engine, row by row. Each function appends to a buffer. If memory runs out, the buffer is dropped.
 ghost use Rattle.std.specs.Prelude.{◌≡◌, ◌++◌, [], IfOk, IfSome, OnOk, filter_map, get_or, map, slice_get, true, None};
 ghost use Rattle.std.specs.List.{AllByRecursion, flat_map, list_all, list_any};
 ghost use Rattle.std.specs.Option.{option_copied, option_map_or};
@@ -45,7 +44,7 @@ fn places_of(alloc: Global, engine: &Engine, names: &[Wfn]) -> Result<Vec<u32>, 
     Ok(places)
 }
 
-// An entry of the engine.
+// Appends an entry of the engine.
 fn push_lent(
     alloc: Global,
     bytes: Vec<u8>,
@@ -65,7 +64,7 @@ fn push_lent(
     }
 }
 
-// The entry at a place, if there is one.
+// Appends the entry at a place, if there is one.
 fn push_entry_at(
     alloc: Global,
     bytes: Vec<u8>,
@@ -98,7 +97,7 @@ fn push_entries(alloc: Global, bytes: Vec<u8>, engine: &Engine) -> Result<Vec<u8
 
 // ---- items
 
-// The name in a slot, if there is one.
+// Appends the name in a slot, if there is one.
 fn push_slot(bytes: Vec<u8>, slot: Option<&Wfn>) -> Result<Vec<u8>, Memory>
     ensures { IfOk result (λ b. b.items ≡ bytes.items ++ option_map_or name (option_copied slot.entry) []) }
 {
@@ -121,7 +120,7 @@ fn push_items(bytes: Vec<u8>, engine: &Engine) -> Result<Vec<u8>, Memory>
 
 // ---- statements
 
-// The statement at a place, if there is one.
+// Appends the statement at a place, if there is one.
 fn push_statement_at(bytes: Vec<u8>, engine: &Engine, k: usize) -> Result<Vec<u8>, Memory>
     ensures written { IfOk result (λ b. b.items ≡ bytes.items ++ option_map_or statement_row (slice_get engine.now.statements k) []) }
     ensures texts { OnOk result (IfSome (slice_get engine.now.statements k) IsTextStatement) }
@@ -148,7 +147,7 @@ fn push_statements(bytes: Vec<u8>, engine: &Engine) -> Result<Vec<u8>, Memory>
 
 // ---- results
 
-// The result at a place, if there is one.
+// Appends the result at a place, if there is one.
 fn push_result_at(bytes: Vec<u8>, engine: &Engine, k: usize) -> Result<Vec<u8>, Memory>
     ensures written { IfOk result (λ b. b.items ≡ bytes.items ++ option_map_or (λ c. result_row (result_of c)) (slice_get engine.now.checks k) []) }
     ensures texts { OnOk result (IfSome (slice_get engine.now.checks k) (λ (c : KeyRow × TruthRow). IsTextKey c.0)) }
@@ -175,7 +174,7 @@ fn push_results(bytes: Vec<u8>, engine: &Engine) -> Result<Vec<u8>, Memory>
 
 // ---- all rows
 
-/// The snapshot of an engine. It takes as much memory as the snapshot has bytes, or a little more, and as much time.
+/// The snapshot of an engine. Time and memory are proportional to its length.
 ///
 /// # Errors
 /// Only that memory ran out.

@@ -8,7 +8,7 @@ use Rattle.cpe_session.specs.Task.{task}
 use Rattle.cpe_cover.specs.Lines.{cover_session}
 use Rattle.cpe_cover.proofs.run.cover.Goals as goal
 
--- it begins without a name
+-- the run begins without a name
 pub returns-clause-ran : goal.returns-clause-ran
 returns-clause-ran g c =
     subst (λ (first : List Values). Ran (g.S.Source.left c.args.source.now) (g.S.Source.left c.answer_from.new.source) (g.K.Sink.held c.args.sink.now) (g.K.Sink.held c.answer_from.new.sink) (task cover_session first) (λ taken status. StepsWithin c.args.steps.now c.answer_from.new.steps (total_cost cover_session first (lines taken))) c.answer_from.result)

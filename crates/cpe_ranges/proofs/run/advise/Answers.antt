@@ -8,7 +8,7 @@ use Rattle.cpe_ranges.specs.Rows.{AdviceRows}
 use Rattle.cpe_ranges.specs.Records.{advice_session}
 use Rattle.cpe_ranges.proofs.run.advise.Goals as goal
 
--- it begins with no rows
+-- the run begins without rows
 pub returns-clause-ran : goal.returns-clause-ran
 returns-clause-ran g c =
     subst (λ (first : AdviceRows). Ran (g.S.Source.left c.args.source.now) (g.S.Source.left c.answer_from.new.source) (g.K.Sink.held c.args.sink.now) (g.K.Sink.held c.answer_from.new.sink) (task advice_session first) (λ taken status. StepsWithin c.args.steps.now c.answer_from.new.steps (total_cost advice_session first (lines taken))) c.answer_from.result)

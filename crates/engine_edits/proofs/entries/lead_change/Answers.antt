@@ -20,7 +20,7 @@ use Rattle.engine_edits.proofs.entries.lead_change.Given.{Over}
 use Rattle.engine_edits.proofs.entries.lead_change.Goals as goal
 use Rattle.engine_edits.proofs.entries.lead_change.Goals.{After-into_parts-deprecation, After-table}
 
--- the entries that are written are those after the edit
+-- the entries that are written are the entries after the edit
 left : (g : Over) (c : After-into_parts-deprecation g)
     → written (rewritten c.into_parts-deprecation.result.0 (Some c.into_parts-deprecation.result.1)) c.args.plan.now.number (rows_in c.args.parts.now).entries
     ≡ (after (rows_in c.args.parts.now) (edit_in c.args.parts.now (numbered.Change c.args.change))).entries
@@ -33,7 +33,7 @@ left g c =
     written_turned rows n change.date change.comment change.turn k parts.result.0 parts.result.1 parts.ensures.deprecation parts.ensures.note
     (written_changed rows.entries n k (given change.turn) (Some (note_of change.turn change.date change.comment)) c.edits_by_number.ensures.writes c.requires.plan.place)
 
--- what the verdicts are asked, of the names that the registry lends
+-- what the verdicts require, for the names that the registry lends
 module _ (g : Over) (c : After-table g) where
   touches : deprecation_changed (edit_in c.args.parts.now (numbered.Change c.args.change)) ≡ Some (name_in c.args.parts.now.registry.table c.args.change.id)
   touches =

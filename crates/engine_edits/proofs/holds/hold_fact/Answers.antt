@@ -6,7 +6,7 @@ use Rattle.engine_edits.proofs.HoldLemmas.{few_more, grows_one, names_more}
 use Rattle.engine_edits.proofs.holds.hold_fact.Goals as goal
 use Rattle.engine_edits.proofs.holds.hold_fact.Goals.{After-put_last}
 
--- the number that was held comes last
+-- the number of the held name is last
 last : (c : After-put_last) → c.put_last.new.ids.items ≡ c.args.ids.now.items ++ c.in_ok-id.id ∷ []
 last c = c.put_last.ensures ∙ ap (λ (xs : List NameId). xs ++ c.in_ok-id.id ∷ []) c.reserve_one.ensures.items
 

@@ -18,7 +18,7 @@ use Rattle.engine_edits.proofs.items.make_drop.Given.{Over}
 use Rattle.engine_edits.proofs.items.make_drop.Goals as goal
 use Rattle.engine_edits.proofs.items.make_drop.Goals.{After-drop_item}
 
--- what the verdicts are asked, of the names that the registry lends
+-- what the verdicts require, for the names that the registry lends
 module _ (g : Over) (c : After-drop_item g) where
   there : LeadsTo c.table.result.now (rows_in c.args.parts.now).entries Follow c.args.id.0 c.deref.result.now
   there =
@@ -38,7 +38,7 @@ module _ (g : Over) (c : After-drop_item g) where
       let at = subst (λ (t : Names). list_any (is_same (name_at t c.args.id)) rows.items ≡ true) (sym c.table.ensures) has in
       subst (λ (t : Names). HasVerdicts t c.remove_item.new.self (after rows (edit.DropItem (name_at t c.args.id)))) c.table.ensures (c.remove_item.ensures.verdicts rows stood there at)
 
-  -- without the item, whose name is held still
+  -- the rows without the item; its name is still held
   dropped : AreOf c.drop_item.new.self c.remove_item.new.self (after (rows_in c.args.parts.now) (edit.DropItem (name_in c.args.parts.now.registry.table c.args.id))) (name_in c.drop_item.new.self.table c.args.id ∷ [])
   dropped =
       let rows = rows_in c.args.parts.now in

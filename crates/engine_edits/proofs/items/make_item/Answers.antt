@@ -19,7 +19,7 @@ use Rattle.engine_edits.proofs.items.make_item.Given.{Over}
 use Rattle.engine_edits.proofs.items.make_item.Goals as goal
 use Rattle.engine_edits.proofs.items.make_item.Goals.{After-deref}
 
--- what the verdicts are asked, of the names that the registry lends
+-- what the verdicts require, for the names that the registry lends
 module _ (g : Over) (c : After-deref g) where
   there : LeadsTo c.table.result.now (rows_in c.args.parts.now).entries Follow c.args.id.0 c.deref.result.now
   there =

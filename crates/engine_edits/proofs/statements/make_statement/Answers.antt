@@ -30,7 +30,7 @@ add_statement-requires g c =
       subst (λ (t : Names). IsAddition p.verdicts t rows.entries (added a) c.args.ids.items a) (sym c.table-table.ensures) all.addition,
     )
 
--- what adding it leaves, over the table that the registry lends
+-- what an added statement leaves, over the table that the registry lends
 module _ (g : Over) (c : After-add_statement g) where
   ready : IsAddition c.args.parts.now.verdicts c.table-table.result.now (rows_in c.args.parts.now).entries (added c.args.addition) c.args.ids.items c.args.addition
   ready = subst (λ (t : Names). IsAddition c.args.parts.now.verdicts t (rows_in c.args.parts.now).entries (added c.args.addition) c.args.ids.items c.args.addition) (sym c.table-table.ensures) c.requires.all.addition

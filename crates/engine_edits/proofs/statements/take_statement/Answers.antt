@@ -16,7 +16,7 @@ use Rattle.engine_edits.proofs.statements.take_statement.Given.{Over}
 use Rattle.engine_edits.proofs.statements.take_statement.Goals as goal
 use Rattle.engine_edits.proofs.statements.take_statement.Goals.{After-deref}
 
--- without the statement, whose names are held still
+-- the rows without the statement; the names of its facts are still held
 held : (g : Over) (c : After-deref g) → AreOf c.args.parts.now.registry c.remove_statement-ids.new.self (after (rows_in c.args.parts.now) (edit.DropStatement c.args.id.now)) (names_at c.args.parts.now.registry.table c.deref.result.now ++ [])
 held g c =
     let p = c.args.parts.now in

@@ -16,7 +16,7 @@ use Rattle.engine_edits.proofs.parts.Parts.apply.Goals.{After-make}
 pub make-requires : goal.make-requires
 make-requires g c = (c.args.edit, c.in-Ok.ensures.ready)
 
--- the step is accepted, of the rows before both stages
+-- the step is accepted in the rows before both stages
 stepped : (g : Over) (c : After-make g) → step (rows_in c.args.self.now) c.args.edit ≡ Ok (after (rows_in c.ready.new.self) c.args.edit)
 stepped g c =
     let mid = rows_in c.ready.new.self in

@@ -18,7 +18,7 @@ of_entry : (o : Option Entry) → option_map_or deprecated_weight o 0 ≡ option
 of_entry None = refl
 of_entry (Some e) = refl
 
--- by the number of the entry
+-- the weight of the deprecation, by the number of the entry
 by_number : (es : List Entry) (n : Values) (k : ℕ) → position (is_named n) es ≡ Some k → weight_of_first deprecated_weight (is_named n) es ≡ option_map_or deprecation_weight (option_and_then (λ (e : Entry). e.deprecation) (slice_get es k)) 0
 by_number es n k place = ap (λ (o : Option Entry). option_map_or deprecated_weight o 0) (entry_found es n k place) ∙ of_entry (slice_get es k)
 

@@ -10,7 +10,7 @@ use Rattle.engine_edits.proofs.NumberLemmas.{few_facts}
 use Rattle.engine_edits.proofs.parts.Parts.hold_statement.Goals as goal
 use Rattle.engine_edits.proofs.parts.Parts.hold_statement.Goals.{After-deref, After-hold_facts}
 
--- what was held by then, beside the rows
+-- the names that are held by then, besides the names of the rows
 held : (c : After-hold_facts) → AreOf c.hold_facts.new.registry c.args.self.now.verdicts (rows_in c.args.self.now) (names_at c.hold_facts.new.registry.table c.hold_facts.new.ids.items)
 held c =
     let p = c.args.self.now in
@@ -19,7 +19,7 @@ held c =
     let none = subst (λ (ids : List NameId). AreOf p.registry p.verdicts rows (names_at p.registry.table ids ++ [])) (sym c.new-ids.ensures.items) c.requires.kept.are in
     subst (λ (ns : List Values). AreOf r p.verdicts rows ns) (append-nil (names_at r.table c.hold_facts.new.ids.items)) (c.hold_facts.ensures.grows.are p.verdicts rows [] none)
 
--- and of the numbers that are lent
+-- the same, for the numbers that are lent
 lent : (c : After-deref) → AreOf c.hold_facts.new.registry c.args.self.now.verdicts (rows_in c.args.self.now) (names_at c.hold_facts.new.registry.table c.hold_facts.new.ids.items)
     → AreOf c.hold_facts.new.registry c.args.self.now.verdicts (rows_in c.args.self.now) (names_at c.hold_facts.new.registry.table c.deref.result.now ++ [])
 lent c = no_others c.hold_facts.new.registry c.args.self.now.verdicts (rows_in c.args.self.now) c.hold_facts.new.ids.items c.deref.result.now c.deref.ensures.value

@@ -8,7 +8,7 @@ use Rattle.engine_edits.proofs.PartsLemmas.{no_others, rows_are, stay_kept}
 use Rattle.engine_edits.proofs.parts.Parts.let_go.Goals as goal
 use Rattle.engine_edits.proofs.parts.Parts.let_go.Goals.{After-into_coming}
 
--- what is held besides is what came with the edit
+-- the names that are held besides the rows are the new names of the edit
 held : (c : After-into_coming) → AreOf c.args.self.now.registry c.args.self.now.verdicts (rows_in c.args.self.now) (names_at c.args.self.now.registry.table (numbers_of c.into_coming.result) ++ [])
 held c =
     let p = c.args.self.now in
