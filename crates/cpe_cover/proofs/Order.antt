@@ -1,4 +1,4 @@
--- Names in order, each once. Such a list is fixed by the names that it has.
+-- Sorted names, each once. Such a list is fixed by the names that it has.
 use Rattle.std.proofs.Common.{◌≡◌, ◌≢◌, Bool, true, false, cond, not, ◌||◌, ◌&&◌, List, [], ◌∷◌, refl, sym, ap, ◌∙◌, inl, inr}
 use Rattle.std.specs.List.{AllByRecursion}
 use Rattle.std.specs.List.Sorted.{IsStrictlySortedBy}
@@ -95,7 +95,7 @@ sorted_rises (x ∷ xs) s = (each xs s.0, sorted_rises xs s.1)
       | inr later ↦ each ys all.1 m later
     ]
 
--- ---- names that are put in order
+-- ---- names that are put in at their places
 
 pub among_put : (x : Values) (ms : List Values) (n : Values) → is_among (put_in_order x ms) n ≡ (same_name n x || is_among ms n)
 among_put x [] n = refl

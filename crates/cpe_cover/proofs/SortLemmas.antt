@@ -1,4 +1,4 @@
--- Different names that are sorted by their formatted strings are the names in order.
+-- Different names that are sorted by their formatted strings are the names sorted, each once.
 use Rattle.std.proofs.Common.{◌≡◌, ℕ, suc, ◌<◌, ◌≤◌, Bool, true, false, cond, ◌||◌, List, [], ◌∷◌, length, get_or, refl, sym, ap, ◌∙◌, inl, inr, arith}
 use Rattle.std.specs.Cmp.{both_ways as agree}
 use Rattle.std.specs.Cmp.{IsStrictWeakOrder}

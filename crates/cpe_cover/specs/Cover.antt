@@ -24,14 +24,14 @@ covers_other m n = not (same_name m n) && covers m n
 abbrev pub is_covered : List Values → Values → Bool
 is_covered names n = list_any (λ m. covers_other m n) names
 
--- names in order, with this name at its place, unless it is one of them
+-- sorted names, with this name at its place, unless it is one of them
 abbrev pub put_in_order : Values → List Values → List Values
 put_in_order n [] = n ∷ []
 put_in_order n (m ∷ ms) =
     if same_name n m then m ∷ ms
     else (if is_lt (fs_order n m) then n ∷ m ∷ ms else m ∷ put_in_order n ms)
 
--- the names in order, each once
+-- the names sorted, each once
 abbrev pub ordered : List Values → List Values
 ordered [] = []
 ordered (n ∷ ns) = put_in_order n (ordered ns)

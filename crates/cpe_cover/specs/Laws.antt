@@ -20,7 +20,7 @@ is_among names n = list_any (same_name n) names
 abbrev pub AreSameNames : List Values → List Values → Type 0
 AreSameNames a b = (n : Values) → is_among (map lower_name a) n ≡ is_among (map lower_name b) n
 
--- The list is in order, and it has exactly those names, in lower case, that no other of the names covers.
+-- The list is sorted. It has exactly the names, in lower case, that no other of the names covers.
 pub record IsCover (names cover : List Values) : Type 0 where
   pub rising : IsStrictlySortedBy fs_order cover
   pub members : (n : Values) → is_among cover n ≡ (not (is_covered (map lower_name names) n) && is_among (map lower_name names) n)

@@ -42,7 +42,7 @@ Adds old new n (Err Memory) = new ≡ old
 abbrev pub looks : List Values → ℕ
 looks names = sum_by (λ n. near_count n names) names
 
--- the same number for one name, if it has a special; else 0
+-- the number of names to whose product the product of this name is near, or 0 if this name has no special
 abbrev pub pattern_looks : List Values → Values → ℕ
 pattern_looks names n = if has_wildcards n then near_count n names else 0
 

@@ -55,7 +55,7 @@ fn mark_matched<L: Ledger>(
     Ok(())
 }
 
-// Does the same for the name at a place.
+// Marks the names that the name at a place covers, if this name has a special.
 fn mark_by_place<L: Ledger>(
     alloc: Global,
     names: &NamesInOrder<'_>,

@@ -152,13 +152,13 @@ impl Names {
         }
     }
 
-    /// The cover: the names that no other of them covers, in the order of the bytes of their formatted strings.
+    /// The cover: the names that no other of them covers, sorted by the bytes of their formatted strings.
     ///
     /// A step is a look at a name. Each name with a special takes at most one step for each name to whose product its own product
     /// is near. A name without specials takes none.
     ///
-    /// A shape is the set of attributes at which a name is ANY. For a name without specials and each wider shape of such names,
-    /// the name with ANY at these attributes is looked up by its hash.
+    /// A shape is the set of attributes at which a name is ANY. For a name without specials, each wider shape is tried: the name
+    /// with ANY at these attributes is looked up by its hash.
     ///
     /// # Errors
     /// Only that memory ran out. The bound on steps then holds too.

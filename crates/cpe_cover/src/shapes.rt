@@ -67,7 +67,7 @@ fn put_shape(alloc: Global, shapes: &mut Vec<Wfn>, name: &Wfn) -> Result<(), Mem
     Ok(())
 }
 
-// Does the same for the name at a place.
+// Adds a copy of the name at a place at the end, if the name has no special and its shape is new.
 fn put_shape_at(
     alloc: Global,
     names: &NamesInOrder<'_>,

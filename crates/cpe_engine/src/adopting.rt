@@ -84,7 +84,7 @@ fn deprecate_all(
     }
 }
 
-// The given weight with the weight of each of these deprecations, or the largest number if the sum is larger.
+// The given weight plus the weight of each of these deprecations, or the largest number if the sum is larger.
 fn with_all(weight: u64, deprecations: &[Option<Deprecation>]) -> u64
     ensures { result ≡ capped (weight + total (map given_weight deprecations.now)) }
 {
@@ -95,7 +95,7 @@ fn with_all(weight: u64, deprecations: &[Option<Deprecation>]) -> u64
     sum
 }
 
-// The given weight with the weight of one deprecation, or the largest number if the sum is larger.
+// The given weight plus the weight of one deprecation, or the largest number if the sum is larger.
 fn with_given(weight: u64, deprecation: &Option<Deprecation>) -> u64
     ensures { result ≡ capped (weight + given_weight deprecation.now) }
 {

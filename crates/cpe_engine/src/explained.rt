@@ -52,8 +52,8 @@ impl Engine {
         }
     }
 
-    // The same item. If the name is in lower case, it is found by products. The name of each fact of a statement is in lower
-    // case.
+    // The first item that a name covers or may cover in a mode, as `relates` says. It is found by products if the name is in
+    // lower case. The name of each fact of a statement is in lower case.
     fn sought_item(
         &self,
         alloc: Global,
@@ -80,8 +80,7 @@ impl Engine {
         kept_truth(&self.parts.registry, &self.parts.verdicts, mode, name)
     }
 
-    // Whether the kept truth of a fact says that there is no such item: none that its name covers or may cover, as `relates`
-    // says.
+    // Whether the kept truth of a fact rules out each item that its name covers or may cover, as `relates` says.
     fn is_ruled_out(&self, relates: Relates, mode: Mode, name: &Wfn) -> bool
         ensures { result ≡ true → find (is_followed (related relates) (followed self.now mode) name.now) self.now.items ≡ None }
     {

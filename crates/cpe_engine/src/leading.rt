@@ -159,7 +159,8 @@ fn items_shown(
     }
 }
 
-// The same items for all of these names together.
+// The items that lead, in a mode, to a name that some of these names covers or may cover, as `relates` says. These names are in
+// lower case.
 fn all_shown(
     registry: &Registry,
     verdicts: &Verdicts,

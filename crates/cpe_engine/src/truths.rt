@@ -1,4 +1,4 @@
-// The truths of facts that are kept.
+// Truths of facts, which the verdicts keep.
 ghost use Rattle.std.specs.Prelude.{◌≡◌, IfSome};
 ghost use Rattle.cpe_rows.specs.Prelude.{fact_truth, Rows};
 ghost use Rattle.verdicts.specs.Verdicts.{HasVerdicts};

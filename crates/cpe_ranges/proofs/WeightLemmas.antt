@@ -32,7 +32,7 @@ weighs_item rows n = let one = total-added name_weight rows.items n in omega (ar
 pub weighs_put : (rows : AdviceRows) (a : Advisory) → weight (after rows (edit.Put a)) ≡ weight rows + advisory_weight a
 weighs_put rows a = let one = total-added advisory_weight rows.advisories a in omega (arith, one)
 
--- the kept number with the weight that the edit adds, capped, is the weight after the edit, capped
+-- the kept number plus the weight that the edit adds, capped, is the weight after the edit, capped
 pub weight_after : {number found : ℕ} {kept given : AdviceRows} (part : ℕ) (e : AdviceEdit) → found ≡ capped (number + part) → IsWeight number kept → weight (after kept e) ≡ weight kept + part
     → kept ≡ given → found ≡ capped (weight (after given e))
 weight_after {number} {found} {kept} {given} part e is weighs sum same =

@@ -1,4 +1,4 @@
--- The record of a line. Its members are read in the order in which they are tested.
+-- The record of a line, with its members in the order in which they are tested.
 use Rattle.std.specs.Prelude.{ℕ, List, [], ◌∷◌, codes, Bool, Option, Some, None, option_map, option_and_then, Result, Ok, Err, ok_or}
 use Rattle.serde_json.specs.Data.{Data}
 use Rattle.serde_json.specs.Find.{as_str, get}

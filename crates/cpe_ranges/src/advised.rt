@@ -316,7 +316,7 @@ impl Advised {
     }
 
     /// Adds an advisory of a new id at the end. Its name is in lower case. The advisory is moved. Its id is copied once, and its
-    /// product if it is the first of its group.
+    /// product if the product has no group yet.
     ///
     /// # Errors
     /// Only that memory ran out. The advisories are then unchanged.

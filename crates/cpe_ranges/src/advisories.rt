@@ -51,7 +51,7 @@ fn with_bound(weight: u64, bound: &Option<Bound>) -> u64
     }
 }
 
-// The given weight with the weight of an advisory, or the largest number if the sum is larger.
+// The given weight plus the weight of an advisory, or the largest number if the sum is larger.
 fn with_terms(weight: u64, id: &Text, name: &Wfn, start: &Option<Bound>, end: &Option<Bound>) -> u64
     ensures { result ≡ capped (weight + advisory_weight (record { id = id.now; name = name.now; start = start.now; end = end.now })) }
 {
@@ -281,8 +281,8 @@ impl Advisories {
         Ok(())
     }
 
-    /// Makes a valid edit. What it adds is moved. The id of an advisory is also copied once, and its product if it is the first
-    /// of its group. It takes no step.
+    /// Makes a valid edit. What it adds is moved. The id of an advisory is also copied once, and its product if the product has
+    /// no group yet. It takes no step.
     ///
     /// # Errors
     /// The first fault of the edit in the order of [`AdviceFault`], or that memory ran out. The rows are then unchanged.
@@ -306,9 +306,8 @@ impl Advisories {
 
     /// The answer to a valid question. The name or id is moved into the answer.
     ///
-    /// A step is a look at the name of an item through the index. For the items that an advisory affects, there is at most one
-    /// step for each item to whose product the product of the advisory's name is near. For the advisories that affect a name
-    /// there is no step.
+    /// A step is a look at the name of an item through the index. An answer about an advisory takes at most as many steps as
+    /// there are items to whose product the product of its name is near. An answer about a name takes none.
     ///
     /// # Errors
     /// Only that memory ran out.

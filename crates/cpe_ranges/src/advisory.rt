@@ -15,7 +15,7 @@ pub struct Bound {
 pub struct Advisory {
     /// The id: 1 to 256 visible ASCII characters.
     pub id: Text,
-    /// The name of what it is about. The version of this name is ANY.
+    /// The name of what the advisory is about. The version of this name is ANY.
     pub name: Wfn,
     /// The start of the range, if the range has one.
     pub start: Option<Bound>,

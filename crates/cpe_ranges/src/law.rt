@@ -6,7 +6,7 @@ ghost use Rattle.cpe_ranges.specs.Step.{after, full};
 
 use crate::edit::AdviceEdit;
 
-/// If rows are within their limits, an edit that removes something exceeds no limit. So such an edit isn't tested for it. The
+/// If rows are within their limits, an edit that removes something exceeds no limit. So such an edit needs no test of limits. The
 /// function does nothing: its clause is the law.
 pub fn drops_are_never_full()
     ensures items { (rows : AdviceRows) (n : Values) → full rows ≡ None → full (after rows (AdviceEdit.DropItem n)) ≡ None }

@@ -15,8 +15,7 @@ use std::sync::ledger::Ledger;
 
 /// The status of a run of the command. It answers each line of the source as a record, and begins without items and advisories.
 ///
-/// What is written at each status is the same as for every command that answers lines ([`answer_from`]). A step is a look at the
-/// name of an item. Only a question takes steps.
+/// [`answer_from`] says what is written at each status. A step is a look at the name of an item. Only a question takes steps.
 pub fn advise<S: Source, K: Sink, L: Ledger>(
     alloc: Global,
     source: &mut S,

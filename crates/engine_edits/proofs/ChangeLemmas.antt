@@ -1,4 +1,4 @@
--- What a change of a deprecation leaves, by its plan and by its name.
+-- The entries that a change of a deprecation leaves, by its name, are the entries that it leaves by its plan.
 use Rattle.std.proofs.Common.{◌≡◌, List, sym, ◌∙◌}
 use Rattle.std.specs.Prelude.{Option}
 use Rattle.cpe_rows.specs.cpe_name.Eleven.{Values}

@@ -109,7 +109,7 @@ by_hold old new v rows id name named entries items held stands a =
 pub no_others : (r : Registered) (v : VerdictsNow) (rows : Rows) (ids lent : List NameId) → lent ≡ ids → AreOf r v rows (names_at r.table ids) → AreOf r v rows (names_at r.table lent ++ [])
 no_others r v rows ids lent same a = subst (λ (ns : List Values). AreOf r v rows ns) (sym (ap (λ (xs : List NameId). names_at r.table xs ++ []) same ∙ append-nil (names_at r.table ids))) a
 
--- ---- holds are few
+-- ---- no name is held too often
 
 pub few_holds : (table : Names) (rows : Rows) → length (names_kept rows) ≤ 4000000 → ((id : ℕ) → holds_in table id ≤ length (names_kept rows)) → (id : ℕ) → (kept_at table id).holds < 4294967295
 few_holds table rows kept few id = omega (arith, few id, kept)

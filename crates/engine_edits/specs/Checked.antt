@@ -10,7 +10,8 @@ use Rattle.cpe_rows.specs.declared.edit.Edit.{Edit}
 use Rattle.engine_edits.specs.Planned.{IsPlanned}
 use Rattle.engine_edits.specs.declared.checked.Checked.{Checked}
 
--- The edit is accepted and has no fault. Its plan is right, and the weight is the weight of the rows that it leaves.
+-- The edit is accepted and has no fault. A change of a deprecation has its plan. The weight is the weight of the rows that the edit
+-- leaves.
 pub record IsChecked (rows : Rows) (e : Edit) (c : Checked) : Type 0 where
   pub accepted : IsAccepted rows e (after rows e)
   pub none : first_some (causes rows e) ≡ None

@@ -9,7 +9,7 @@ use Rattle.verdicts.specs.cpe_registry.Registered.{AreLive, Registered}
 use Rattle.verdicts.specs.Verdicts.{VerdictsNow}
 use Rattle.engine_edits.specs.Parts.{AreOf}
 
--- there is room for this number of further holds: with them the table has at most 4,294,967,295
+-- the table can hold this number of further names: in all it then holds at most 4,294,967,295, and a name counts as often as it is held
 abbrev pub AreFew : Names → ℕ → Type 0
 AreFew table n = (list : List Values) × Shows table (holds_in table) list × (length list + n ≤ 4294967295)
 

@@ -10,8 +10,8 @@ use Rattle.cpe_rows.specs.declared.fault.EditFault.{EditFault}
 use Rattle.verdicts.specs.facts.Looks.{item_looks, lead_looks, statement_looks}
 
 -- An edit that is made. For an item: the looks for it and its ends. For a statement: the looks for its facts. For a change of a
--- deprecation: the looks for the ends of the items that lead to the entry, before and after the change, and for the ends, after it, of
--- the facts that lead there. For each other edit: none.
+-- deprecation: the looks for the ends of the items that lead to the entry, before and after the change, and the looks for the ends, after
+-- the change, of the facts that lead there. For each other edit: none.
 abbrev pub made_looks : Rows → Edit → ℕ
 made_looks rows (edit.Item n) = item_looks rows n
 made_looks rows (edit.DropItem n) = item_looks rows n

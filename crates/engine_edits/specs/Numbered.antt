@@ -76,7 +76,7 @@ IsFound table (numbered.Change c) = IsLive table c.id.0
 IsFound table (numbered.PutStatement s ids) = AreNumbered table s ids.items
 IsFound table e = ⊤
 
--- the numbers of the new names of the edit, which no row has by this edit yet
+-- the numbers of the new names of the edit; the table holds these names for the edit until it is made
 abbrev pub coming : Numbered → List NameId
 coming (numbered.Entry id title provenance) = id ∷ []
 coming (numbered.Item id) = id ∷ []

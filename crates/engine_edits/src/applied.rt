@@ -26,8 +26,8 @@ use std::alloc::Global;
 use std::sync::ledger::Ledger;
 
 impl Parts {
-    /// The edit, with all memory for it taken. The rows are unchanged. The verdicts that callers know are then the current ones.
-    /// It looks at no name.
+    /// The edit, after all memory for it is taken. The rows are unchanged. The verdicts that callers know are then the current
+    /// ones. It looks at no name.
     ///
     /// # Errors
     /// The first fault of the edit in the order of [`EditFault`], or that memory ran out. No name is then held for the edit.
@@ -162,7 +162,7 @@ fn ready_checked(
     }
 }
 
-// Takes the same memory, by the kind of the edit.
+// Takes the memory that the edit needs by its kind.
 fn ready_by_kind(
     parts: &mut Parts,
     alloc: Global,

@@ -186,7 +186,7 @@ impl Parts {
         }
     }
 
-    // The given weight with the weight of what the edit adds, or the largest number if the sum is larger.
+    // The given weight plus the weight of what the edit adds, or the largest number if the sum is larger.
     fn with_gain(&self, weight: u64, numbered: &Numbered) -> u64
         requires found { IsFound self.now.registry.table numbered.now }
         requires none { first_some (causes (rows_in self.now) (edit_in self.now numbered.now)) ≡ None }
@@ -209,7 +209,7 @@ impl Parts {
     }
 }
 
-// No plan if there is such a row, and else the fault. A removal has no other fault.
+// No plan if the row that an edit removes was found, and else the fault. Such an edit has no other fault.
 fn known(found: bool) -> Result<Option<Plan>, EditFault>
     ensures plan { IfOk result (λ p. p ≡ None) }
     ensures ok { IfOk result (λ p. first_some (when (not found) EditFault.Unknown ∷ []) ≡ None) }
@@ -234,8 +234,8 @@ fn unplanned(fault: Option<EditFault>) -> Result<Option<Plan>, EditFault>
     }
 }
 
-// The given weight with the weight of the note of a change and of the deprecation that it gives, or the largest number if the sum
-// is larger.
+// The given weight plus the weight of the note of a change, and of the deprecation that the change gives. It is at most the
+// largest number.
 fn with_change(weight: u64, change: &Change) -> u64
     ensures { result ≡ capped (weight + (note_weight (note_of change.now.turn change.now.date change.now.comment) + option_map_or deprecation_weight (given change.now.turn) 0)) }
 {

@@ -119,8 +119,8 @@ impl Parts {
         Ok(Some(plan))
     }
 
-    /// The weight of the deprecation of the entry whose name has this number, or 0 if there is no such entry or it isn't
-    /// deprecated.
+    /// The weight of the deprecation of an entry, by the number of the entry's name. It is 0 if there is no such entry, or if the
+    /// entry isn't deprecated.
     pub(crate) fn deprecation_weight(&self, id: NameId) -> u64
         requires live { IsLive self.now.registry.table id.0 }
         requires few { weight_of_first deprecated_weight (is_named (name_in self.now.registry.table id)) (rows_in self.now).entries ≤ most limit.Weight }
@@ -172,7 +172,7 @@ pub(crate) fn ready_entry(
     }
 }
 
-/// Takes all memory for a planned change of a deprecation, and finds what it changes for items and facts.
+/// Takes all memory for a planned change of a deprecation, and finds what it does to items and facts.
 ///
 /// # Errors
 /// Only that memory ran out.
@@ -202,7 +202,7 @@ pub(crate) fn ready_change(
     }
 }
 
-// Room for the note of a change, and what the change changes for items and facts.
+// Room for the note of a change, and what the change does to items and facts.
 fn reserve_change(
     parts: &mut Parts,
     alloc: Global,

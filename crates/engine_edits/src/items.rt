@@ -120,7 +120,7 @@ pub(crate) fn ready_drop(parts: &Parts, alloc: Global, id: NameId) -> Result<Rea
 
 // ---- the second stage: the change
 
-/// Adds an item, and returns the verdicts that change. The table holds the name already, and from now on holds it for the item.
+/// Adds an item, and returns the verdicts that change. The table holds its name already, and from now on holds it for the item.
 pub(crate) fn make_item<L: Ledger>(
     parts: &mut Parts,
     id: NameId,

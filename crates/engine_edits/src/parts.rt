@@ -33,7 +33,7 @@ impl Parts {
         }
     }
 
-    /// The verdicts that callers know are then the current ones.
+    /// Sets the verdicts that callers know to the current ones.
     pub(crate) fn forget_changes(&mut self)
         requires { AreKept self.old }
         ensures kept { AreKept self.new }

@@ -55,7 +55,7 @@ pub(crate) enum Ready {
     DropCheck(CheckKey),
 }
 
-/// A change of a deprecation: its plan, what it changes for items and facts, and the memory for its note.
+/// A change of a deprecation: its plan, what it does to items and facts, and the memory for its note.
 pub(crate) struct ReadyChange {
     pub change: Change,
     pub plan: Plan,

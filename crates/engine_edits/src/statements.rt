@@ -58,7 +58,7 @@ impl Parts {
         }
     }
 
-    // The same for a statement without a fault.
+    // A new statement without a fault, with the numbers of its facts. The table then holds the names of these facts.
     fn hold_statement(&mut self, alloc: Global, statement: Statement) -> Result<Numbered, Memory>
         requires kept { AreKept self.old }
         requires valid { is_valid_edit (edit.PutStatement statement) ≡ true }

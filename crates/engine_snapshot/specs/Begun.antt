@@ -38,7 +38,8 @@ entries_alone es = record no_rows { entries = es }
 
 -- ---- entries that may be added one after another
 
--- They may be added as active entries: their names are names of entries, the names differ, and the rows are within their limits.
+-- The entries of the rows may be added as active ones: their names are names of entries, the names differ, and the rows are within their
+-- limits.
 pub record AreFine (rows : Rows) : Type 0 where
   pub names : list_all (λ e. is_entry_name e.name) rows.entries ≡ true
   pub names_differ : are_different (λ e. is_named e.name) rows.entries ≡ true

@@ -29,7 +29,7 @@ AreMeantDeprecations entries [] (d ∷ ds) = ⊥
 AreMeantDeprecations entries (p ∷ ps) [] = ⊥
 AreMeantDeprecations entries (p ∷ ps) (d ∷ ds) = IsMeantDeprecation entries p d × AreMeantDeprecations entries ps ds
 
--- The new rows are the old rows, and each entry has the deprecation that is meant for it, or none.
+-- The new rows are the old rows, in which each entry gets the deprecation that is meant for it, or none.
 pub record AreGiven (old : Rows) (placed : List (Option PlacedDeprecation)) (new : Rows) : Type 0 where
   pub deprecations : List (Option Deprecation)
   pub are_meant : AreMeantDeprecations (map undeprecated old.entries) placed deprecations

@@ -28,7 +28,7 @@ with_results rows ks = with_checks rows (map pair_of ks)
 
 -- ---- one row
 
--- if the fault is `NotSnapshot`, these rows with this row and any further rows at the end don't fit
+-- if the fault is `NotSnapshot`, these rows don't fit with this row, and any further rows, at their end
 abbrev pub NotAfter : {A : Type 0} → (Rows → List A → Rows) → (Rows → Type 0) → Rows → A → LoadFault → Type 0
 NotAfter {A} put Fits rows x f = f ≡ NotSnapshot → (more : List A) → Fits (put rows (x ∷ more)) → ⊥
 
@@ -40,7 +40,7 @@ pub record ArePut {A : Type 0} (put : Rows → List A → Rows) (read : Option (
   pub are_read : read ≡ Some (rows, left)
   pub are_put : new ≡ put old rows
 
--- if the fault is `NotSnapshot`, these rows with the rows that are read at the end don't fit
+-- if the fault is `NotSnapshot` and rows are read, these rows don't fit with the read rows at their end
 abbrev pub NonePut : {A : Type 0} → (Rows → List A → Rows) → (Rows → Type 0) → Option (List A × List ℕ) → Rows → LoadFault → Type 0
 NonePut {A} put Fits read rows f = f ≡ NotSnapshot → (xs : List A) (left : List ℕ) → read ≡ Some (xs, left) → Fits (put rows xs) → ⊥
 
@@ -59,7 +59,7 @@ pub record AreEntriesLoaded (read : Option (List PlacedEntry × List ℕ)) (left
   pub are_meant : AreMeantEntries placed placed entries
   pub are_rows : rows ≡ entries_alone entries
 
--- no entries are read that mean lawful entries
+-- reading gives no entries that mean lawful entries
 abbrev pub NoEntries : Option (List PlacedEntry × List ℕ) → Type 0
 NoEntries read = (placed : List PlacedEntry) (left : List ℕ) (entries : List Entry) → read ≡ Some (placed, left) → AreMeantEntries placed placed entries → IsLawful (entries_alone entries) → ⊥
 

@@ -13,7 +13,7 @@ use cpe_snapshot::{Cursor, KeptResult, LoadFault, Part, PlacedEntry};
 use std::alloc::Global;
 use std::sync::ledger::Ledger;
 
-/// Reads this number of entries, and adds them at the end as active ones. Their deprecations are kept with places.
+/// Reads this number of entries, and adds them at the end as active ones. Their deprecations are kept in the form with places.
 pub(crate) fn read_entries<L: Ledger>(
     alloc: Global,
     cursor: &mut Cursor<'_>,

@@ -91,7 +91,7 @@ fn deprecations_of(
     Ok(deprecations)
 }
 
-// The same deprecations. The deprecations with places are dropped.
+// The deprecations of all entries, in their order, with names in place of places. The list with places is dropped.
 fn named_in(
     alloc: Global,
     engine: &Engine,
@@ -105,7 +105,7 @@ fn named_in(
     deprecations
 }
 
-// The same deprecations, from a list in which entries without a deprecation are counted.
+// The deprecations of all entries, in their order, with names in place of places. In `all`, entries without one are only counted.
 fn named(
     alloc: Global,
     engine: &Engine,

@@ -14,7 +14,7 @@ use cpe_snapshot::{Cursor, Head, LoadFault, read_head};
 use std::alloc::Global;
 use std::sync::ledger::Ledger;
 
-/// The most bytes of a snapshot: 24 more than the most weight of rows.
+/// The greatest number of bytes of a snapshot: 24 more than the greatest weight of rows.
 pub const MOST_BYTES: usize = 536_870_936;
 
 // Drops an engine that has only some of the rows, and returns the given fault.
@@ -34,7 +34,7 @@ fn let_both_go(engine: Engine, deprecations: PlacedDeprecations, fault: LoadFaul
 }
 
 // An engine with the entries that are read next. First all entries are added as active ones, and then they get their deprecations
-// all at once: a successor may be behind its entry in the list.
+// all at once, because a successor may be later in the list than the entry that it replaces.
 fn load_entries<L: Ledger>(
     alloc: Global,
     cursor: &mut Cursor<'_>,
@@ -73,8 +73,8 @@ fn read_others<L: Ledger>(
     }
 }
 
-/// The engine whose snapshot is exactly these bytes. Each row is added as it is read. Beside the engine, memory is taken for at
-/// most one row, and for the places of the successors of deprecated entries.
+/// The engine whose snapshot is exactly these bytes. Each row is added as it is read. Beside the engine, only the places of the
+/// successors of deprecated entries are kept.
 ///
 /// # Errors
 /// That no lawful rows have this snapshot, or that memory ran out.

@@ -19,7 +19,7 @@ held c =
     let none = subst (λ (ids : List NameId). AreOf p.registry p.verdicts rows (names_at p.registry.table ids ++ [])) (sym c.new-ids.ensures.items) c.requires.kept.are in
     subst (λ (ns : List Values). AreOf r p.verdicts rows ns) (append-nil (names_at r.table c.hold_facts.new.ids.items)) (c.hold_facts.ensures.grows.are p.verdicts rows [] none)
 
--- the same, for the numbers that are lent
+-- the names of the numbers that are lent, besides the names of the rows
 lent : (c : After-deref) → AreOf c.hold_facts.new.registry c.args.self.now.verdicts (rows_in c.args.self.now) (names_at c.hold_facts.new.registry.table c.hold_facts.new.ids.items)
     → AreOf c.hold_facts.new.registry c.args.self.now.verdicts (rows_in c.args.self.now) (names_at c.hold_facts.new.registry.table c.deref.result.now ++ [])
 lent c = no_others c.hold_facts.new.registry c.args.self.now.verdicts (rows_in c.args.self.now) c.hold_facts.new.ids.items c.deref.result.now c.deref.ensures.value
