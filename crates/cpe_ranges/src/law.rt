@@ -7,7 +7,7 @@ ghost use Rattle.cpe_ranges.specs.Step.{after, full};
 use crate::edit::AdviceEdit;
 
 /// If rows are within their limits, an edit that removes something exceeds no limit. So such an edit needs no test of limits. The
-/// function does nothing: its clause is the law.
+/// function does nothing: its clauses are the law.
 pub fn drops_are_never_full()
     ensures items { (rows : AdviceRows) (n : Values) → full rows ≡ None → full (after rows (AdviceEdit.DropItem n)) ≡ None }
     ensures advisories { (rows : AdviceRows) (id : List ℕ) → full rows ≡ None → full (after rows (AdviceEdit.Drop id)) ≡ None }
