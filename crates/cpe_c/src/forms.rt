@@ -5,8 +5,8 @@ ghost use Rattle.talks.specs.Told.{Gives, Tells};
 use std::alloc::Global;
 use talks::{Answer, Form, give_form};
 
-/// Writes the text of the well-formed name that has this formatted string or URI into `out` (NIST IR 7695, 6.1.3 and
-/// 6.2.3). If no name has the text, the number of the answer is the place of the refusal.
+/// Writes into `out` the text of the well-formed name that has this formatted string or URI (NIST IR 7695, 6.1.3 and
+/// 6.2.3). If no name has the text, the number of the result is the place of the refusal.
 ///
 /// If the text to write is longer than `out`, nothing is written, and the number is the length of this text.
 #[unsafe(no_mangle)]
@@ -16,8 +16,8 @@ pub extern "C" fn cpe_c_unbind(alloc: Global, text: &[u8], out: &mut [u8]) -> An
     give_form(alloc, Form::Wfn, text, out).in_c()
 }
 
-/// Writes the formatted string of the well-formed name that has this text into `out` (NIST IR 7695, 6.2.2). If no
-/// name has the text, the number of the answer is 0, because the refusal has no place.
+/// Writes into `out` the formatted string of the well-formed name that has this text (NIST IR 7695, 6.2.2). If no
+/// name has the text, the number of the result is 0, because the refusal has no place.
 ///
 /// If the formatted string is longer than `out`, nothing is written, and the number is the length of the string.
 #[unsafe(no_mangle)]
@@ -27,8 +27,8 @@ pub extern "C" fn cpe_c_bind_fs(alloc: Global, text: &[u8], out: &mut [u8]) -> A
     give_form(alloc, Form::Fs, text, out).in_c()
 }
 
-/// Writes the canonical URI of the well-formed name that has this text into `out` (NIST IR 7695, 6.1.2). If no name
-/// has the text, the number of the answer is 0, because the refusal has no place.
+/// Writes into `out` the canonical URI of the well-formed name that has this text (NIST IR 7695, 6.1.2). If no name
+/// has the text, the number of the result is 0, because the refusal has no place.
 ///
 /// If the URI is longer than `out`, nothing is written, and the number is the length of the URI.
 #[unsafe(no_mangle)]

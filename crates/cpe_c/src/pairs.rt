@@ -7,7 +7,7 @@ use std::alloc::Global;
 use talks::{Answer, RelationNumbers, relate, tell_covers};
 
 /// Writes the relations of two names into `numbers` (NIST IR 7696, 6). Each text is a formatted string or a URI. If
-/// no name has a text, the number of the answer is the place of the refusal. After any code except 0, `numbers` is
+/// no name has a text, the number of the result is the place of the refusal. After any code except 0, `numbers` is
 /// unchanged.
 #[unsafe(no_mangle)]
 pub extern "C" fn cpe_c_relate(

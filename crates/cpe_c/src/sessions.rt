@@ -12,7 +12,8 @@ use talks::{Answer, KeptTalk, Steps, Talk, Told, end, keep_begun, let_go, repeat
 
 /// Begins a session of the command that one word names, or two words, and keeps the session in `kept`. `second` is
 /// empty if one word names the command. The session answers lines as a run of this command does. If no session
-/// begins, `kept` is unchanged. Before the call `kept` has no session, because that session would not be dropped.
+/// begins, `kept` is unchanged. `kept` must have no session before the call, because that session would not be
+/// dropped.
 #[unsafe(no_mangle)]
 pub extern "C" fn cpe_c_begin(
     alloc: Global,
@@ -27,7 +28,7 @@ pub extern "C" fn cpe_c_begin(
 }
 
 /// Answers a line: `out` has the bytes that a run would have written for it. If `out` is too short for them, nothing
-/// is written, and the number of the answer is their length; [`cpe_c_again`] writes them. A text with a newline is no
+/// is written, and the number of the result is their length; [`cpe_c_again`] writes them. A text with a newline is no
 /// line. A session takes no line if it ended before, or if memory ran out in it before. In these cases the session is
 /// unchanged, and the code says why.
 #[unsafe(no_mangle)]
@@ -64,7 +65,7 @@ fn say_counted<L: Ledger>(
 }
 
 /// Ends a session: `out` has the bytes that a run would have written at the end, and `status` is the exit status of
-/// that run. If `out` is too short, nothing is written, and the number of the answer is the length of the bytes. If
+/// that run. If `out` is too short, nothing is written, and the number of the result is the length of the bytes. If
 /// the session ended before, or memory ran out in it before, the session and `status` are unchanged.
 #[unsafe(no_mangle)]
 pub extern "C" fn cpe_c_end(
@@ -99,7 +100,7 @@ fn end_counted<L: Ledger>(
 }
 
 /// Writes the last answer into `out` again, unless memory ran out in the session. If `out` is too short, nothing is
-/// written, and the number of the answer is the length of the bytes.
+/// written, and the number of the result is the length of the bytes.
 #[unsafe(no_mangle)]
 pub extern "C" fn cpe_c_again(alloc: Global, kept: &mut KeptTalk, out: &mut [u8]) -> Answer
     requires { IsSome kept.old.value }

@@ -43,8 +43,8 @@ IsNoSnapshot bytes = (rows : Rows) → IsLawful rows → Snap rows bytes → ⊥
 abbrev pub load_says : List ℕ → Transcript → Type 0
 load_says bytes it = TellsState bytes it ⊎ (IsNoSnapshot bytes × (it ≡ refusal_told))
 
--- which rows are left at each status: those of the snapshot if all was done; the first ones if the input is no
--- snapshot; one or the other if memory ran out or a write failed
+-- which rows are left at each status: the rows of the snapshot if all was done; the first rows if the input is no
+-- snapshot; either of these if memory ran out or a write failed
 abbrev pub LoadLeaves : Rows → Rows → List ℕ → Status → Type 0
 LoadLeaves first now bytes Done = Snap now bytes
 LoadLeaves first now bytes SomeRefused = now ≡ first

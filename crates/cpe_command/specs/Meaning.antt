@@ -42,10 +42,10 @@ pub record Meaning : Type 1 where
 abbrev pub NoRows : Rows → List ℕ → Status → Type 0
 NoRows rows taken status = rows ≡ no_rows
 
--- A command answers each line, or reads the whole input as a snapshot, or writes generated lines or their outcome.
--- Commands on records leave the rows that the lines of the taken bytes leave, one after the other; `drill` leaves the
--- rows of the generated lines. Their looks are at most a sum over the lines, and each line counts in the rows that
--- the earlier lines leave. `load` leaves the rows of the snapshot, and none of its looks is counted. If the words
+-- A command answers each line, or reads the whole input as a snapshot, or writes generated lines or their outcome. A
+-- command on records leaves the rows that the lines of the taken bytes leave, read one after the other. Its looks are
+-- at most the sum over these lines; each line counts in the rows that the earlier lines leave. `drill` does the same
+-- with the generated lines. `load` leaves the rows of the snapshot, and none of its looks is counted. If the words
 -- name no command, the usage line is written.
 abbrev pub meaning_of : Option Command → Meaning
 meaning_of (Some (Name command)) = record { reads = true; task = task (name_session command) tt; keeps = NoRows; looks = λ taken. 0 }

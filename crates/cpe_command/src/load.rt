@@ -65,7 +65,7 @@ impl Listener for Load {
     }
 }
 
-// Puts an engine in the place of another one, which is dropped by a call. A drop in place would need a proof here for
+// Puts an engine in the place of another one. A call drops the other one: a drop in place would be proved here, for
 // each part of the engine.
 fn put(state: &mut Engine, engine: Engine)
     ensures { state.new ≡ engine }

@@ -12,9 +12,8 @@ ghost use Rattle.cpe_convert.specs.Growing.{IsGrown, IsWhole};
 use written_records::written_is_read;
 
 /// Converted lines leave the same rows as the lines themselves, if no line is refused because its form is too long.
-/// It doesn't matter which rows there were before. For each record is read again from its form, and a line that says
-/// a refusal is no record. The law asks that each record is whole (`IsWhole`); each record that the program reads is
-/// whole.
+/// It doesn't matter which rows there were before. Each record is read again from its form, and the line of a refusal
+/// is no record. The law asks that each record is whole (`IsWhole`); each record that the program reads is whole.
 pub fn written_rows_stay()
     ensures { (rows : Rows) (ls : List (Option (List ℕ))) → AllByRecursion (λ line. ¬ IsGrown line) ls → AllByRecursion IsWhole ls
         → folded line_edited rows (lines (spoken (speech convert_session tt) ls).text) ≡ folded line_edited rows ls }

@@ -7,14 +7,14 @@ use Rattle.cpe_records.specs.declared.read.Record.TheVariants.{Edit, Query}
 use Rattle.cpe_records.specs.cpe_members.declared.member.RecordFault.{RecordFault}
 use Rattle.cpe_engine.specs.Looks.{edit_looks, looks}
 
--- the looks of a record's edit in these rows, or of its question; a refused edit takes no look, and neither does a
--- line that is no record
+-- the most looks of a record's edit, or of its question, in these rows; a refused edit takes no look, and neither
+-- does a line that is no record
 abbrev pub record_looks : Rows → Result Record RecordFault → ℕ
 record_looks rows (Ok (Edit e)) = edit_looks rows e
 record_looks rows (Ok (Query query)) = looks rows query
 record_looks rows (Err fault) = 0
 
--- the looks of a line; a line without bytes, or a line that is too long, is no record
+-- the most looks of a line; a line without bytes is no record, and neither is a line that is too long
 abbrev pub line_looks : Rows → Option (List ℕ) → ℕ
 line_looks rows None = 0
 line_looks rows (Some []) = 0

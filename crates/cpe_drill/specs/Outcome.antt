@@ -46,13 +46,12 @@ findings rows (Ok (Edit e)) = 0
 findings rows (Ok (Query query)) = found_by (answer rows query)
 findings rows (Err fault) = 0
 
--- the number that a line's record has in these rows; a line without bytes is no record, and its number is 0
+-- `number` of the line's record in these rows; 0 for a line without bytes, which is no record
 abbrev pub for_line : (Rows → Result Record RecordFault → ℕ) → Rows → List ℕ → ℕ
 for_line number rows [] = 0
 for_line number rows (x ∷ xs) = number rows (record_of (x ∷ xs))
 
--- the sum of these numbers over the first n lines; the number of each line is taken in the rows that the earlier
--- lines leave
+-- the sum of `number` over the first n lines; each line counts in the rows that the earlier lines leave
 unfoldable pub summed : (Rows → Result Record RecordFault → ℕ) → ℕ → ℕ
 summed number zero = 0
 summed number (suc n) = summed number n + for_line number (rows_behind n) (generated n)

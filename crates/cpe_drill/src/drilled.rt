@@ -124,7 +124,7 @@ impl Drilled {
         }
     }
 
-    // Adds the entries that an answer found to their count, and drops the answer.
+    // Adds to the count how many entries an answer found, and drops the answer.
     fn find_in(&mut self, reply: Reply) -> Result<(), AllocError>
         ensures ok { OnOk result (self.new ≡ record { engine = self.old.engine; refused = self.old.refused; found = self.old.found + found_by reply }) }
         ensures err { OnErr result (self.new ≡ self.old) }

@@ -27,8 +27,8 @@ const CHECKS: usize = 63;
 ///
 /// Each product has eight lines, in this order: its first version as an entry; its second version as an entry; its
 /// first version as an item; a statement about the second version; the result of a check; the deprecation of the
-/// first version for the second; a search; and a last line. The last line is in turn a question for the verdict of
-/// the statement, or the restoration of the first version.
+/// first version for the second; a search; and a last line. For one product the last line asks for the verdict of the
+/// statement, and for the next product it restores the first version, in turn.
 ///
 /// # Errors
 /// Only if memory runs out.

@@ -124,7 +124,7 @@ pub fn push_deprecation(page: &mut Page, vendor: &[u8], product: &[u8]) -> Resul
     )
 }
 
-/// Appends a search for the vendor's entries whose product begins like this one.
+/// Appends a search for the vendor's entries whose product begins with the text of this product.
 #[tactic(auto, unfolding(crate::specs::Generated::search_record))]
 pub fn push_search(page: &mut Page, vendor: &[u8], product: &[u8]) -> Result<(), AllocError>
     ensures { OnOk result (page.new ≡ page.old ++ search_record vendor.now product.now) }

@@ -15,7 +15,7 @@ use std::alloc::{AllocError, Global};
 use std::mem::replace;
 use std::sync::ledger::Ledger;
 
-// The first `count` generated records. No refused record is written with its reason: refused records are counted.
+// The first `count` generated records. The reasons of refused records are not written: these records are counted.
 #[derive(Clone, Copy)]
 struct Drilling {
     count: u32,

@@ -8,7 +8,7 @@ ghost use Rattle.cpe_drill.specs.Summary.{tally_of, verdicts};
 use cpe_engine::Engine;
 use cpe_rows::Truth;
 
-/// How many of some verdicts are TRUE, FALSE, ERROR and UNKNOWN.
+/// How many verdicts are TRUE, FALSE, ERROR, and UNKNOWN.
 #[derive(Clone, Copy)]
 pub struct Tally {
     pub trues: u64,
@@ -61,7 +61,7 @@ pub fn count_verdicts(engine: &Engine) -> Tally
     told
 }
 
-// The tally, and in it the verdict of the statement at this place.
+// The tally with the verdict of the statement at this place.
 fn with_next(engine: &Engine, place: usize, told: Tally) -> Tally
     requires below { place < length engine.now.statements }
     requires few { place < 2 ^ 64 - 1 }

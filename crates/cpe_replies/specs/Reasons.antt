@@ -1,5 +1,5 @@
--- The reasons for which the line of a record is refused, as text. No line is refused because memory runs out, so this
--- has no text.
+-- The reasons for which the line of a record is refused, as text. If memory runs out, no line is refused, so this
+-- fault has no text.
 use Rattle.std.specs.Prelude.{ℕ, List, [], ◌++◌, codes}
 use Rattle.std.specs.Fmt.{decimal}
 use Rattle.cpe_rows.specs.declared.fault.EditFault.{EditFault}

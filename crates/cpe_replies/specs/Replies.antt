@@ -39,7 +39,7 @@ name_line word name = word ++ name_text name ++ codes "\n"
 abbrev pub row_line : List ℕ → Row → List ℕ
 row_line word row = word ++ name_text row.name ++ codes " " ++ state_word row.state ++ codes "\n"
 
--- the first line of an answer: a word, the name, and a number of lines that follow
+-- the first line of an answer: a word, the name, and the number of entries, or of covered items
 abbrev pub count_line : List ℕ → Values → ℕ → List ℕ
 count_line word name count = word ++ name_text name ++ codes " " ++ decimal count ++ codes "\n"
 
@@ -101,12 +101,12 @@ abbrev pub dropped_id : Edit → Option (List ℕ)
 dropped_id (edit.DropStatement id) = Some id
 dropped_id e = None
 
--- the id of a changed statement: if it has a verdict after the edit, the id at its place; otherwise the id that the
--- edit removed
+-- the id of a changed statement: if it has a verdict after the edit, the id of the statement at its place; otherwise
+-- the id that the edit removed
 abbrev pub changed_id : List Statement → Option (List ℕ) → Changed → List ℕ
 changed_id statements dropped c = option_map_or (λ after. statement_id statements c.place) c.after (option_map_or (λ id. id) dropped [])
 
--- what an accepted edit writes for these changes: the number is that of the edit's line, and `next` are the rows that
--- the edit leaves
+-- what an accepted edit writes for these changes; `number` is the number of the edit's line, and `next` are the rows
+-- that the edit leaves
 abbrev pub changes_text : ℕ → Rows → Edit → List Changed → List ℕ
 changes_text number next e changes = flat_map (λ c. change_line number (changed_id next.statements (dropped_id e) c) c) changes

@@ -15,7 +15,7 @@ use cpe_rows::{Deprecation, EntryRef, State, Wfn};
 use cpe_session::Page;
 use std::alloc::{AllocError, Global};
 
-/// Appends the lines of the answer to a question for a chain to the page, if `links` are the entries of the name's
+/// Appends to the page the lines of the answer to a question for a chain, if `links` are the entries of the name's
 /// chain.
 ///
 /// # Errors

@@ -32,7 +32,7 @@ fn checked_word(checked: Checked) -> &'static [u8]
     }
 }
 
-/// Appends the result of the test of the certificate with this id to the page, as a line.
+/// Appends the line of a certificate's result to the page: the id, and the result of the test.
 ///
 /// # Errors
 /// Only if memory runs out. The page may end with a part of the line then.

@@ -33,7 +33,7 @@ impl Reason for RecordReason {
     }
 }
 
-/// Appends the reason why a line is no record to the page.
+/// Appends to the page the reason why a line is no record.
 ///
 /// # Errors
 /// Only if memory runs out. The page may end with a part of the reason then.

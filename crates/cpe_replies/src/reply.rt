@@ -38,7 +38,7 @@ pub fn push_reply(alloc: Global, page: &mut Page, reply: &Reply) -> Result<(), A
     }
 }
 
-// Appends the first line of an answer: a word, the name, and a number of lines that follow.
+// Appends the first line of an answer: a word, the name, and the number of entries, or of covered items.
 fn push_count(
     alloc: Global,
     page: &mut Page,

@@ -1,5 +1,5 @@
 // An engine can be used after memory ran out. The record at which memory ran out leaves the rows unchanged. If this
-// record is read once more, it is read as if nothing had happened. This also passes if memory never runs out;
+// record is read once more, it is read as if nothing had happened. The test also passes if memory never runs out;
 // `tests/refused-memory.py` refuses each allocation in turn. The tested code is in functions without clauses.
 ghost use Rattle.std.specs.Prelude.{◌≡◌, ◌<◌};
 
@@ -122,7 +122,7 @@ const ASKED: [Said; 10] = [
     ),
 ];
 
-// Rows are removed, while others are added.
+// Records that remove rows, and add others meanwhile.
 const DROPPED: [Said; 17] = [
     Said(br#"{"do":"drop-statement","id":"f"}"#, b"UU"),
     Said(br#"{"do":"drop-statement","id":"f"}"#, b"UU"),
@@ -203,7 +203,7 @@ fn counts_of(engine: &Engine) -> Counts {
 
 // Whether a text is read at the first attempt, or else at the second. If memory runs out, the counts of the rows are
 // unchanged. The comparison takes no memory. (All tests read through this function, because the proof of a function
-// that calls such a method is slow.)
+// that calls `read` is slow.)
 fn reads_again<L: Ledger>(
     alloc: Global,
     drilled: &mut Drilled,
@@ -241,7 +241,7 @@ fn is_told(drilled: &Drilled) -> bool {
     drilled.refused == 5 && drilled.found == 8 && counts_of(&drilled.engine) == LEFT
 }
 
-// (The engine is left where it is. Otherwise the drop of all that it owns would be proved here again.)
+// (The engine is not dropped. Otherwise the drop of all that it owns would be proved here again.)
 fn goes_on_over<L: Ledger>(alloc: Global, blank: Blank) -> bool
     requires name { blank.name ≡ L.name }
     requires parts { blank.parts ≡ L.parts }

@@ -1,5 +1,5 @@
-// A call of `drop` drops each name, which proves quickly. At the end of a scope, the proof would drop each of its
-// eleven values in place.
+// A call of `drop` drops each name, because this proves quickly. At the end of a scope, the proof would drop each of
+// its eleven values in place.
 ghost use Rattle.std.specs.Prelude.{◌≡◌, []};
 
 use cpe_fs::lend_fs;

@@ -28,7 +28,7 @@ other_form Unbind text = or_place (unbound_any text)
 other_form BindFs text = or_wfn (bound text)
 other_form BindUri text = or_wfn (bound_uri text)
 
--- a text as a line; a refusal is unchanged
+-- the text as a line; or the refusal
 abbrev pub as_line : {Why : Type 0} → Result (List ℕ) Why → Result (List ℕ) Why
 as_line (Ok text) = Ok (text ++ codes "\n")
 as_line (Err why) = Err why

@@ -157,8 +157,8 @@ fn put_line(room: &mut [u8], at: usize, whole: Relation, each: &Relations) -> us
     put_byte(room, behind_each, b'\n')
 }
 
-// Writes the relations of all eleven attributes into the room, each after a space. For most names all relations after
-// the version are EQUAL. Then one call writes all of these.
+// Writes the relations of all eleven attributes into the room, each after a space. If all relations after the version
+// are EQUAL, as for most names, one call writes these.
 fn put_all(room: &mut [u8], at: usize, relations: &Relations) -> usize
     requires { at + WORD * length attributes ≤ length room.old }
     ensures within { result ≤ at + WORD * length attributes }
@@ -213,7 +213,7 @@ fn put_each(room: &mut [u8], at: usize, relations: &Relations, which: &[Attribut
     end
 }
 
-// Writes a space and the word of a relation into the room. Each case writes a word whose length is fixed.
+// Writes a space and the word of a relation into the room. Each case writes a word of fixed length.
 #[inline(always)]
 fn put_word(room: &mut [u8], at: usize, relation: Relation) -> usize
     requires { at + WORD ≤ length room.old }

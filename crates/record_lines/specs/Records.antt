@@ -26,8 +26,8 @@ use Rattle.record_lines.specs.Checking.{checked}
 use Rattle.record_lines.specs.declared.records.RecordCommand.{RecordCommand}
 use Rattle.record_lines.specs.declared.records.RecordCommand.TheVariants.{Evaluate, Watch, Explain, Check, Save}
 
--- what an accepted edit writes: under `watch` the verdicts that it changes, otherwise nothing; the number is that of
--- the edit's line, and `next` are the rows that the edit leaves
+-- what an accepted edit writes: under `watch` the verdicts that it changes, otherwise nothing; `number` is the number
+-- of the edit's line, and `next` are the rows that the edit leaves
 abbrev pub edit_text : RecordCommand → ℕ → Rows → edit.Edit → Rows → List ℕ
 edit_text Watch number rows e next = changes_text number next e (changes rows e)
 edit_text command number rows e next = []
@@ -53,8 +53,8 @@ abbrev pub proof_in : RecordCommand → List ℕ → Result (Option Proof) Proof
 proof_in Check text = proof_of text
 proof_in command text = Ok None
 
--- the result of the test of the line's certificate, in these rows; a line that is no certificate says what its record
--- says
+-- for a line with a certificate, the result of its test in these rows; for a line that isn't meant as a certificate,
+-- what its record says; otherwise the reason why the certificate's form is wrong
 abbrev pub by_proof : Rows → Result (Option Proof) ProofFault → Saying Rows → Saying Rows
 by_proof rows (Ok (Some p)) record_says = Ok (checked_line p.id (checked rows p), rows)
 by_proof rows (Ok None) record_says = record_says

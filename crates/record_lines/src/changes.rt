@@ -15,7 +15,7 @@ use engine_snapshot::Engine;
 use std::alloc::{AllocError, Global};
 use std::sync::ledger::Ledger;
 
-/// Applies an edit, and appends the verdicts that it changes to the page. If the edit can't be applied, returns why.
+/// Applies an edit, and appends its changed verdicts to the page. If the edit can't be applied, returns why.
 #[inline(never)]
 pub(crate) fn say_changes<L: Ledger>(
     alloc: Global,
@@ -40,7 +40,8 @@ pub(crate) fn say_changes<L: Ledger>(
     }
 }
 
-// Does the same. `dropped` is the id of the statement that the edit removes, if it removes one.
+// Applies an edit as `say_changes` does. `dropped` is the id of the statement that the edit removes, if it removes
+// one.
 fn say_applied<L: Ledger>(
     engine: &mut Engine,
     page: &mut Page,

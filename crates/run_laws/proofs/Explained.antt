@@ -1,4 +1,4 @@
--- What `explain` writes of a statement is a line that `check` calls good.
+-- If `explain` writes a certificate, `check` says that this certificate holds.
 use Rattle.std.proofs.Common.{◌≡◌, ℕ, ◌+◌, List, [], ◌∷◌, ◌++◌, Bool, true, false, map, Option, Some, None, codes, if◌then◌else◌, inl, inr, refl, sym, ap, ◌∙◌, subst, append_assoc, append-nil, length, drop, not, get_or, arith, IsUtf8}
 use Rattle.std.specs.Prelude.{Result, Ok, find}
 use Rattle.std.specs.List.{flat_map, list_any, AllByRecursion}
@@ -113,7 +113,7 @@ abbrev has_bytes : List ℕ → Bool
 has_bytes [] = false
 has_bytes (x ∷ xs) = true
 
--- it begins with a brace
+-- the text of a certificate has bytes: it begins with a brace
 text_has_bytes : (p : Proof) → has_bytes (proof_text p) ≡ true
 unfolding proof_text print_from
 text_has_bytes p = refl
@@ -127,7 +127,7 @@ line_checked : (rows : Rows) (number : ℕ) (text : List ℕ) (p : Proof) → pr
 line_checked rows number [] p is some = let wrong : ⊥ = cc in absurd wrong
 line_checked rows number (x ∷ xs) p is some = by_certificate rows number (x ∷ xs) p (proof_of (x ∷ xs)) is
 
--- a line that is said to hold
+-- if `check` says that a line's certificate holds, the result of its test is that it holds
 by_bytes : (rows : Rows) (number : ℕ) (line : List ℕ) (p : Proof) → proof_of line ≡ Ok (Some p)
     → writes false number (line_says (record_session Check) rows number (Some line)) ≡ checked_line p.id Holds → checked_line p.id (checked rows p) ≡ checked_line p.id Holds
 by_bytes rows number [] p is holds = let wrong : ⊥ = cc in absurd wrong

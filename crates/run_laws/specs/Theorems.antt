@@ -1,5 +1,5 @@
--- Theorems about two runs of the program together: one saves a snapshot and another loads it, one converts lines and
--- another reads them, or one writes certificates and another checks them. Each theorem is about what `run` writes for
+-- Theorems about runs of the program together: one run saves a snapshot and another loads it; one converts lines and
+-- another reads them; one writes certificates and another checks them. Each theorem is about what `run` writes for
 -- words of the command line, by their meaning (`cpe_command`).
 use Rattle.std.specs.Prelude.{◌≡◌, ℕ, List, [], ◌∷◌, ◌++◌, map, codes, find, Some, Ok}
 use Rattle.std.specs.declared.option.Option.{Option}
@@ -78,7 +78,7 @@ ConvertedIsSame =
 abbrev pub check_writes : List (Option (List ℕ)) → Option (List ℕ) → List ℕ
 check_writes before line = next_writes (record_session Check) (stage_after (record_session Check) (start no_rows) before) line
 
--- the output of `check` begins with what it writes for those lines, and then has what it writes for this line
+-- the output of `check` begins with what it writes for the lines before, and then has what it writes for this line
 pub record StandsIn (before : List (Option (List ℕ))) (line : Option (List ℕ)) (text : List ℕ) : Type 0 where
   pub later : List ℕ
   pub is : text ≡ out_from (record_session Check) (start no_rows) before ++ (check_writes before line ++ later)

@@ -22,8 +22,8 @@ pub fn converted_is_same()
     cpe_records::json_law::prints_are_texts();
 }
 
-/// What `explain` writes for an input ends with certificates. If `check` reads the same input and then these
-/// certificates, it says of each that it holds.
+/// `check` says of each certificate at the end of the output of `explain` that it holds. For this, `check` reads the
+/// input of `explain`, and then these certificates.
 pub fn explained_is_checked()
     ensures { ExplainedIsChecked }
 {

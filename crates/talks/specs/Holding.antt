@@ -9,7 +9,7 @@ use Rattle.talks.specs.Told.{Tells}
 use Rattle.talks.specs.declared.talk.Talk.{Talk}
 use Rattle.talks.specs.Beginning.{answers_lines, Opens, words_of}
 
--- C keeps a session before the call, and one after it; these two and the result are related so
+-- C keeps a session before the call, and one after it; `Does` relates these two and the result
 abbrev pub Moves : Option Talk → Option Talk → (Talk → Talk → Told → Type 0) → Answer → Type 0
 Moves None now Does answer = ⊥
 Moves (Some old) None Does answer = ⊥

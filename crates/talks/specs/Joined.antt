@@ -19,8 +19,8 @@ bytes_of = flat_map (λ both. both.0 ++ 10 ∷ [])
 abbrev pub answers : List (List ℕ × List ℕ) → List ℕ
 answers = flat_map (λ both. both.1)
 
--- `first` is what the session would write before these lines, `last` what it would write after them, by the lines
--- that follow. For each of these lines the session wrote its answer: before the line, it would write this answer, and
+-- `first` gives what the session would write before these lines, for any lines that follow. `last` gives the same
+-- after these lines. Each of these lines got its answer: before the line, the session would write this answer, and
 -- then what it would write after the line.
 abbrev pub IsAnswered : List (List ℕ × List ℕ) → (List (Option (List ℕ)) → Transcript) → (List (Option (List ℕ)) → Transcript) → Type 0
 IsAnswered [] first last = (more : List (Option (List ℕ))) → first more ≡ last more

@@ -20,8 +20,8 @@ Says old new piece room room_now told =
     Fits new.progress.page room room_now told × (new.phase ≡ Open)
     × ((more : List (Option (List ℕ))) → goes_on old.speaking old.progress (line_of piece ∷ more) ≡ behind new.progress.page (goes_on new.speaking new.progress more))
 
--- The buffer gets what the session writes if no line follows, or its length is returned. The number is that of the
--- status. Or memory ran out, and the session is broken.
+-- The buffer gets what the session writes if no line follows, or its length is returned. `number` is the number of
+-- the status. Or memory ran out, and the session is broken.
 abbrev pub Ends : Talk → Talk → List ℕ → List ℕ → ℕ → Told → Type 0
 Ends old new room room_now number Memory = new.phase ≡ Broken
 Ends old new room room_now number told =

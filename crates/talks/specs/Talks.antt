@@ -22,7 +22,7 @@ spoken_from session s ls = record {
   status = status_of (stage_after session s ls).refused;
 }
 
--- the same for a session's command and state, after this progress
+-- what the session's command writes for these lines and at their end, from this state and progress on, and the status
 abbrev pub goes_on : Speaking → Progress → List (Option (List ℕ)) → Transcript
 goes_on (Name command) progress = spoken_from (name_session command) (stage_of progress tt)
 goes_on Compare progress = spoken_from pair_session (stage_of progress tt)

@@ -1,4 +1,4 @@
--- The result of a call as C gets it: for a text, or for a number.
+-- The results of calls, as C gets them.
 use Rattle.std.specs.Prelude.{◌≡◌, ℕ, ◌<◌, List, Ok, Err, length, take}
 use Rattle.std.specs.declared.result.Result.{Result}
 use Rattle.talks.specs.declared.told.Told.{Told}
@@ -46,6 +46,6 @@ Gives (Err at) room room_now told = ⊥
 Gives (Ok text) room room_now Memory = Unit {0}
 Gives (Ok text) room room_now told = Fits text room room_now told
 
--- C gets the code and the number of a result of which this is true
+-- C gets the code and the number of a result, and this is true for the result
 abbrev pub Tells : (Told → Type 0) → Answer → Type 0
 Tells IsSo answer = (told : Told) × (answer ≡ in_c told) × IsSo told

@@ -36,7 +36,7 @@ fn speaking_of(alloc: Global, word: &[u8], second: &[u8]) -> Option<Speaking>
     }
 }
 
-// The same for a command that one word names.
+// The command that one word names, with its state before the first line.
 fn of_one_word(alloc: Global, word: &[u8]) -> Option<Speaking>
     ensures { result ≡ begins (command_of (word.now ∷ [])) }
 {

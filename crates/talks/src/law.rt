@@ -7,9 +7,9 @@ ghost use Rattle.talks.specs.Joined.{AreLines, IsAnswered, answers, bytes_of};
 ghost use Rattle.talks.specs.Talks.{behind};
 
 /// The answers to the lines of a session, and then the answer at its end, are together what a run writes for these
-/// lines, each with its newline. The law asks three things. At first the session would write what the run writes
-/// (`Opens`). Each call answers one of the lines (`TakesLine`). The last call writes what the session would write if
-/// no line follows (`TakesEnd`).
+/// lines, each with its newline. Three contracts give what the law needs. At first the session would write what the
+/// run writes (`Opens`). Each call answers one of the lines (`TakesLine`). The last call writes what the session
+/// would write if no line follows (`TakesEnd`).
 pub fn joined_answers()
     ensures { (words : List (List ℕ)) (first last : List (Option (List ℕ)) → Transcript) (said : List (List ℕ × List ℕ))
         → ((bytes : List ℕ) → Says (meaning words).task bytes (first (lines bytes))) → AreLines said → IsAnswered said first last

@@ -5,7 +5,8 @@ ghost use Rattle.talks.specs.Told.{code_of, in_c, number_of};
 /// The result of a call.
 #[derive(Clone, Copy)]
 pub enum Told {
-    /// The call was done. The number is the length of the text that was written, or what the call says about it.
+    /// The call was done. The number is the length of the text that was written, or another number that the call
+    /// defines.
     Done(usize),
     /// The text is longer than the buffer, and nothing was written. The number is the length of the text.
     Short(usize),
