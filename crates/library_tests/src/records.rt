@@ -76,7 +76,7 @@ fn copy_denies_both(alloc: Global, statement: &Statement) -> bool {
     }
 }
 
-// ---- both
+// ---- the entry and the statement
 
 fn holds(alloc: Global, record: &Record) -> bool {
     match record {

@@ -12,7 +12,7 @@ use Rattle.cpe_relation.specs.Table.{relation}
 use Rattle.cpe_relation.specs.NameRelation.{Relations, relation_of, name_relation}
 use Rattle.name_lines.specs.Pairs.{relation_text, later_texts, relation_line}
 
--- relations that are known by their attributes have the words of these relations
+-- if each attribute has the relation of its two values, the words are the words of these relations
 pub each_text : (r : Relations) (a b : Values) → ((w : Attribute) → relation_of r w ≡ relation (value_of a w) (value_of b w)) → (ws : List Attribute)
     → flat_map (λ w. 32 ∷ relation_text (relation_of r w)) ws ≡ later_texts (map (λ w. relation (value_of a w) (value_of b w)) ws)
 each_text r a b each [] = refl

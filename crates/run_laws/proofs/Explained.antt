@@ -63,7 +63,7 @@ found_at (x ∷ xs) s differ (inr m) =
     let other : has_id s.id x ≡ false = other_bytes s.id x.id (not_element (has_id x.id) xs (not-true (list_any (has_id x.id) xs) parts.0) s m) in
     ap (λ b. if b then Some x else find (has_id s.id) xs) other ∙ found_at xs s parts.1 m
 
--- ---- what is said of a certificate
+-- ---- the result of the test of a certificate
 
 abbrev said_of : Rows → Why → Option Statement → Checked
 said_of rows w o = option_map_or (λ s. if test_passes rows s.mode s.test w then Holds else Fails) o Absent
@@ -88,7 +88,7 @@ module _ (right : GoodProofsAreRight) (rows : Rows) (lawful : IsLawful rows) (p 
   unfolding checked
   has_verdict holds = by_statement (find (has_id p.id) rows.statements) refl holds
 
--- ---- what is written of it
+-- ---- the line of a result
 
 cancel : (front a b : List ℕ) → front ++ a ≡ front ++ b → a ≡ b
 cancel front a b e = sym (drop_at front a (length front) refl) ∙ ap (drop (length front)) e ∙ drop_at front b (length front) refl
@@ -206,7 +206,7 @@ lines_are_checked_in_turn input it before more line h splits =
           ∙ out_from-append session (start no_rows) before (line ∷ more);
     }
 
--- ---- what holds
+-- ---- a certificate that holds
 
 pub held_is_verdict : GoodProofsAreRight → HeldIsVerdict
 held_is_verdict right before line p is holds =

@@ -27,7 +27,7 @@ use Rattle.run_laws.proofs.Folded.{rows_kept}
 pub rows_after : (command : RecordCommand) (ls : List (Option (List ℕ))) → (stage_after (record_session command) (start no_rows) ls).state ≡ rows_of ls
 rows_after command ls = state-folded (record_session command) line_edited (edits-lines command) (start no_rows) ls
 
--- ---- nothing is written for a line
+-- ---- `save` writes nothing for a line
 
 step_quiet : (number : ℕ) (r : Result Rows EditFault) → writes true number (by_step (λ next. []) r) ≡ []
 step_quiet number (Ok next) = refl

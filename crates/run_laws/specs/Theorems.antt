@@ -108,7 +108,7 @@ ExplainedIsChecked =
     → Writes (codes "explain") input explained → lines both ≡ lines input ++ certificates (rows_of (lines input)) → Writes (codes "check") both checked
     → EndsWithCertificates input explained × EndsWithHolds input checked
 
--- ---- what holds is the verdict
+-- ---- a certificate that holds has the verdict
 
 -- a statement has the certificate's id, the certificate is good for this statement, and the truth of the certificate
 -- is the statement's verdict
