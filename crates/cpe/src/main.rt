@@ -9,7 +9,7 @@ use std::marker::Brand;
 use std::process::ExitCode;
 use std::sync::ledger::{Blank, Ledger};
 
-/// The status where the system doesn't give the words of the command line, or has no memory for them.
+/// The exit status if the system doesn't give the words of the command line, or has no memory for them.
 const NO_WORDS: u8 = 7;
 
 fn main(rt: HostRuntime) -> ExitCode {
@@ -22,7 +22,7 @@ fn main(rt: HostRuntime) -> ExitCode {
     ExitCode::from(status_of::<Brand>(&rt, &words, Blank::new(1)))
 }
 
-// Runs over the standard streams, and counts steps in a ledger of its own.
+// Runs the program over the standard streams, and counts looks in a ledger of its own.
 fn status_of<L: Ledger>(rt: &HostRuntime, words: &[String], blank: Blank) -> u8
     requires name { blank.name ≡ L.name }
     requires parts { blank.parts ≡ L.parts }
@@ -40,7 +40,8 @@ fn status_of<L: Ledger>(rt: &HostRuntime, words: &[String], blank: Blank) -> u8
         &mut engine,
         &mut steps,
     );
-    // The process ends here: to give back the memory of each row would take a tenth of the time of a long load.
+    // The process ends here, so the system takes the memory back. To free each row would take a tenth of the time of
+    // a long load.
     engine.leave();
     status.number()
 }

@@ -5,10 +5,10 @@ ghost use Rattle.talks.specs.Told.{Gives, Tells};
 use std::alloc::Global;
 use talks::{Answer, Form, give_form};
 
-/// Writes the text of the name that has this formatted string or URI (NIST IR 7695, 6.1.3 and 6.2.3).
+/// Writes into `out` the text of the well-formed name that has this formatted string or URI (NIST IR 7695, 6.1.3 and
+/// 6.2.3). If no name has the text, the number of the result is the place of the refusal.
 ///
-/// Where no name has it the place of the refusal is told. Where the text that is written is longer than `out`, nothing is
-/// written, and its length is told.
+/// If the text to write is longer than `out`, nothing is written, and the number is the length of this text.
 #[unsafe(no_mangle)]
 pub extern "C" fn cpe_c_unbind(alloc: Global, text: &[u8], out: &mut [u8]) -> Answer
     ensures { Tells (Gives (form_of Form.Wfn text.now) out.old out.new) result }
@@ -16,7 +16,10 @@ pub extern "C" fn cpe_c_unbind(alloc: Global, text: &[u8], out: &mut [u8]) -> An
     give_form(alloc, Form::Wfn, text, out).in_c()
 }
 
-/// Writes the formatted string of the name that has this text (NIST IR 7695, 6.2.2). A refusal has no place; 0 is told.
+/// Writes into `out` the formatted string of the well-formed name that has this text (NIST IR 7695, 6.2.2). If no
+/// name has the text, the number of the result is 0, because the refusal has no place.
+///
+/// If the formatted string is longer than `out`, nothing is written, and the number is the length of the string.
 #[unsafe(no_mangle)]
 pub extern "C" fn cpe_c_bind_fs(alloc: Global, text: &[u8], out: &mut [u8]) -> Answer
     ensures { Tells (Gives (form_of Form.Fs text.now) out.old out.new) result }
@@ -24,7 +27,10 @@ pub extern "C" fn cpe_c_bind_fs(alloc: Global, text: &[u8], out: &mut [u8]) -> A
     give_form(alloc, Form::Fs, text, out).in_c()
 }
 
-/// Writes the canonical URI of the name that has this text (NIST IR 7695, 6.1.2). A refusal has no place; 0 is told.
+/// Writes into `out` the canonical URI of the well-formed name that has this text (NIST IR 7695, 6.1.2). If no name
+/// has the text, the number of the result is 0, because the refusal has no place.
+///
+/// If the URI is longer than `out`, nothing is written, and the number is the length of the URI.
 #[unsafe(no_mangle)]
 pub extern "C" fn cpe_c_bind_uri(alloc: Global, text: &[u8], out: &mut [u8]) -> Answer
     ensures { Tells (Gives (form_of Form.Uri text.now) out.old out.new) result }

@@ -1,4 +1,4 @@
-// Calls that tell how two names relate.
+// Calls that say how two names are related.
 ghost use Rattle.talks.specs.cpe_uri.EitherBinding.{read_any};
 ghost use Rattle.talks.specs.Pairs.{Covers, IsRelated};
 ghost use Rattle.talks.specs.Told.{Tells};
@@ -6,8 +6,9 @@ ghost use Rattle.talks.specs.Told.{Tells};
 use std::alloc::Global;
 use talks::{Answer, RelationNumbers, relate, tell_covers};
 
-/// Tells how two names relate, formatted strings or URIs (NIST IR 7696, 6). Where no name has a text, `numbers` stay as they
-/// were.
+/// Writes the relations of two names into `numbers` (NIST IR 7696, 6). Each text is a formatted string or a URI. If
+/// no name has a text, the number of the result is the place of the refusal. After any code except 0, `numbers` is
+/// unchanged.
 #[unsafe(no_mangle)]
 pub extern "C" fn cpe_c_relate(
     alloc: Global,
@@ -20,7 +21,8 @@ pub extern "C" fn cpe_c_relate(
     relate(alloc, source, target, numbers).in_c()
 }
 
-/// Tells whether the first name covers the second: the number is 1 where it does, and else 0 (NIST IR 7696, 6).
+/// The number 1 if the first name covers the second, and the number 0 if it doesn't (NIST IR 7696, 6). Each text is a
+/// formatted string or a URI. If no name has a text, the number is the place of the refusal.
 #[unsafe(no_mangle)]
 pub extern "C" fn cpe_c_covers(alloc: Global, source: &[u8], target: &[u8]) -> Answer
     ensures { Tells (Covers (read_any source.now) (read_any target.now)) result }

@@ -1,4 +1,4 @@
-// Sessions that C holds. C gives back what these calls left in `kept`, and nothing else.
+// Sessions that C keeps. C passes to these calls only what they left in `kept`.
 ghost use Rattle.std.specs.Prelude.{◌≡◌, ◌<◌, IsSome, None};
 ghost use Rattle.talks.specs.Told.{Tells};
 ghost use Rattle.talks.specs.Holding.{Begins, Moves};
@@ -10,9 +10,10 @@ use std::mem::replace;
 use std::sync::ledger::{Blank, Ledger};
 use talks::{Answer, KeptTalk, Steps, Talk, Told, end, keep_begun, let_go, repeat, say};
 
-/// Begins a session of the command that a word names, or two; the second is empty where there is one alone. It answers lines as
-/// a run of this command does. Where it doesn't begin, `kept` stays as it was. It keeps none before, since a session that it kept
-/// would not be let go.
+/// Begins a session of the command that one word names, or two words, and keeps the session in `kept`. `second` is
+/// empty if one word names the command. The session answers lines as a run of this command does. If no session
+/// begins, `kept` is unchanged. `kept` must have no session before the call, because that session would not be
+/// dropped.
 #[unsafe(no_mangle)]
 pub extern "C" fn cpe_c_begin(
     alloc: Global,
@@ -26,9 +27,10 @@ pub extern "C" fn cpe_c_begin(
     keep_begun(alloc, word, second, kept).in_c()
 }
 
-/// Answers a line: `out` has the bytes that a run would have written for it. Where they are more than `out` has room for, none
-/// is written there, and their number is told; [`cpe_c_again`] gives them. A text with a newline is no line, and a session that ended, or in
-/// which memory ran out, takes none: both are told, and change nothing.
+/// Answers a line: `out` has the bytes that a run would have written for it. If `out` is too short for them, nothing
+/// is written, and the number of the result is their length; [`cpe_c_again`] writes them. A text with a newline is no
+/// line. A session takes no line if it ended before, or if memory ran out in it before. In these cases the session is
+/// unchanged, and the code says why.
 #[unsafe(no_mangle)]
 pub extern "C" fn cpe_c_line(
     alloc: Global,
@@ -45,7 +47,7 @@ pub extern "C" fn cpe_c_line(
     told.in_c()
 }
 
-// Steps are counted in a ledger of its own.
+// Answers a line, and counts looks in a ledger of its own.
 fn say_counted<L: Ledger>(
     alloc: Global,
     talk: &mut Talk,
@@ -62,8 +64,9 @@ fn say_counted<L: Ledger>(
     say(alloc, talk, piece, out, &mut steps)
 }
 
-/// Ends a session: `out` has the bytes that a run would have written at the end of these lines, as [`cpe_c_line`] gives them, and
-/// `status` is its exit status. A session that ended before, or in which memory ran out, is over, and nothing changes.
+/// Ends a session: `out` has the bytes that a run would have written at the end, and `status` is the exit status of
+/// that run. If `out` is too short, nothing is written, and the number of the result is the length of the bytes. If
+/// the session ended before, or memory ran out in it before, the session and `status` are unchanged.
 #[unsafe(no_mangle)]
 pub extern "C" fn cpe_c_end(
     alloc: Global,
@@ -96,7 +99,8 @@ fn end_counted<L: Ledger>(
     end(alloc, talk, out, status, &mut steps)
 }
 
-/// Gives the last answer again.
+/// Writes the last answer into `out` again, unless memory ran out in the session. If `out` is too short, nothing is
+/// written, and the number of the result is the length of the bytes.
 #[unsafe(no_mangle)]
 pub extern "C" fn cpe_c_again(alloc: Global, kept: &mut KeptTalk, out: &mut [u8]) -> Answer
     requires { IsSome kept.old.value }
@@ -108,7 +112,7 @@ pub extern "C" fn cpe_c_again(alloc: Global, kept: &mut KeptTalk, out: &mut [u8]
     told.in_c()
 }
 
-/// Lets a session go.
+/// Drops a session. Then `kept` has none.
 #[unsafe(no_mangle)]
 pub extern "C" fn cpe_c_close(alloc: Global, kept: &mut KeptTalk)
     requires { IsSome kept.old.value }

@@ -1,4 +1,4 @@
--- When a word is a count.
+-- Which words are counts.
 use Rattle.std.proofs.Common.{◌≡◌, ℕ, ◌<◌, Bool, true, false, ◌&&◌, if◌then◌else◌, nat_le, List, [], ◌∷◌, length, get_or, Option, Some, None, Ok, Err, ◌≢◌, refl, sym, ap, ◌∙◌, arith}
 use Rattle.std.specs.Str.{all_ascii_digits}
 use Rattle.std.specs.Str.Parse.{digits_value, ParsesUnsigned}
@@ -22,18 +22,18 @@ pick-none true true true n differ = absurd (differ refl refl)
 numerals : IsNumeralModel (λ ds. all_ascii_digits ds ≡ true) (digits_value 10)
 numerals = numerals_by_value _ tells_all_ascii_digits
 
--- a word that begins so has no sign
+-- a word that begins with a digit other than zero has no sign, and has at least one byte
 begins-digit : (word : List ℕ) → begins_count word ≡ true → (get_or word 0 0 ≢ 43) × (0 < length word)
 begins-digit [] begins = absurd (cc)
 begins-digit (c ∷ cs) begins = (λ plus. grind (arith, nat_tests), omega arith)
 
--- one that doesn't begin so is none
+-- a word that doesn't begin with a digit other than zero is no count
 pub count_of-other : (word : List ℕ) → begins_count word ≡ false → None ≡ count_of word
 unfolding count_of
 count_of-other word none = sym (ap (λ b. pick b (all_ascii_digits word) (nat_le (digits_value 10 word) MOST_LINES) (digits_value 10 word)) none)
 
 module _ (word : List ℕ) (begins : begins_count word ≡ true) where
-  -- one that was read is that number, where it is below the bound
+  -- if a word that begins so is read as a number that isn't too large, the word is the count of this number
   pub count_of-read : (n : ℕ) → ParsesUnsigned {E = ℕ} 32 10 word (Ok n) → (if nat_le n MOST_LINES then Some n else None) ≡ count_of word
   unfolding count_of
   count_of-read n read =
@@ -41,7 +41,7 @@ module _ (word : List ℕ) (begins : begins_count word ≡ true) where
       ap (λ k. if nat_le k MOST_LINES then Some k else None) plain.1
       ∙ sym (pick-some (begins_count word) (all_ascii_digits word) (nat_le (digits_value 10 word) MOST_LINES) (digits_value 10 word) begins plain.0.0)
 
-  -- and one that wasn't is none
+  -- if a word that begins so can't be read as a number, it is no count
   pub count_of-unread : ParsesUnsigned {E = ℕ} 32 10 word (Err 0) → None ≡ count_of word
   unfolding count_of
   count_of-unread read =

@@ -1,4 +1,4 @@
--- What is said of a snapshot is one thing, and it was written.
+-- The input determines what `load` writes, and this was written.
 use Rattle.std.proofs.Common.{◌≡◌, ℕ, ◌<◌, ◌≤◌, length, arith, List, [], ◌++◌, Option, Some, refl, sym, ap, ◌∙◌, inl, inr, subst, append_assoc}
 use Rattle.cpe_io.specs.Writes.{AppendsPrefix}
 use Rattle.cpe_rows.specs.Lawful.{IsLawful}
@@ -14,7 +14,7 @@ use Rattle.cpe_session.proofs.Pouring.{Pours-put, Pours-trans}
 use Rattle.cpe_session.proofs.Runs.{Answers-written}
 use Rattle.cpe_command.specs.Loading.{IsNoSnapshot, load_says, LoadLeaves, refusal_told, state_told}
 
--- of a state nothing else is said, since its snapshot is no other's
+-- for the snapshot of lawful rows nothing else can be written, because it is the snapshot of no other rows
 told_only : (rows : Rows) (bytes : List ℕ) → StatesAreClear → IsLawful rows → Snap rows bytes
     → (it : Transcript) → load_says bytes it → it ≡ state_told rows
 told_only rows bytes clear lawful snap it (inl tells) = tells.told ∙ ap state_told (clear tells.rows rows bytes tells.snap snap)
@@ -45,7 +45,7 @@ module _ {held held_now : Option (List ℕ)} (status : Status) where
   Answers-refusal bytes none ran =
       Answers-written {all = refusal_told} {Says_it = load_says bytes} status ran refused_is_not_usage (inr (none, refl)) (refused_only bytes none)
 
--- what is longer than any snapshot is none
+-- more bytes than any snapshot has are no snapshot
 pub too_long : (bytes : List ℕ)
     → ((rows : Rows) (bytes : List ℕ) → IsLawful rows → Snap rows bytes → length bytes ≤ most_bytes)
     → most_bytes < length bytes → IsNoSnapshot bytes
@@ -62,7 +62,7 @@ state_left ending.WriteFault first now bytes snap ran = inr snap
 state_left ending.Memory first now bytes snap ran = inr snap
 state_left ending.Endless first now bytes snap ran = absurd ran.stands.0
 
--- the first ones are left
+-- the first rows are left
 pub first_left : {held held_now : Option (List ℕ)} (status : Status) (first : Rows) (bytes : List ℕ)
     → Ran (Some []) (Some []) held held_now (Fixed refusal_told) Anything status → LoadLeaves first first bytes status
 first_left ending.Done first bytes ran = absurd (done_is_not_refused (ap (λ (it : Transcript). it.status) ran.stands.0))
@@ -74,10 +74,10 @@ first_left ending.Memory first bytes ran = inl refl
 first_left ending.Endless first bytes ran = absurd ran.stands.0
 
 module _ {held held_now : Option (List ℕ)} (page page_then text more : List ℕ) (put : page_then ≡ page ++ text) where
-  -- one text was put, and then another poured
+  -- if one text was appended to the page, and then another, both were appended
   pub Pours-put_more : {page_now : List ℕ} → Pours held held_now page_then page_now more → Pours held held_now page page_now (text ++ more)
   Pours-put_more pours = Pours-trans (Pours-put held page page_then text put) pours
 
-  -- or a prefix of it
+  -- if a prefix of the page and the second text was written, it is a prefix of both texts after the earlier page
   pub prefix_put_more : AppendsPrefix held held_now (page_then ++ more) → AppendsPrefix held held_now (page ++ (text ++ more))
   prefix_put_more = subst (λ (l : List ℕ). AppendsPrefix held held_now l) (ap (λ (l : List ℕ). l ++ more) put ∙ append_assoc page text more)

@@ -1,4 +1,4 @@
--- What is said of a whole input under `load`, and which rows it leaves.
+-- What `load` writes for an input, and which rows it leaves.
 use Rattle.std.specs.Prelude.{◌≡◌, ◌⊎◌, ℕ, List, [], ◌∷◌, ◌++◌, codes}
 use Rattle.std.specs.List.{flat_map}
 use Rattle.cpe_rows.specs.Counts.{counts_of}
@@ -12,13 +12,13 @@ use Rattle.cpe_session.specs.declared.status.Status.TheVariants.{Done, SomeRefus
 use Rattle.cpe_drill.specs.Summary.{number_line}
 use Rattle.cpe_convert.specs.cpe_replies.Replies.{verdict_table}
 
--- how many rows there are of each kind, a line each
+-- the number of rows of each kind, a line for each
 abbrev pub counts_text : Counts → List ℕ
 counts_text counts =
     flat_map (λ (line : List ℕ × ℕ). number_line line.0 line.1)
     ((codes "entries", counts.entries) ∷ (codes "deprecated", counts.deprecated) ∷ (codes "items", counts.items) ∷ (codes "statements", counts.statements) ∷ (codes "checks", counts.checks) ∷ [])
 
--- then the table of verdicts
+-- the numbers of rows, and then the table of verdicts
 abbrev pub state_text : Rows → List ℕ
 state_text rows = counts_text (counts_of rows) ++ verdict_table rows
 
@@ -28,23 +28,23 @@ state_told rows = record { text = state_text rows; status = Done }
 abbrev pub refusal_told : Transcript
 refusal_told = record { text = codes "refused snapshot\n"; status = SomeRefused }
 
--- these bytes are the snapshot of this lawful state, which is told
+-- the bytes are the snapshot of these lawful rows, and the transcript has the counts and verdicts of the rows
 pub record TellsState (bytes : List ℕ) (it : Transcript) : Type 0 where
   pub rows : Rows
   pub lawful : IsLawful rows
   pub snap : Snap rows bytes
   pub told : it ≡ state_told rows
 
--- they are the snapshot of no lawful state
+-- the bytes are the snapshot of no lawful rows
 abbrev pub IsNoSnapshot : List ℕ → Type 0
 IsNoSnapshot bytes = (rows : Rows) → IsLawful rows → Snap rows bytes → ⊥
 
--- what is said of these bytes
+-- what `load` writes for these bytes
 abbrev pub load_says : List ℕ → Transcript → Type 0
 load_says bytes it = TellsState bytes it ⊎ (IsNoSnapshot bytes × (it ≡ refusal_told))
 
--- the rows at each status: those whose snapshot the bytes are; or the first ones where they are none, and where memory ran out or a write failed
--- either
+-- which rows are left at each status: the rows of the snapshot if all was done; the first rows if the input is no
+-- snapshot; either of these if memory ran out or a write failed
 abbrev pub LoadLeaves : Rows → Rows → List ℕ → Status → Type 0
 LoadLeaves first now bytes Done = Snap now bytes
 LoadLeaves first now bytes SomeRefused = now ≡ first

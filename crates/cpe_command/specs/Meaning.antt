@@ -1,4 +1,4 @@
--- What the words of the command line mean: what a run of them reads, writes, keeps and costs.
+-- What the words of the command line mean: what a run with these words reads, writes, keeps and costs.
 use Rattle.std.specs.Prelude.{◌≡◌, ℕ, Bool, true, false, List, [], Some, None}
 use Rattle.std.specs.declared.option.Option.{Option}
 use Rattle.cpe_io.specs.Lines.{lines}
@@ -27,25 +27,26 @@ use Rattle.name_lines.specs.Names.{name_session}
 use Rattle.name_lines.specs.Pairs.{pair_session}
 use Rattle.record_lines.specs.Records.{record_session}
 
--- What a command means, by the bytes that a run takes of its input, where it takes some.
+-- What a command means. Some parts depend on the bytes that a run takes from its input.
 pub record Meaning : Type 1 where
-  -- whether it reads its input
+  -- whether the command reads its input
   pub reads : Bool
-  -- what is written for the input, and the status
+  -- what the command writes for its input, and the status
   pub task : Task
-  -- which rows an engine that began with none keeps at a status
+  -- which rows the engine keeps at a status, if it had no rows before the run
   pub keeps : Rows → List ℕ → Status → Type 0
   -- the most looks at kept names
   pub looks : List ℕ → ℕ
 
--- what has no records leaves the engine without rows
+-- a command without records leaves the engine without rows
 abbrev pub NoRows : Rows → List ℕ → Status → Type 0
 NoRows rows taken status = rows ≡ no_rows
 
--- A command answers each line, or the whole input as a snapshot, or writes lines that are generated or what they come to. Records leave the
--- rows that the lines of the taken bytes do, one after the other, or the generated ones; and look at kept names as often as the sum over these
--- lines says, each in the rows that the lines before it leave. A snapshot leaves its rows; no look of it is counted. For words that name no
--- command the usage line is written.
+-- A command answers each line, or reads the whole input as a snapshot, or writes generated lines or their outcome. A
+-- command on records leaves the rows that the lines of the taken bytes leave, read one after the other. Its looks are
+-- at most the sum over these lines; each line counts in the rows that the earlier lines leave. `drill` does the same
+-- with the generated lines. `load` leaves the rows of the snapshot, and none of its looks is counted. If the words
+-- name no command, the usage line is written.
 abbrev pub meaning_of : Option Command → Meaning
 meaning_of (Some (Name command)) = record { reads = true; task = task (name_session command) tt; keeps = NoRows; looks = λ taken. 0 }
 meaning_of (Some Compare) = record { reads = true; task = task pair_session tt; keeps = NoRows; looks = λ taken. 0 }
@@ -77,7 +78,8 @@ meaning_of None = record { reads = false; task = Fixed (record { text = usage; s
 abbrev pub meaning : List (List ℕ) → Meaning
 meaning words = meaning_of (command_of words)
 
--- what a run leaves beside what it writes: the rows that the engine keeps, and a count of steps that rose by no more than the looks
+-- what a run leaves apart from its output: the rows that the engine keeps, and a count of looks that rose at most by
+-- the looks of the meaning
 pub record RunLeaves (meant : Meaning) (rows : Rows) (steps steps_now : ℕ) (taken : List ℕ) (status : Status) : Type 0 where
   pub keeps : meant.keeps rows taken status
   pub within : StepsWithin steps steps_now (meant.looks taken)

@@ -1,4 +1,4 @@
-// A whole input that is read as a snapshot.
+// The command `load`: the whole input is read as a snapshot.
 ghost use Rattle.std.specs.Prelude.{◌≡◌, ◌++◌, ◌<◌, ℕ, List, OnOk, IfOk, IfErr, flat_map, Option};
 ghost use Rattle.cpe_session.specs.Prelude.{AppendsPrefix, Fixed, HasSinkCause, Pours};
 ghost use Rattle.cpe_session.specs.Ran.{Ran, Anything, Counted};
@@ -18,10 +18,10 @@ use std::marker::Brand;
 use std::mem::replace;
 use std::sync::ledger::{Blank, Ledger};
 
-/// What is written for an input that is no snapshot.
+/// The line that is written if the input is no snapshot.
 const REFUSAL: &[u8] = b"refused snapshot\n";
 
-/// The input is a snapshot, whose state is kept and told.
+/// The command `load`: the input is a snapshot. Its rows are kept, and their counts and verdicts are written.
 #[derive(Clone, Copy, Debug, PartialEq, Eq)]
 pub(crate) struct Load;
 
@@ -65,14 +65,15 @@ impl Listener for Load {
     }
 }
 
-// Puts an engine in the place of another, which is let go by a call: in place, letting go of all that it keeps would be proved there.
+// Puts an engine in the place of another one. A call drops the other one: a drop in place would be proved here, for
+// each part of the engine.
 fn put(state: &mut Engine, engine: Engine)
     ensures { state.new ≡ engine }
 {
     replace(state, engine).let_go();
 }
 
-// Steps are counted in a ledger of its own: no bound on those of a load is said.
+// Reads a snapshot, and counts looks in a ledger of its own. No clause bounds the looks of a load.
 fn load_counted<L: Ledger>(alloc: Global, bytes: &[u8], blank: Blank) -> Result<Engine, LoadFault>
     requires name { blank.name ≡ L.name }
     requires parts { blank.parts ≡ L.parts }
@@ -91,7 +92,7 @@ fn refuse<K: Sink>(sink: &mut K) -> Status
     write_text(sink, REFUSAL, Status::SomeRefused)
 }
 
-// Writes what is told of the rows.
+// Writes the counts and the verdicts of the rows.
 fn write_state<K: Sink>(alloc: Global, engine: &Engine, sink: &mut K) -> Status
     ensures ran { (left : Option (List ℕ)) → Ran left left (K.held sink.old) (K.held sink.new) (Fixed (state_told engine.now)) Anything result }
     ensures sink { Counted Status.WriteFault (K.faults sink.old) (K.faults sink.new) result }
@@ -106,7 +107,7 @@ fn write_state<K: Sink>(alloc: Global, engine: &Engine, sink: &mut K) -> Status
     }
 }
 
-// Puts what is told of the rows after what is gathered, and gives full pages to the sink on the way.
+// Appends the counts and the verdicts of the rows to the page. Writes full pages to the sink meanwhile.
 fn pour_state<K: Sink>(
     alloc: Global,
     engine: &Engine,
@@ -123,7 +124,7 @@ fn pour_state<K: Sink>(
     }
 }
 
-// How many rows there are of each kind.
+// Appends the number of rows of each kind.
 fn push_counts(page: &mut Page, counts: &Counts) -> Result<(), AllocError>
     ensures { OnOk result (page.new ≡ page.old ++ counts_text counts.now) }
 {

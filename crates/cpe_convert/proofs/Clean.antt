@@ -1,4 +1,4 @@
--- Bytes none of which is a control character: they are one line, and lose no carriage return.
+-- Bytes without control characters. They are one line, and no carriage return is cut off from them.
 use Rattle.std.proofs.Common.{◌≡◌, ℕ, zero, suc, ◌-◌, true, false, ◌||◌, ◌==◌, nat_le, List, [], ◌∷◌, ◌++◌, length, take, slice_index, Some, None, if◌then◌else◌, refl, ap, ap₂, arith}
 use Rattle.std.specs.List.{list_all}
 use Rattle.std.proofs.lemmas.Bool.{and_parts, and_from, leb-true, ne_eqb}

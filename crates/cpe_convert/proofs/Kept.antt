@@ -1,4 +1,4 @@
--- What is written leaves the rows that the lines do.
+-- What `convert` writes for lines leaves the same rows as the lines.
 use Rattle.std.proofs.Common.{◌≡◌, ℕ, ◌+◌, Bool, true, false, nat_le, List, [], ◌∷◌, ◌++◌, length, map, Option, Some, None, if◌then◌else◌, codes, refl, sym, ap, ◌∙◌, append_assoc, append-nil}
 use Rattle.std.specs.Prelude.{Result, Ok, Err}
 use Rattle.std.specs.List.{AllByRecursion}
@@ -25,12 +25,13 @@ use Rattle.cpe_convert.proofs.Clean.{Clean, clean-has_newline, clean-line_of}
 use Rattle.cpe_convert.proofs.Printed.{clean-print}
 use Rattle.cpe_convert.proofs.Refused.{clean_fault, clean-refused_line, no_bytes_no_record, refused_edits, refused_line}
 
--- nothing is written, and the line changes nothing; or one line is, which changes what the line does
+-- either nothing is written, and the line changes nothing; or one line is written, and it changes what the line
+-- changes
 data Keeps (rows : Rows) (line : Option (List ℕ)) (text : List ℕ) : Type 0 where
   nothing : text ≡ [] → line_edited rows line ≡ rows → Keeps rows line text
   one : (piece : List ℕ) → text ≡ piece ++ 10 ∷ [] → has_newline piece ≡ false → line_edited rows (line_of piece) ≡ line_edited rows line → Keeps rows line text
 
--- nothing is kept from line to line
+-- `convert` keeps nothing from line to line
 abbrev here : Unit {0}
 here = tt
 
@@ -38,7 +39,7 @@ clean_form : (r : Record) → is_valid_record r ≡ true → Clean (record_text 
 unfolding record_text
 clean_form r h = clean-print (record_json r) (record_fits r h)
 
--- a refusal is one line of its own, and changes nothing
+-- a refusal is written as one line, and changes nothing
 keeps_refused : (rows : Rows) (line : Option (List ℕ)) (number : ℕ) (reason : List ℕ) → Clean reason → line_edited rows line ≡ rows → Keeps rows line (refusal number reason)
 keeps_refused rows line number reason clean still =
     let is_clean = clean-refused_line number reason clean in
@@ -48,7 +49,7 @@ keeps_refused rows line number reason clean still =
     ∙ refused_edits rows number reason (nat_le (length (refused_line number reason)) 65536)
     ∙ sym still)
 
--- a written form is read as its record
+-- the written form of a record is read as this record
 abbrev AreReadBack : Type 0
 AreReadBack = (r : Record) → IsFormedRecord r → is_valid_record r ≡ true → IsUtf8 (record_text r) → record_of (record_text r) ≡ Ok r
 
@@ -56,7 +57,7 @@ abbrev AsRecordsAre : Record → Type 0
 AsRecordsAre r = IsFormedRecord r × IsUtf8 (record_text r)
 
 module _ (back : AreReadBack) where
-  -- a form that is no longer than a line, as a line
+  -- a form that is read as a record edits the rows as the record does
   form_edits : (rows : Rows) (r : Record) (form : List ℕ) → record_of form ≡ Ok r → line_edited rows (Some form) ≡ edited rows (Ok r)
   form_edits rows r [] e = ap (edited rows) (sym no_bytes_no_record ∙ e)
   form_edits rows r (x ∷ xs) e = ap (edited rows) e
@@ -84,7 +85,7 @@ module _ (back : AreReadBack) where
   keeps rows s (Some []) grown whole = nothing refl refl
   keeps rows s (Some (x ∷ xs)) grown whole = keeps_read rows (Some (x ∷ xs)) (s.number + 1) (record_of (x ∷ xs)) (read_valid (x ∷ xs)) whole refl grown
 
-  -- what is written of a line before what is written of the others
+  -- what is written for one line, followed by the rest, edits the rows as the line and then the rest do
   folds : (rows : Rows) (line : Option (List ℕ)) (text rest : List ℕ) → Keeps rows line text → folded line_edited rows (lines (text ++ rest)) ≡ folded line_edited (line_edited rows line) (lines rest)
   folds rows line text rest (nothing none still) = ap (λ z. folded line_edited rows (lines (z ++ rest))) none ∙ ap (λ now. folded line_edited now (lines rest)) (sym still)
   folds rows line text rest (one piece is whole same) =

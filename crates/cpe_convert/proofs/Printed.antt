@@ -1,4 +1,4 @@
--- JSON that is printed has no control character: in texts they are escaped.
+-- Printed JSON has no control character, because texts are printed with their control characters escaped.
 use Rattle.std.proofs.Common.{◌≡◌, ℕ, zero, suc, ◌+◌, ◌/◌, ◌%◌, Bool, true, false, cond, ◌&&◌, ◌||◌, ◌==◌, nat_lt, nat_le, List, [], ◌∷◌, ◌++◌, ◌⊎◌, inl, inr, refl, arith}
 use Rattle.std.specs.Char.{digit_char}
 use Rattle.std.specs.List.{list_all}

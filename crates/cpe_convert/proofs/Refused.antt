@@ -1,4 +1,4 @@
--- A refusal is one line, and no record.
+-- The line of a refusal has no newline in it, and is no record.
 use Rattle.std.proofs.Common.{◌≡◌, ℕ, zero, suc, ◌+◌, ◌/◌, ◌%◌, Bool, true, false, ◌==◌, nat_lt, nat_le, List, [], ◌∷◌, ◌++◌, Some, None, if◌then◌else◌, codes, refl, ap, arith}
 use Rattle.std.specs.Prelude.{Result, Err}
 use Rattle.std.specs.Fmt.{decimal, digits, digits_onto, digit_glyph}
@@ -87,7 +87,7 @@ clean_attribute attribute.TargetSw = refl
 clean_attribute attribute.TargetHw = refl
 clean_attribute attribute.Other = refl
 
--- a word, which name it is, and where it goes wrong
+-- a reason has no control character: a word, the name of the record that is meant, and what is wrong in this name
 clean_at : (word : List ℕ) (spot : NameSpot) (where_ : List ℕ) → Clean word → Clean where_ → Clean (word ++ spot_text spot ++ codes " " ++ where_)
 clean_at word spot where_ h k =
     clean-append (word ++ spot_text spot ++ codes " ") where_ (clean-append (word ++ spot_text spot) (codes " ") (clean-append word (spot_text spot) h (clean_spot spot)) refl) k
@@ -100,7 +100,7 @@ clean_fault (fault.Attribute spot a) = clean_at (codes "attribute ") spot (attri
 clean_fault fault.TooDeep = refl
 clean_fault fault.Memory = refl
 
--- a refusal without its newline
+-- the line of a refusal, without its newline
 abbrev pub refused_line : ℕ → List ℕ → List ℕ
 refused_line number reason = codes "refused " ++ decimal number ++ codes " " ++ reason
 
@@ -108,12 +108,12 @@ pub clean-refused_line : (number : ℕ) (reason : List ℕ) → Clean reason →
 clean-refused_line number reason h =
     clean-append (codes "refused " ++ decimal number ++ codes " ") reason (clean-append (codes "refused " ++ decimal number) (codes " ") (clean_decimal number) refl) h
 
--- what begins with the letter r is no JSON
+-- a text that begins with the letter r is no JSON
 no_json : (more : List ℕ) → read (114 ∷ more) ≡ None
 unfolding lex punctuate word after_number value
 no_json more = refl
 
--- what is made of a value of JSON
+-- the record that a value of JSON is
 abbrev record_in : Data → Result Record RecordFault
 record_in d = word_at record_kind_of member.Do d >>= λ v. format_at d >>= λ f. record_by v f d
 

@@ -1,4 +1,4 @@
--- What a line of a record says under `convert`.
+-- What `convert` writes for a line.
 use Rattle.std.specs.Prelude.{ℕ, nat_le, List, ◌++◌, length, Result, Ok, Err, codes, if◌then◌else◌}
 use Rattle.cpe_replies.specs.cpe_io.declared.line.TheConstants.{LONGEST}
 use Rattle.cpe_records.specs.cpe_members.declared.member.RecordFault.{RecordFault}
@@ -10,11 +10,11 @@ use Rattle.cpe_replies.specs.cpe_session.Session.{Session, printed, stateless}
 use Rattle.cpe_convert.specs.declared.reason.ConvertReason.{ConvertReason}
 use Rattle.cpe_convert.specs.declared.reason.ConvertReason.TheVariants.{Unread, Grown}
 
--- a written form as a line, unless it is longer than a line may be
+-- a written form as a line, unless the form is longer than a line may be
 abbrev pub as_line : List ℕ → Result (List ℕ) ConvertReason
 as_line form = if nat_le (length form) LONGEST then Ok (form ++ codes "\n") else Err Grown
 
--- the written form of the record that was read
+-- the written form of a record, as a line; a line that is no record is refused
 abbrev pub converted : Result Record RecordFault → Result (List ℕ) ConvertReason
 converted (Ok r) = as_line (record_text r)
 converted (Err fault) = Err (Unread fault)

@@ -1,4 +1,4 @@
-// What a line of a record says.
+// What `convert` writes for a line.
 ghost use Rattle.std.specs.Prelude.{◌≡◌, true, IfOk};
 ghost use Rattle.cpe_replies.specs.cpe_session.Pages.{Puts};
 ghost use Rattle.cpe_records.specs.Reading.{record_of};
@@ -12,7 +12,8 @@ use cpe_replies::{LONGEST, Page, Stateless};
 use std::alloc::{AllocError, Global};
 use written_records::write_record;
 
-/// Each line is a record, which is written in the second format, in the one form that records have there. Nothing is applied.
+/// The command `convert`: each line is a record, and is written in the one form that it has in the second format. No
+/// edit is applied.
 #[derive(Clone, Copy, Debug, PartialEq, Eq)]
 pub struct Convert;
 
@@ -35,7 +36,8 @@ impl Stateless for Convert {
     }
 }
 
-// Puts the written form of a record as a line, or tells that it has grown too long.
+// Appends the written form of a record to the page, as a line. If the form is too long for a line, returns that
+// instead.
 #[inline(never)]
 fn say_form(
     alloc: Global,
@@ -48,7 +50,7 @@ fn say_form(
     say_line(page, &form)
 }
 
-// The written form of a record, which is let go.
+// The written form of a record. The record is dropped.
 fn form_of(alloc: Global, what: Record) -> Result<Vec<u8>, AllocError>
     ensures { IfOk result (λ form. form.items ≡ record_text what) }
 {

@@ -11,9 +11,9 @@ ghost use Rattle.cpe_convert.specs.Growing.{IsGrown, IsWhole};
 
 use written_records::written_is_read;
 
-/// Where no line is refused since its form grew too long, the lines that are written leave the rows that the lines themselves do, whatever
-/// rows there were: each record is read from its form again, and a refusal is no record. That records are whole is so of every
-/// record that the program reads.
+/// Converted lines leave the same rows as the lines themselves, if no line is refused because its form is too long.
+/// It doesn't matter which rows there were before. Each record is read again from its form, and the line of a refusal
+/// is no record. The law asks that each record is whole (`IsWhole`); each record that the program reads is whole.
 pub fn written_rows_stay()
     ensures { (rows : Rows) (ls : List (Option (List ℕ))) → AllByRecursion (λ line. ¬ IsGrown line) ls → AllByRecursion IsWhole ls
         → folded line_edited rows (lines (spoken (speech convert_session tt) ls).text) ≡ folded line_edited rows ls }

@@ -1,4 +1,4 @@
-// Why a line is refused.
+// The reasons for which `convert` refuses a line.
 ghost use Rattle.std.specs.Prelude.{◌≡◌, ◌++◌, OnOk};
 ghost use Rattle.cpe_convert.specs.Convert.{reason_text};
 
@@ -6,12 +6,12 @@ use cpe_records::RecordFault;
 use cpe_replies::{Page, Reason, push_record_fault};
 use std::alloc::{AllocError, Global};
 
-/// Why a line is refused.
+/// Why `convert` refuses a line.
 #[derive(Clone, Copy, Debug, PartialEq, Eq)]
 pub enum ConvertReason {
-    /// It is no record.
+    /// The line is no record.
     Unread(RecordFault),
-    /// Its record's written form has more than 65,536 bytes, so that no line could be read from it.
+    /// The written form of the line's record has more than 65,536 bytes. A line of this length could not be read.
     Grown,
 }
 

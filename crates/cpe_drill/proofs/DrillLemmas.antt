@@ -1,4 +1,4 @@
--- The session over the generated records writes its summary alone, refuses none, and comes to the outcome.
+-- The session over the generated records writes only its summary, refuses no line, and keeps the outcome.
 use Rattle.std.proofs.Common.{◌≡◌, ℕ, ◌+◌, ◌≤◌, zero, suc, Bool, false, ◌||◌, List, [], ◌∷◌, ◌++◌, length, Option, Some, refl, sym, ap, ◌∙◌, arith}
 use Rattle.cpe_session.specs.declared.status.Status.{Status}
 use Rattle.cpe_session.specs.declared.status.Status.TheVariants.{Done, SomeRefused, Usage, ReadFault, WriteFault, Memory, Endless}
@@ -17,16 +17,16 @@ use Rattle.cpe_drill.specs.Outcome.{rows_behind, refusals, findings, for_line, s
 use Rattle.cpe_drill.specs.Summary.{summary, drill_text}
 use Rattle.cpe_drill.specs.Drill.{undrilled, drill_session, drill_transcript, LeavesRows}
 
--- the rows after one line more
+-- the rows after one more line
 rows_more : (n : ℕ) → line_edited (rows_behind n) (Some (generated n)) ≡ rows_behind (suc n)
 unfolding rows_behind
 rows_more n = sym (folded-append line_edited no_rows (made_lines generated n) (Some (generated n) ∷ []))
 
--- all that the first n lines come to
+-- the outcome of the first n lines
 abbrev outcome : ℕ → Drilled
 outcome n = record { engine = rows_behind n; refused = summed refusals n; found = summed findings n }
 
--- after a text more
+-- the outcome after one more line
 abbrev with_text : Drilled → List ℕ → Drilled
 with_text d text = record {
   engine = line_edited d.engine (Some text);
@@ -107,11 +107,11 @@ module _ (count : ℕ) where
   cost (suc n) =
       omega (arith, costs-append (drill_session count) (start undrilled) (made_lines generated n) (Some (generated n) ∷ []), line_costs n, cost n, cost_more n)
 
--- all lines take no more steps than the sum
+-- the looks of all lines are the sum over the lines
 pub drill_cost : (n : ℕ) → total_cost (drill_session n) undrilled (made_lines generated n) ≡ summed record_looks n
 drill_cost n = omega (arith, cost n n)
 
--- so the transcript is the summary of the outcome
+-- the transcript of the session is what `drill` writes
 pub drill_is_spoken : (n : ℕ) → spoken (speech (drill_session n) undrilled) (made_lines generated n) ≡ drill_transcript n
 drill_is_spoken n =
     ap (λ (text : List ℕ). let t : Transcript = record { text = text ++ summary n (behind n n).state.refused (behind n n).state.found (behind n n).state.engine; status = status_of (behind n n).refused } in t) (nothing_written n n)
@@ -129,7 +129,7 @@ prefix-leaves n now left =
           ),
     )
 
--- and the rows at the end are those of all lines, or of some
+-- the rows at the end are those that all lines leave, or those that some first lines leave
 pub drill-leaves : (n : ℕ) (now : Drilled) {steps steps_now : ℕ} (status : Status)
     → ReachedBy (drill_session n) undrilled now steps steps_now (made_lines generated n) (made_lines generated n) status → LeavesRows n now.engine status
 drill-leaves n now Done reached = ap (λ (d : Drilled). d.engine) (reached.state ∙ comes_to n n)

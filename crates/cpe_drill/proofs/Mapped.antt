@@ -1,7 +1,7 @@
--- A function of the first elements of a list.
+-- The values of a function at the first elements of a list.
 use Rattle.std.proofs.Common.{◌≡◌, ℕ, ◌+◌, ◌<◌, zero, suc, List, [], ◌∷◌, ◌++◌, length, map, take, slice_get, Some, refl, sym, ap, ◌∙◌, arith}
 
--- of one more of them
+-- one more element adds its value at the end
 map_next : {A B : Type 0} (f : A → B) (value : B) (xs : List A) (k : ℕ) → k < length xs → ((x : A) → slice_get xs k ≡ Some x → value ≡ f x)
     → map f (take (suc k) xs) ≡ map f (take k xs) ++ value ∷ []
 map_next f value [] k below is = absurd (omega arith)

@@ -1,4 +1,4 @@
--- A tally of the first verdicts, and of one more.
+-- The tally of the first verdicts, and the tally of one more verdict.
 use Rattle.std.proofs.Common.{◌≡◌, ℕ, ◌+◌, ◌-◌, ◌^◌, ◌<◌, zero, suc, List, [], ◌∷◌, ◌++◌, length, map, take, slice_get, Option, Some, None, sym, ap, ◌∙◌, arith}
 use Rattle.std.specs.Option.{option_map, option_map_or}
 use Rattle.std.proofs.lemmas.List.{length-map, length-take}
@@ -12,24 +12,24 @@ use Rattle.cpe_drill.proofs.Mapped.{map_more}
 abbrev pub first : Rows → ℕ → List Truth
 first rows place = map (verdict rows) (take place rows.statements)
 
--- what is below the length is there
+-- a list has an element at each place below its length
 within : {A B : Type 0} (f : A → B) (xs : List A) (k : ℕ) → k < length xs → None ≡ option_map f (slice_get xs k) → ⊥
 within f [] k below none = omega (arith, below)
 within f (x ∷ xs) zero below none = absurd (cc)
 within f (x ∷ xs) (suc k) below none = within f xs k (omega (arith, below)) none
 
 module _ (rows : Rows) (place : ℕ) (below : place < length rows.statements) where
-  -- there are as many as the place says
+  -- the number of the first verdicts is less than 2^64 - 1 if the place is
   pub few-first : place < 2 ^ 64 - 1 → length (first rows place) < 2 ^ 64 - 1
   few-first few = omega (arith, few, length-map (take place rows.statements) (verdict rows), length-take place rows.statements)
 
-  -- with the verdict at the place there is one more
+  -- with the verdict at this place, the tally counts one more verdict
   pub tally-next : (truth : Truth) (now : Tally) → Some truth ≡ option_map (verdict rows) (slice_get rows.statements place)
       → now ≡ tally_of (first rows place ++ truth ∷ []) → now ≡ tally_of (first rows (place + 1))
   tally-next truth now told is =
       is ∙ ap tally_of (sym (map_more (verdict rows) truth rows.statements place below
       (λ s at. ap (λ (o : Option Truth). option_map_or (λ t. t) o truth) (told ∙ ap (option_map (verdict rows)) at))))
 
-  -- and it is there
+  -- there is a statement at this place
   pub none-below : None ≡ option_map (verdict rows) (slice_get rows.statements place) → ⊥
   none-below none = within (verdict rows) rows.statements place below none

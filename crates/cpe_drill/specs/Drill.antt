@@ -1,4 +1,4 @@
--- The session over the generated records: a line writes nothing, and what it comes to is kept.
+-- The session over the generated records: a line writes nothing, and its outcome is kept.
 use Rattle.std.specs.Prelude.{ℕ, ◌≡◌, ◌+◌, ◌≤◌, [], false, Result, Ok}
 use Rattle.cpe_session.specs.Session.{Session}
 use Rattle.cpe_session.specs.declared.status.Status.{Status}
@@ -14,11 +14,11 @@ use Rattle.cpe_drill.specs.Looks.{record_looks}
 use Rattle.cpe_drill.specs.Outcome.{rows_behind, refusals, findings}
 use Rattle.cpe_drill.specs.Summary.{summary, drill_text}
 
--- before the first record
+-- the outcome before the first record
 abbrev pub undrilled : Drilled
 undrilled = record { engine = no_rows; refused = 0; found = 0 }
 
--- after one record more
+-- the outcome after one more record
 abbrev pub drilled : Drilled → Result Record RecordFault → Drilled
 drilled before read = record {
   engine = edited before.engine read;
@@ -35,11 +35,12 @@ drill_session count = record {
   end_cost = λ behind. 0;
 }
 
--- what is written, and that the run is done
+-- what `drill` writes, with the status Done
 abbrev pub drill_transcript : ℕ → Transcript
 drill_transcript n = record { text = drill_text n; status = Done }
 
--- which rows are left: those of all lines, and where a write failed or memory ran out those of some, from the first on
+-- which rows are left: if memory ran out or a write failed, the rows that the first k lines leave, for some k;
+-- otherwise the rows that all n lines leave
 abbrev pub LeavesRows : ℕ → Rows → Status → Type 0
 LeavesRows n rows WriteFault = (k : ℕ) × (k ≤ n) × (rows ≡ rows_behind k)
 LeavesRows n rows Memory = (k : ℕ) × (k ≤ n) × (rows ≡ rows_behind k)

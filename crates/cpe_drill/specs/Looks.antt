@@ -1,4 +1,4 @@
--- How many looks at names a record may take.
+-- How many looks at kept names a record may take.
 use Rattle.std.specs.Prelude.{ℕ, List, [], ◌∷◌, Option, Some, None, Result, Ok, Err}
 use Rattle.cpe_rows.specs.Rows.{Rows}
 use Rattle.cpe_records.specs.Reading.{record_of}
@@ -7,13 +7,14 @@ use Rattle.cpe_records.specs.declared.read.Record.TheVariants.{Edit, Query}
 use Rattle.cpe_records.specs.cpe_members.declared.member.RecordFault.{RecordFault}
 use Rattle.cpe_engine.specs.Looks.{edit_looks, looks}
 
--- as many as its edit takes in these rows, which is none if it is refused, or as its query; what is no record takes none
+-- the most looks of a record's edit, or of its question, in these rows; a refused edit takes no look, and neither
+-- does a line that is no record
 abbrev pub record_looks : Rows → Result Record RecordFault → ℕ
 record_looks rows (Ok (Edit e)) = edit_looks rows e
 record_looks rows (Ok (Query query)) = looks rows query
 record_looks rows (Err fault) = 0
 
--- the same of a line; one without bytes, or one that is too long, is no record
+-- the most looks of a line; a line without bytes is no record, and neither is a line that is too long
 abbrev pub line_looks : Rows → Option (List ℕ) → ℕ
 line_looks rows None = 0
 line_looks rows (Some []) = 0

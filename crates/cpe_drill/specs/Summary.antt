@@ -1,4 +1,4 @@
--- What `drill` writes: twelve lines, each a word and its number.
+-- What `drill` writes: twelve lines, each with a word and its number.
 use Rattle.std.specs.Prelude.{ℕ, List, [], ◌∷◌, ◌++◌, codes, map, count_by}
 use Rattle.std.specs.List.{flat_map}
 use Rattle.std.specs.Fmt.{decimal}
@@ -12,19 +12,19 @@ use Rattle.cpe_rows.specs.declared.truth.Truth.TheVariants.{True, False, Error, 
 use Rattle.cpe_drill.specs.declared.tally.Tally.{Tally}
 use Rattle.cpe_drill.specs.Outcome.{rows_behind, refusals, findings, summed}
 
--- a line of a word and a number
+-- the line of a word and a number
 abbrev pub number_line : List ℕ → ℕ → List ℕ
 number_line word number = word ++ codes " " ++ decimal number ++ codes "\n"
 
--- how many of the truths are this one
+-- how many of the truths are equal to this one
 abbrev pub times : Truth → List Truth → ℕ
 times truth truths = count_by (same_truth truth) truths
 
--- how many of the truths are each of the four
+-- how many of the truths are TRUE, FALSE, ERROR and UNKNOWN
 abbrev pub tally_of : List Truth → Tally
 tally_of truths = record { trues = times True truths; falses = times False truths; errors = times Error truths; unknowns = times Unknown truths }
 
--- the lines of these numbers
+-- the twelve lines of these numbers
 abbrev pub summary_of : (count refused found : ℕ) → Counts → Tally → List ℕ
 summary_of count refused found counts tally =
     flat_map (λ (line : List ℕ × ℕ). number_line line.0 line.1) (
@@ -42,14 +42,14 @@ summary_of count refused found counts tally =
     ∷ (codes "UNKNOWN", tally.unknowns)
     ∷ [])
 
--- the verdicts of all statements
+-- the verdicts of all statements, in order
 abbrev pub verdicts : Rows → List Truth
 verdicts rows = map (verdict rows) rows.statements
 
--- the lines of these numbers, and of rows
+-- the twelve lines of these three numbers and of the rows
 unfoldable pub summary : (count refused found : ℕ) → Rows → List ℕ
 summary count refused found rows = summary_of count refused found (counts_of rows) (tally_of (verdicts rows))
 
--- what is written for the first n lines
+-- what `drill` writes for the first n lines
 abbrev pub drill_text : ℕ → List ℕ
 drill_text n = summary n (summed refusals n) (summed findings n) (rows_behind n)

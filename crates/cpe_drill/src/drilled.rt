@@ -1,4 +1,4 @@
-// What records came to.
+// The outcome of records.
 ghost use Rattle.std.specs.Prelude.{◌≡◌, ◌+◌, Ok, OnOk, OnErr, true};
 ghost use Rattle.cpe_engine.specs.cpe_steps.Within.{StepsWithin};
 ghost use Rattle.cpe_rows.specs.Valid.{is_valid_edit, is_valid_query};
@@ -14,19 +14,20 @@ use cpe_rows::{Edit, EditFault, Query, Reply};
 use std::alloc::{AllocError, Global};
 use std::sync::ledger::Ledger;
 
-/// What records came to: the rows that they left, how many were refused, and how many entries searches found.
+/// The outcome of records: the rows that they left, how many of them were refused, and how many entries their
+/// searches found.
 #[derive(Drop)]
 pub struct Drilled {
-    /// Keeps the rows.
+    /// The engine that keeps the rows.
     pub engine: Engine,
-    /// How many records were refused, or could not be read.
+    /// The number of records that were refused, or that could not be read.
     pub refused: u64,
-    /// How many entries all searches found.
+    /// The number of entries that all searches found.
     pub found: u64,
 }
 
 impl Drilled {
-    /// Nothing was read yet, and the engine keeps its rows.
+    /// The outcome before the first record. The engine keeps its rows.
     pub fn new(engine: Engine) -> Drilled
         ensures { result ≡ record { engine = engine; refused = 0; found = 0 } }
     {
@@ -45,10 +46,11 @@ impl Drilled {
         engine
     }
 
-    /// Reads a text as a record, and makes its edit or answers its question.
+    /// Reads a text as a record. Applies its edit or answers its question, and adds to the counts of refused records
+    /// and found entries.
     ///
     /// # Errors
-    /// That memory or numbers of 64 bits ran out. All is then as it was.
+    /// Memory ran out, or a count would need more than 64 bits. The outcome is unchanged then.
     pub fn read<L: Ledger>(
         &mut self,
         alloc: Global,
@@ -100,7 +102,7 @@ impl Drilled {
         }
     }
 
-    // The same, where the fault is let go.
+    // Counts a refused record, and drops the fault.
     fn refuse_for(&mut self, fault: EditFault) -> Result<(), AllocError>
         ensures ok { OnOk result (self.new ≡ record { engine = self.old.engine; refused = self.old.refused + 1; found = self.old.found }) }
         ensures err { OnErr result (self.new ≡ self.old) }
@@ -122,7 +124,7 @@ impl Drilled {
         }
     }
 
-    // What the answer found, which is let go.
+    // Adds to the count how many entries an answer found, and drops the answer.
     fn find_in(&mut self, reply: Reply) -> Result<(), AllocError>
         ensures ok { OnOk result (self.new ≡ record { engine = self.old.engine; refused = self.old.refused; found = self.old.found + found_by reply }) }
         ensures err { OnErr result (self.new ≡ self.old) }
@@ -146,7 +148,7 @@ impl Drilled {
     }
 }
 
-// How many entries an answer lists as found.
+// The number of entries that an answer lists as found.
 fn found_by(reply: &Reply) -> u64
     ensures { result ≡ found_by reply.now }
 {

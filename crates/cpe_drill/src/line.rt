@@ -1,4 +1,4 @@
-// The lines by their numbers.
+// The generated lines, by their numbers.
 ghost use Rattle.std.specs.Prelude.{◌≡◌, ◌<◌, ◌++◌, IfOk, OnOk};
 ghost use Rattle.cpe_drill.specs.Generated.{generated, product_line, line_at, last_line, result_word};
 
@@ -11,26 +11,27 @@ use cpe_session::Page;
 use itoa::Buffer;
 use std::alloc::{AllocError, Global};
 
-/// So many lines are made at most.
+/// The most lines that are generated.
 pub const MOST_LINES: u32 = 800_000;
 
-// Lines for each product.
+// The number of lines for each product.
 const LINES: usize = 8;
 
-// So many vendors have all products.
+// The number of vendors of all products.
 const VENDORS: usize = 50;
 
-// So many checks serve all statements.
+// The number of checks to which all statements refer.
 const CHECKS: usize = 63;
 
-/// Line `k` from 0, without a newline.
+/// Line `k`, counted from 0, without a newline.
 ///
-/// Eight lines come for each product, in this order: its two versions as entries, the first of them as an item, a statement
-/// about the second, the result of a check, the deprecation of the first for the second, a search, and in turn the verdict of
-/// the statement or the restoration of the first.
+/// Each product has eight lines, in this order: its first version as an entry; its second version as an entry; its
+/// first version as an item; a statement about the second version; the result of a check; the deprecation of the
+/// first version for the second; a search; and a last line. For one product the last line asks for the verdict of the
+/// statement, and for the next product it restores the first version, in turn.
 ///
 /// # Errors
-/// Only that memory ran out.
+/// Only if memory runs out.
 pub fn generated(alloc: Global, k: u32) -> Result<Vec<u8>, Memory>
     requires { k < MOST_LINES }
     ensures { IfOk result (λ line. line.items ≡ generated k) }
@@ -40,7 +41,7 @@ pub fn generated(alloc: Global, k: u32) -> Result<Vec<u8>, Memory>
     Ok(page.into_bytes())
 }
 
-/// Puts line `k` from 0 after what is gathered.
+/// Appends line `k`, counted from 0, to the page, without a newline.
 #[tactic(auto, unfolding(crate::specs::Generated::generated))]
 pub fn push_generated(page: &mut Page, k: usize) -> Result<(), AllocError>
     ensures { OnOk result (page.new ≡ page.old ++ generated k) }

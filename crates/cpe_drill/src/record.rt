@@ -1,11 +1,11 @@
-// The records of a product, by the texts of the numbers of its vendor, itself, and its check.
+// The records of a product. The numbers of the product, its vendor and its check are passed as texts.
 ghost use Rattle.std.specs.Prelude.{◌≡◌, ◌++◌, OnOk, flat_map};
 ghost use Rattle.cpe_drill.specs.Generated.{entry_record, item_record, statement_record, check_record, deprecation_record, search_record, verdict_record, restore_record};
 
 use cpe_session::Page;
 use std::alloc::AllocError;
 
-// Puts texts after what is gathered, in turn.
+// Appends texts to the page, in order.
 fn push_all(page: &mut Page, texts: &[&[u8]]) -> Result<(), AllocError>
     ensures { OnOk result (page.new ≡ page.old ++ flat_map (λ text. text.now) texts.now) }
 {
@@ -15,7 +15,7 @@ fn push_all(page: &mut Page, texts: &[&[u8]]) -> Result<(), AllocError>
     Ok(())
 }
 
-/// Adds a version of the product to the dictionary.
+/// Appends the record that adds a version of the product to the dictionary.
 #[tactic(auto, unfolding(crate::specs::Generated::entry_record))]
 pub fn push_entry(
     page: &mut Page,
@@ -43,7 +43,7 @@ pub fn push_entry(
     )
 }
 
-/// Says that its first version is installed.
+/// Appends the record that adds an item: the product's first version is installed.
 #[tactic(auto, unfolding(crate::specs::Generated::item_record))]
 pub fn push_item(page: &mut Page, vendor: &[u8], product: &[u8]) -> Result<(), AllocError>
     ensures { OnOk result (page.new ≡ page.old ++ item_record vendor.now product.now) }
@@ -60,7 +60,7 @@ pub fn push_item(page: &mut Page, vendor: &[u8], product: &[u8]) -> Result<(), A
     )
 }
 
-/// A statement that holds where its second version is installed, or a check says so.
+/// Appends the record that adds a statement. Its test asks if the second version is installed, or if a check says so.
 #[tactic(auto, unfolding(crate::specs::Generated::statement_record))]
 pub fn push_statement(
     page: &mut Page,
@@ -86,7 +86,7 @@ pub fn push_statement(
     )
 }
 
-/// The result of a check.
+/// Appends the record that adds the result of a check.
 #[tactic(auto, unfolding(crate::specs::Generated::check_record))]
 pub fn push_check(page: &mut Page, check: &[u8], word: &[u8]) -> Result<(), AllocError>
     ensures { OnOk result (page.new ≡ page.old ++ check_record check.now word.now) }
@@ -103,7 +103,7 @@ pub fn push_check(page: &mut Page, check: &[u8], word: &[u8]) -> Result<(), Allo
     )
 }
 
-/// Deprecates the first version for the second.
+/// Appends the record that deprecates the first version. Its successor is the second version.
 #[tactic(auto, unfolding(crate::specs::Generated::deprecation_record))]
 pub fn push_deprecation(page: &mut Page, vendor: &[u8], product: &[u8]) -> Result<(), AllocError>
     ensures { OnOk result (page.new ≡ page.old ++ deprecation_record vendor.now product.now) }
@@ -124,7 +124,7 @@ pub fn push_deprecation(page: &mut Page, vendor: &[u8], product: &[u8]) -> Resul
     )
 }
 
-/// Asks for the entries of the vendor whose product begins like this one.
+/// Appends a search for the vendor's entries whose product begins with the text of this product.
 #[tactic(auto, unfolding(crate::specs::Generated::search_record))]
 pub fn push_search(page: &mut Page, vendor: &[u8], product: &[u8]) -> Result<(), AllocError>
     ensures { OnOk result (page.new ≡ page.old ++ search_record vendor.now product.now) }
@@ -141,7 +141,7 @@ pub fn push_search(page: &mut Page, vendor: &[u8], product: &[u8]) -> Result<(),
     )
 }
 
-/// Asks for the verdict of the statement.
+/// Appends the question for the verdict of the statement.
 #[tactic(auto, unfolding(crate::specs::Generated::verdict_record))]
 pub fn push_verdict(page: &mut Page, product: &[u8]) -> Result<(), AllocError>
     ensures { OnOk result (page.new ≡ page.old ++ verdict_record product.now) }
@@ -149,7 +149,7 @@ pub fn push_verdict(page: &mut Page, product: &[u8]) -> Result<(), AllocError>
     push_all(page, &[b"{\"do\":\"verdict\",\"id\":\"s", product, b"\"}"])
 }
 
-/// Makes the first version active again.
+/// Appends the record that makes the first version active again.
 #[tactic(auto, unfolding(crate::specs::Generated::restore_record))]
 pub fn push_restore(page: &mut Page, vendor: &[u8], product: &[u8]) -> Result<(), AllocError>
     ensures { OnOk result (page.new ≡ page.old ++ restore_record vendor.now product.now) }

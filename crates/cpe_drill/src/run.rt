@@ -1,4 +1,4 @@
-// The run over the generated records.
+// The run of `drill` over the generated records.
 ghost use Rattle.std.specs.Prelude.{◌≡◌, ◌⊎◌, ℕ, List, Option};
 ghost use Rattle.cpe_session.specs.Prelude.{Counted, Fixed, Ran, Rose, StepsWithin};
 ghost use Rattle.cpe_rows.specs.Rows.{no_rows};
@@ -15,7 +15,7 @@ use std::alloc::{AllocError, Global};
 use std::mem::replace;
 use std::sync::ledger::Ledger;
 
-// The first generated records, so many. None is refused with a reason: refused ones are counted.
+// The first `count` generated records. The reasons of refused records are not written: these records are counted.
 #[derive(Clone, Copy)]
 struct Drilling {
     count: u32,
@@ -59,7 +59,8 @@ impl Speaker for Drilling {
     }
 }
 
-/// Makes the edits and answers the questions of the first generated records, so many, and writes twelve lines: what they came to.
+/// Writes twelve lines: the outcome of the first `count` generated records. Their edits are applied, and their
+/// questions are answered.
 pub fn drill<K: Sink, L: Ledger>(
     alloc: Global,
     count: u32,

@@ -1,4 +1,4 @@
-// What is written of all that records came to.
+// The lines that `drill` writes about the outcome of records.
 ghost use Rattle.std.specs.Prelude.{◌≡◌, ◌++◌, OnOk, flat_map};
 ghost use Rattle.cpe_drill.specs.Summary.{number_line, summary_of, summary};
 
@@ -8,14 +8,14 @@ use cpe_rows::Counts;
 use cpe_session::Page;
 use std::alloc::AllocError;
 
-/// A word, and its number.
+/// A line of a word and its number.
 #[derive(Clone, Copy)]
 pub struct NumberLine(pub &'static [u8], pub u64);
 
-/// Puts the numbers of all that came of so many records after what is gathered.
+/// Appends the twelve lines about the outcome of `count` records to the page.
 ///
 /// # Errors
-/// Only that memory ran out.
+/// Only if memory runs out.
 #[tactic(auto, unfolding(crate::specs::Summary::summary))]
 pub fn push_summary(page: &mut Page, count: u32, drilled: &Drilled) -> Result<(), AllocError>
     ensures { OnOk result (page.new ≡ page.old ++ summary count drilled.now.refused drilled.now.found drilled.now.engine) }
@@ -61,10 +61,10 @@ fn push_numbers(
     )
 }
 
-/// Puts a line for each word and its number after what is gathered.
+/// Appends a line for each word and its number to the page.
 ///
 /// # Errors
-/// Only that memory ran out.
+/// Only if memory runs out.
 pub fn push_number_lines(page: &mut Page, lines: &[NumberLine]) -> Result<(), AllocError>
     ensures { OnOk result (page.new ≡ page.old ++ flat_map (λ line. number_line line.0.now line.1) lines.now) }
 {

@@ -1,14 +1,14 @@
-// The first lines, as many as are asked for.
+// The first generated lines.
 ghost use Rattle.cpe_drill.specs.Generated.{generated, generated_line};
 
 use crate::line::push_generated;
 use cpe_session::{Page, Table};
 use std::alloc::{AllocError, Global};
 
-/// The first lines as texts to be read, so without newlines.
+/// The first generated lines as records to be read, without newlines.
 #[derive(Clone, Copy, Debug)]
 pub struct GeneratedRecords {
-    /// How many there are.
+    /// The number of lines.
     pub count: u32,
 }
 
@@ -26,10 +26,10 @@ impl Table for GeneratedRecords {
     }
 }
 
-/// The first lines as they are written, each with its newline.
+/// The first generated lines as they are written, each with its newline.
 #[derive(Clone, Copy, Debug)]
 pub struct GeneratedLines {
-    /// How many there are.
+    /// The number of lines.
     pub count: u32,
 }
 

@@ -1,4 +1,4 @@
-// How often each verdict is told.
+// How many statements have each verdict.
 ghost use Rattle.std.specs.Prelude.{◌≡◌, ◌+◌, ◌<◌, ◌^◌, ◌-◌, ◌++◌, ◌∷◌, [], cond, length, map, take, List};
 ghost use Rattle.cpe_rows.specs.Truth.{same_truth};
 ghost use Rattle.cpe_rows.specs.Verdict.{verdict};
@@ -8,7 +8,7 @@ ghost use Rattle.cpe_drill.specs.Summary.{tally_of, verdicts};
 use cpe_engine::Engine;
 use cpe_rows::Truth;
 
-/// How many of some verdicts are each of the four.
+/// How many verdicts are TRUE, FALSE, ERROR, and UNKNOWN.
 #[derive(Clone, Copy)]
 pub struct Tally {
     pub trues: u64,
@@ -18,7 +18,7 @@ pub struct Tally {
 }
 
 impl Tally {
-    // With one verdict more.
+    // The tally with one more verdict.
     fn with(self, truth: Truth) -> Tally
         requires { (truths : List TruthOf) × (length truths < 2 ^ 64 - 1) × (self ≡ tally_of truths) }
         ensures { (truths : List TruthOf) → self ≡ tally_of truths → result ≡ tally_of (truths ++ truth ∷ []) }
@@ -45,7 +45,7 @@ fn is_same(one: Truth, other: Truth) -> bool
     one == other
 }
 
-/// How many statements have each verdict. It takes no memory.
+/// How many statements have each verdict. Allocates: no.
 pub fn count_verdicts(engine: &Engine) -> Tally
     ensures { result ≡ tally_of (verdicts engine.now) }
 {
@@ -61,7 +61,7 @@ pub fn count_verdicts(engine: &Engine) -> Tally
     told
 }
 
-// With the verdict of the statement at this place.
+// The tally with the verdict of the statement at this place.
 fn with_next(engine: &Engine, place: usize, told: Tally) -> Tally
     requires below { place < length engine.now.statements }
     requires few { place < 2 ^ 64 - 1 }

@@ -1,4 +1,4 @@
--- The answer to a query for a chain, by the entries of the chain.
+-- The entries of a chain give the lines of the answer to the question for the chain.
 use Rattle.std.proofs.Common.{◌≡◌, ℕ, zero, suc, Bool, true, false, cond, ◌&&◌, ◌||◌, if◌then◌else◌, List, [], ◌∷◌, ◌++◌, codes, filter, length, map, refl, sym, ap, ◌∙◌}
 use Rattle.std.specs.List.{flat_map, list_any}
 use Rattle.std.proofs.Math.Dec.{eqb-suc-zero}
@@ -20,7 +20,7 @@ use Rattle.cpe_replies.specs.Replies.{chain_line, name_line, reply_text, row_lin
 
 -- ---- a chain without entries
 
--- where a path begins it has come
+-- each node at which a path starts is reached
 starts : {A : Type 0} (edge : A → A → Bool) (all : List A) (start : A → Bool) (k : ℕ) (b : A) → start b ≡ true → reached edge all start k b ≡ true
 starts edge all start zero b h = h
 starts edge all start (suc k) b h = ap (λ (x : Bool). x || list_any (λ a. reached edge all start k a && edge a b) all) (starts edge all start k b h)

@@ -1,4 +1,4 @@
--- Certificates, and what is said of them, as lines.
+-- Certificates, and the results of their tests, as lines.
 use Rattle.std.specs.Prelude.{ℕ, List, ◌++◌, codes}
 use Rattle.std.specs.List.{flat_map}
 use Rattle.cpe_rows.specs.Rows.{Rows}
@@ -8,11 +8,11 @@ use Rattle.cpe_explain.specs.checked_certificates.declared.proof.Checked.TheVari
 use Rattle.cpe_explain.specs.Choices.{certificate}
 use Rattle.proof_lines.specs.Written.{proof_text}
 
--- the certificate of a statement
+-- the line of the certificate of a statement
 abbrev pub certificate_line : Rows → Statement → List ℕ
 certificate_line rows s = proof_text (certificate rows s) ++ codes "\n"
 
--- those of all statements, in order
+-- the lines of the certificates of all statements, in order
 abbrev pub certificate_lines : Rows → List ℕ
 certificate_lines rows = flat_map (certificate_line rows) rows.statements
 
@@ -21,6 +21,6 @@ checked_word Holds = codes "holds"
 checked_word Fails = codes "fails"
 checked_word Absent = codes "absent"
 
--- what is said of the certificate of this id
+-- the line with the result of the test of the certificate with this id
 abbrev pub checked_line : List ℕ → Checked → List ℕ
 checked_line id checked = codes "proof " ++ id ++ codes " " ++ checked_word checked ++ codes "\n"

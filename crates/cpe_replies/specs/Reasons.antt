@@ -1,4 +1,5 @@
--- The reasons why the line of a record is refused, as they are written. Memory that runs out refuses no line.
+-- The reasons for which the line of a record is refused, as text. If memory runs out, no line is refused, so this
+-- fault has no text.
 use Rattle.std.specs.Prelude.{ℕ, List, [], ◌++◌, codes}
 use Rattle.std.specs.Fmt.{decimal}
 use Rattle.cpe_rows.specs.declared.fault.EditFault.{EditFault}
@@ -17,7 +18,7 @@ use Rattle.cpe_replies.specs.Replies.{name_text}
 use Rattle.cpe_replies.specs.declared.reason.RecordReason.{RecordReason}
 use Rattle.cpe_replies.specs.declared.reason.RecordReason.TheVariants.{Unread, Refused, Unproved}
 
--- which name of the record
+-- which name of the record is meant
 abbrev pub spot_text : NameSpot → List ℕ
 spot_text Name = codes "name"
 spot_text (Successor number) = codes "successor " ++ decimal number

@@ -1,4 +1,4 @@
-// The answer to a query for a chain whose entries are lent, as lines.
+// The answer to a question for a chain, as lines. The entries of the chain are lent, not copied.
 ghost use Rattle.std.specs.Prelude.{◌≡◌, ◌++◌, List, OnOk, codes, filter, length, map, flat_map};
 ghost use Rattle.std.specs.Option.{option_copied, option_map_or};
 ghost use Rattle.cpe_rows.specs.Prelude.{chain as chain_of, ends, is_active, row_of};
@@ -15,10 +15,11 @@ use cpe_rows::{Deprecation, EntryRef, State, Wfn};
 use cpe_session::Page;
 use std::alloc::{AllocError, Global};
 
-/// Puts the lines of the answer to a query for a chain after what is gathered. The entries are those of the chain of the name.
+/// Appends to the page the lines of the answer to a question for a chain, if `links` are the entries of the name's
+/// chain.
 ///
 /// # Errors
-/// Only that memory ran out. What is gathered may be lost then.
+/// Only if memory runs out. The bytes of the page may be lost then.
 pub fn push_chain_lent(
     alloc: Global,
     page: &mut Page,
@@ -32,7 +33,7 @@ pub fn push_chain_lent(
     push_links(alloc, page, name, links)
 }
 
-// The same of any entries. Where there are none the name is its own end.
+// Appends the lines of a chain that has these entries. If there are no entries, the name is its own end.
 fn push_links(
     alloc: Global,
     page: &mut Page,
@@ -51,7 +52,7 @@ fn push_links(
     }
 }
 
-// How many of the entries are active.
+// The number of active entries.
 fn count_active(links: &[EntryRef<'_>]) -> usize
     ensures { result ≡ length (filter (λ e. is_active (entry_lent e)) links.now) }
 {
@@ -70,14 +71,14 @@ fn state_of(deprecation: Option<&Deprecation>) -> State
     }
 }
 
-// The line of an entry of the chain.
+// Appends the line of an entry of the chain.
 fn push_step(alloc: Global, page: &mut Page, link: EntryRef<'_>) -> Result<(), AllocError>
     ensures { OnOk result (page.new ≡ page.old ++ step_line (entry_lent link.entry)) }
 {
     push_state_line(alloc, page, b"step ", link.name, state_of(link.deprecation))
 }
 
-// A line for each entry.
+// Appends a line for each entry.
 fn push_steps(alloc: Global, page: &mut Page, links: &[EntryRef<'_>]) -> Result<(), AllocError>
     ensures { OnOk result (page.new ≡ page.old ++ flat_map (λ e. step_line (entry_lent e)) links.now) }
 {
@@ -87,7 +88,7 @@ fn push_steps(alloc: Global, page: &mut Page, links: &[EntryRef<'_>]) -> Result<
     Ok(())
 }
 
-// The line of the end that an entry is, if it is active.
+// Appends the line of an active entry, which is an end. Appends nothing for a deprecated entry.
 fn push_end(alloc: Global, page: &mut Page, link: EntryRef<'_>) -> Result<(), AllocError>
     ensures { OnOk result (page.new ≡ page.old ++ end_line (entry_lent link.entry)) }
 {
@@ -98,7 +99,7 @@ fn push_end(alloc: Global, page: &mut Page, link: EntryRef<'_>) -> Result<(), Al
     }
 }
 
-// A line for each active entry.
+// Appends a line for each active entry.
 fn push_active(alloc: Global, page: &mut Page, links: &[EntryRef<'_>]) -> Result<(), AllocError>
     ensures { OnOk result (page.new ≡ page.old ++ flat_map (λ e. end_line (entry_lent e)) links.now) }
 {

@@ -7,11 +7,11 @@ use cpe_rows::{Changed, Truth};
 use cpe_session::Page;
 use std::alloc::AllocError;
 
-/// Puts the line of a change after what is gathered: the number of the line whose edit made it, the id of the statement, and its
-/// truth before and after, each a truth or `none`.
+/// Appends the line of a changed verdict to the page. The line has the number of the line whose edit changed the
+/// verdict, the id of the statement, and the truths before and after the edit. A missing truth is written as `none`.
 ///
 /// # Errors
-/// Only that memory ran out. What is gathered may have a prefix of the line then.
+/// Only if memory runs out. The page may end with a part of the line then.
 pub fn push_change(
     page: &mut Page,
     number: u64,

@@ -1,4 +1,4 @@
-// Certificates, and what is said of them, as lines.
+// Certificates, and the results of their tests, as lines.
 ghost use Rattle.std.specs.Prelude.{◌≡◌, ◌++◌, OnOk, codes};
 ghost use Rattle.proof_lines.specs.Written.{proof_text};
 ghost use Rattle.cpe_replies.specs.Proofs.{checked_word, checked_line};
@@ -8,10 +8,10 @@ use cpe_session::Page;
 use proof_lines::write_proof;
 use std::alloc::{AllocError, Global};
 
-/// Puts the line of a certificate after what is gathered.
+/// Appends the line of a certificate to the page.
 ///
 /// # Errors
-/// Only that memory ran out. A part of the line may be put then.
+/// Only if memory runs out. The page may end with a part of the line then.
 pub fn push_proof(alloc: Global, page: &mut Page, proof: &Proof) -> Result<(), AllocError>
     ensures { OnOk result (page.new ≡ page.old ++ (proof_text proof.now ++ codes "\n")) }
 {
@@ -32,10 +32,10 @@ fn checked_word(checked: Checked) -> &'static [u8]
     }
 }
 
-/// Puts what is said of the certificate of this id after what is gathered.
+/// Appends the line of a certificate's result to the page: the id, and the result of the test.
 ///
 /// # Errors
-/// Only that memory ran out. A part of the line may be put then.
+/// Only if memory runs out. The page may end with a part of the line then.
 pub fn push_checked(page: &mut Page, id: &str, checked: Checked) -> Result<(), AllocError>
     ensures { OnOk result (page.new ≡ page.old ++ checked_line id.now checked) }
 {

@@ -1,4 +1,4 @@
-// Why the line of a record is refused.
+// The reasons for which the line of a record is refused, as text.
 ghost use Rattle.std.specs.Prelude.{◌≡◌, ◌++◌, OnOk, codes, decimal};
 ghost use Rattle.cpe_replies.specs.Replies.{name_text};
 ghost use Rattle.cpe_replies.specs.Reasons.{spot_text, record_fault_text, which_word, edit_fault_text, proof_fault_text, reason_text};
@@ -13,11 +13,11 @@ use std::alloc::{AllocError, Global};
 /// Why the line of a record is refused.
 #[derive(Debug, Drop)]
 pub enum RecordReason {
-    /// It is no record.
+    /// The line is no record.
     Unread(RecordFault),
-    /// Its edit can't be applied to the rows.
+    /// The edit of the line can't be applied to the rows.
     Refused(EditFault),
-    /// It speaks of a certificate, and is not of the form of one.
+    /// The line is no record. Its member `do` is `proof`, but the line doesn't have the form of a certificate.
     Unproved(ProofFault),
 }
 
@@ -33,10 +33,10 @@ impl Reason for RecordReason {
     }
 }
 
-/// Puts why a line is no record after what is gathered.
+/// Appends to the page the reason why a line is no record.
 ///
 /// # Errors
-/// Only that memory ran out. A part of the reason may be put then.
+/// Only if memory runs out. The page may end with a part of the reason then.
 pub fn push_record_fault(page: &mut Page, fault: &RecordFault) -> Result<(), AllocError>
     ensures { OnOk result (page.new ≡ page.old ++ record_fault_text fault.now) }
 {
@@ -57,7 +57,7 @@ fn push_member(page: &mut Page, member: Member) -> Result<(), AllocError>
     page.push(member.key().as_bytes())
 }
 
-// A word, and which name of the record.
+// Appends a word, and then which name of the record is meant.
 fn push_spot(page: &mut Page, word: &[u8], spot: NameSpot) -> Result<(), AllocError>
     ensures { OnOk result (page.new ≡ page.old ++ (word.now ++ spot_text spot)) }
 {
@@ -84,7 +84,7 @@ fn push_attribute(page: &mut Page, spot: NameSpot, which: Attribute) -> Result<(
     page.push(attribute_word(which).as_bytes())
 }
 
-// A word, and the place of a successor.
+// Appends a word, and then the place of a successor in the list of successors.
 fn push_place(page: &mut Page, word: &[u8], place: u32) -> Result<(), AllocError>
     ensures { OnOk result (page.new ≡ page.old ++ (word.now ++ decimal place)) }
 {

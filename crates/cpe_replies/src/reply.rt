@@ -1,4 +1,4 @@
-// The answers to queries as lines.
+// The answers to questions, as lines.
 ghost use Rattle.std.specs.Prelude.{◌≡◌, ◌++◌, OnOk, codes, option_map};
 ghost use Rattle.cpe_replies.specs.Replies.{state_word, name_text, count_line, chain_line, found_line, shown, verdict_line, reply_text};
 ghost use Rattle.written_records.specs.Written.{entry_text};
@@ -10,10 +10,10 @@ use cpe_session::Page;
 use std::alloc::{AllocError, Global};
 use written_records::append_entry;
 
-/// Puts the lines of an answer after what is gathered.
+/// Appends the lines of an answer to the page.
 ///
 /// # Errors
-/// Only that memory ran out. What is gathered may be lost then.
+/// Only if memory runs out. The bytes of the page may be lost then.
 pub fn push_reply(alloc: Global, page: &mut Page, reply: &Reply) -> Result<(), AllocError>
     ensures { OnOk result (page.new ≡ page.old ++ reply_text reply.now) }
 {
@@ -38,7 +38,7 @@ pub fn push_reply(alloc: Global, page: &mut Page, reply: &Reply) -> Result<(), A
     }
 }
 
-// A line that tells how many follow.
+// Appends the first line of an answer: a word, the name, and the number of entries, or of covered items.
 fn push_count(
     alloc: Global,
     page: &mut Page,
@@ -115,10 +115,11 @@ fn push_entry(alloc: Global, page: &mut Page, entry: &Entry) -> Result<(), Alloc
     page.with_bytes(alloc, |bytes| append_entry(alloc, bytes, entry))
 }
 
-/// Puts the line of a verdict after what is gathered: the id of the statement, and its truth or `absent`.
+/// Appends the line of a verdict to the page: the id of the statement, and then the truth, or `absent` if there is
+/// none.
 ///
 /// # Errors
-/// Only that memory ran out. What is gathered may have a prefix of the line then.
+/// Only if memory runs out. The page may end with a part of the line then.
 pub fn push_verdict(page: &mut Page, id: &str, truth: Option<Truth>) -> Result<(), AllocError>
     ensures { OnOk result (page.new ≡ page.old ++ verdict_line id.now truth) }
 {

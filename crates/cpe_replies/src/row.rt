@@ -1,4 +1,4 @@
-// Names and entries in short, as lines.
+// The line of a name, and the line of a name with the state of its entry.
 ghost use Rattle.std.specs.Prelude.{◌≡◌, ◌++◌, IfOk, OnOk, flat_map};
 ghost use Rattle.cpe_replies.specs.Replies.{state_word, name_text, name_line, row_line};
 
@@ -8,7 +8,7 @@ use cpe_rows::{Memory, Row, State, Wfn};
 use cpe_session::Page;
 use std::alloc::{AllocError, Global};
 
-/// Puts the formatted string of a name after what is gathered.
+/// Appends the formatted string of a name to the page.
 #[tactic(auto, unfolding(crate::specs::Replies::name_text))]
 pub(crate) fn push_name(alloc: Global, page: &mut Page, name: &Wfn) -> Result<(), AllocError>
     ensures { OnOk result (page.new ≡ page.old ++ name_text name.now) }
@@ -31,7 +31,7 @@ pub(crate) fn push_state(page: &mut Page, state: State) -> Result<(), AllocError
     page.push(state_word(state).as_bytes())
 }
 
-// Puts the line of a name after what a buffer holds.
+// Appends the line of a name to a buffer.
 #[tactic(auto, unfolding(crate::specs::Replies::name_text))]
 fn append_name_line(buffer: Vec<u8>, word: &[u8], name: &Wfn) -> Result<Vec<u8>, Memory>
     ensures { IfOk result (λ line. line.items ≡ buffer.items ++ name_line word.now name.now) }
@@ -54,7 +54,7 @@ pub(crate) fn push_name_line(
     page.with_bytes(alloc, |bytes| append_name_line(bytes, word, name))
 }
 
-// Puts the line of a name and of the state of its entry after what a buffer holds.
+// Appends a line to a buffer: a name, and the state of its entry.
 #[tactic(auto, unfolding(crate::specs::Replies::name_text))]
 fn append_state_line(
     buffer: Vec<u8>,
@@ -91,7 +91,7 @@ fn push_row_line(alloc: Global, page: &mut Page, word: &[u8], row: &Row) -> Resu
     push_state_line(alloc, page, word, &row.name, row.state)
 }
 
-/// A line for each name.
+/// Appends a line for each name to the page.
 pub(crate) fn push_names(
     alloc: Global,
     page: &mut Page,
@@ -106,7 +106,7 @@ pub(crate) fn push_names(
     Ok(())
 }
 
-/// A line for each entry.
+/// Appends a line for each entry to the page.
 pub(crate) fn push_rows(
     alloc: Global,
     page: &mut Page,

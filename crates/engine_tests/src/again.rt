@@ -1,6 +1,6 @@
-// An engine that goes on after memory ran out: the record at which it did left the rows as they were, and when it comes again, once, it
-// is read as if nothing had happened. With all memory this passes too; `tests/refused-memory.py` refuses it each allocation in turn.
-// What is tried stands in functions without clauses.
+// An engine can be used after memory ran out. The record at which memory ran out leaves the rows unchanged. If this
+// record is read once more, it is read as if nothing had happened. The test also passes if memory never runs out;
+// `tests/refused-memory.py` refuses each allocation in turn. The tested code is in functions without clauses.
 ghost use Rattle.std.specs.Prelude.{◌≡◌, ◌<◌};
 
 use cpe_drill::{Drilled, Engine, Steps};
@@ -9,7 +9,7 @@ use std::alloc::Global;
 use std::marker::Brand;
 use std::sync::ledger::{Blank, Ledger};
 
-// A record, and the verdicts of all statements after it, in their order.
+// A record, and the verdicts of all statements after it. The verdicts are in the order of the statements.
 struct Said(&'static [u8], &'static [u8]);
 
 // Three statements, two of them in mode follow, and a name that is deprecated, amended and restored.
@@ -122,7 +122,7 @@ const ASKED: [Said; 10] = [
     ),
 ];
 
-// What was put goes, while more comes.
+// Records that remove rows, and add others meanwhile.
 const DROPPED: [Said; 17] = [
     Said(br#"{"do":"drop-statement","id":"f"}"#, b"UU"),
     Said(br#"{"do":"drop-statement","id":"f"}"#, b"UU"),
@@ -161,7 +161,7 @@ const DROPPED: [Said; 17] = [
     Said(br#"{"do":"verdict","id":"p"}"#, b"FF"),
 ];
 
-// What is left.
+// The counts of the rows after all records.
 const LEFT: Counts = Counts {
     entries: 4,
     deprecated: 1,
@@ -201,8 +201,9 @@ fn counts_of(engine: &Engine) -> Counts {
     engine.counts()
 }
 
-// Whether a text is read, if not the first time then the second: where memory ran out the rows count as before. What compares takes no
-// memory. (No test but through this reads: what calls such a method is slow to prove.)
+// Whether a text is read at the first attempt, or else at the second. If memory runs out, the counts of the rows are
+// unchanged. The comparison takes no memory. (All tests read through this function, because the proof of a function
+// that calls `read` is slow.)
 fn reads_again<L: Ledger>(
     alloc: Global,
     drilled: &mut Drilled,
@@ -235,12 +236,12 @@ fn reads_all<L: Ledger>(
     true
 }
 
-// So many records were refused in all, and so many entries the searches found.
+// Whether five records were refused in all, the searches found eight entries, and the counts of the rows are right.
 fn is_told(drilled: &Drilled) -> bool {
     drilled.refused == 5 && drilled.found == 8 && counts_of(&drilled.engine) == LEFT
 }
 
-// (The engine is left where it is: to let go what it owns would be proved anew here.)
+// (The engine is not dropped. Otherwise the drop of all that it owns would be proved here again.)
 fn goes_on_over<L: Ledger>(alloc: Global, blank: Blank) -> bool
     requires name { blank.name ≡ L.name }
     requires parts { blank.parts ≡ L.parts }

@@ -1,5 +1,6 @@
-// Numbers that are used again, and looks at few of the names that are held. What a test made is let go by a call of `drop`, which is
-// proved once for a type: at a function's end it would be taken apart there, down to the last vector of a table.
+// Numbers that are used again, and looks at few of the held names. A call of `drop` drops what a test made, because
+// this drop is proved once for each type. At the end of a function, the proof would take the value apart, down to the
+// last vector of a table.
 ghost use Rattle.std.specs.Prelude.{◌≡◌, ◌+◌, ◌≤◌, [], ◌∷◌};
 ghost use Rattle.name_index.specs.Prelude.{IsLower, kept_at};
 ghost use Rattle.name_index.specs.Index.{Fits};
@@ -11,7 +12,7 @@ use name_index::{NameId, NameIndex, NameTable, Steps};
 use std::alloc::Global;
 use std::sync::ledger::Ledger;
 
-// Holds a name that isn't there.
+// Holds a name that the table doesn't have.
 fn hold(table: &mut NameTable, name: &Wfn) -> bool {
     if !name.is_lower() {
         return false;
@@ -32,7 +33,7 @@ fn release(table: &mut NameTable, name: &Wfn) -> bool {
     }
 }
 
-// Whether this is the number of the name, and that of its product.
+// Whether the name has this number, and its product has the same number.
 fn has_number(table: &NameTable, name: &Wfn, number: u32) -> bool {
     match table.find(name) {
         Some(id) => id.0 == number && table.product(id).0 == number,
@@ -40,7 +41,8 @@ fn has_number(table: &NameTable, name: &Wfn, number: u32) -> bool {
     }
 }
 
-// The number of the name that goes is the next one's, and so is that of its product; the others keep theirs.
+// Whether the new name gets the number of the released name, and its product the number of the released product. The
+// other names keep their numbers.
 fn are_used_again(table: &mut NameTable, names: &[Wfn]) -> bool {
     let [first, second, third, new] = names else {
         return false;
@@ -82,7 +84,8 @@ fn a_number_that_goes_is_used_again(rt: HostRuntime) {
     assert!(rt; uses_again(rt.alloc()));
 }
 
-// Names of the products `p` and `q0` to `q3` are held: to tell which of them one of the product `p` covers takes a look at most.
+// The held names that a name of the product `p` covers. The held names are of the products `p` and `q0` to `q3`. One
+// look is taken at most.
 fn look_at_one<L: Ledger>(
     alloc: Global,
     index: &NameIndex,

@@ -1,4 +1,5 @@
-// A name that is let go by one call proves quickly: at the end of a scope each of its eleven values would be let go in place.
+// A call of `drop` drops each name, because this proves quickly. At the end of a scope, the proof would drop each of
+// its eleven values in place.
 ghost use Rattle.std.specs.Prelude.{◌≡◌, []};
 
 use cpe_fs::lend_fs;
@@ -110,7 +111,7 @@ fn a_value_is_lowered(rt: HostRuntime) {
     assert!(rt; has_lower(rt.alloc(), &upper, b"foo-bar["));
 }
 
-// Of two nodes without an edge.
+// Whether there is no path from a node to another one, in a graph of two nodes without an edge.
 fn reaches_none(alloc: Global, graph: &mut DeprecationGraph) -> bool
     requires { graph.old.nodes ≡ [] }
 {
@@ -130,7 +131,7 @@ fn a_node_reaches_none_without_an_edge(rt: HostRuntime) {
     assert!(rt; is_so);
 }
 
-// ---- names that are lent: no clause says which
+// ---- lent names: no clause says which names are lent
 
 fn is_text(value: ValueRef<'_>, stem: &[u8]) -> bool {
     match value {

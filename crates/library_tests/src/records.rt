@@ -1,5 +1,5 @@
-// Rows that lines give. A record is let go by one call: at the end of a scope each of its names would be let go in place, value by
-// value, which proves slowly.
+// Records that are read from lines. A call of `drop` drops each record. At the end of a scope, the proof would drop
+// each of its names in place, value by value, and that is slow.
 use cpe_name::Wfn;
 use cpe_records::{Record, read_record};
 use cpe_rows::{CheckKey, Edit, Entry, Facts, Statement, Truth, evaluate};
@@ -32,13 +32,13 @@ fn copy_is_written(alloc: Global, entry: &Entry) -> bool {
     }
 }
 
-// ---- a statement, and its truths over facts of our own
+// ---- a statement, and its truth for facts and results that the test makes up
 
-// Not both a fact that any name is and a check.
+// The negated AND of a fact and a check. The fact's name covers each name.
 const STATEMENT: &str =
     r#"{"do":"statement","id":"s","test":{"op":"AND","negate":true,"of":[{"fact":"cpe:/"},{"check":{"system":"s","href":"h","id":"i"}}]}}"#;
 
-// Facts that hold, and checks that all have one truth.
+// Each fact is TRUE, and all checks have the same truth.
 #[derive(Drop)]
 struct Known {
     check: Truth,
@@ -76,7 +76,7 @@ fn copy_denies_both(alloc: Global, statement: &Statement) -> bool {
     }
 }
 
-// ---- both
+// ---- the entry and the statement
 
 fn holds(alloc: Global, record: &Record) -> bool {
     match record {

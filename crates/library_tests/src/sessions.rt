@@ -1,4 +1,4 @@
-// Lines, streams and steps: what no contract says of them.
+// Lines, streams and steps: what no contract says about them.
 mod lines;
 mod steps;
 mod streams;

@@ -1,8 +1,8 @@
-// A snapshot with a row of each kind, read at once.
+// A snapshot with one row of each kind, whose rows are read in one call.
 use cpe_snapshot::{PlacedEntry, PlacedRows, names_at, read_rows};
 use std::alloc::Global;
 
-// An entry, an item, a statement of a check, and its result.
+// The bytes of a snapshot: an entry, an item, a statement with a check, and the result of this check.
 const ROWS: &[u8] =
     b"CPESNAP1\0\0\0\x01\0\0\0\x01\0\0\0\x01\0\0\0\x01\0\0\0\x1dcpe:2.3:a:v:p:1:*:*:*:*:*:*:*\0\0\0\x01T\0\0\0\0\0\0\0\0\0\0\0\0\0\0\0\0\x1dcpe:2.3:a:*:*:*:*:*:*:*:*:*:*\0\0\0\x01s\0\0\0\0\0\0\x01\0\0\0\0\x01\x02\0\0\0\x01x\0\0\0\x01y\0\0\0\x01z\0\0\0\x01x\0\0\0\x01y\0\0\0\x01z\x02";
 

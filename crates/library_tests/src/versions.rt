@@ -1,14 +1,14 @@
-// How versions stand to each other.
+// The order of versions.
 use cpe_versions::version_cmp;
 use std::cmp::Ordering;
 
-// Whether the one stands so to the other, and the other conversely to it.
+// Whether the first version has this order to the second, and the second has the converse order to the first.
 fn stand(a: &str, b: &str, so: Ordering, conversely: Ordering) -> bool {
     version_cmp(a.as_bytes(), b.as_bytes()) == so
         && version_cmp(b.as_bytes(), a.as_bytes()) == conversely
 }
 
-// Whether each stands so to the next.
+// Whether each version has this order to the next version, and the next has the converse order to it.
 fn each_stands(versions: &[&str], so: Ordering, conversely: Ordering) -> bool {
     let mut last = None;
     for version in versions {
@@ -61,7 +61,8 @@ fn a_word_is_less_than_the_end_and_the_end_less_than_a_number(rt: HostRuntime) {
     assert!(rt; rise(&["alpha", "", "0"]));
 }
 
-// Those of semver 2.0.0, 11.4, where `alpha.beta` stands after `alpha.1`; here a word that follows a word makes it less.
+// The versions of semver 2.0.0, 11.4. There, `alpha.1` is less than `alpha.beta`. Here, one more word makes a version
+// less.
 #[test]
 fn pre_releases_of_semver(rt: HostRuntime) {
     assert!(rt;
@@ -83,7 +84,7 @@ fn pre_releases_of_semver(rt: HostRuntime) {
     );
 }
 
-// Vendors mean these the other way round: letter releases, patches, service packs, builds.
+// These versions are letter releases, patches, service packs and builds. Vendors mean the opposite order.
 #[test]
 fn letters_behind_a_number_make_a_version_less(rt: HostRuntime) {
     assert!(rt; rise(&["1.1.1k", "1.1.1l", "1.1.1"]));

@@ -1,4 +1,4 @@
--- What a line of one name says under `unbind` and `bind` (NIST IR 7695, 6).
+-- What `unbind` and `bind` write for a line with one name (NIST IR 7695, 6).
 use Rattle.std.specs.Prelude.{ℕ, List, ◌++◌, Some, None, Ok, Err, codes}
 use Rattle.std.specs.declared.option.Option.{Option}
 use Rattle.std.specs.declared.result.Result.{Result}
@@ -12,12 +12,12 @@ use Rattle.name_lines.specs.declared.names.NameCommand.TheVariants.{Unbind, Bind
 use Rattle.name_lines.specs.declared.names.NameReason.{NameReason}
 use Rattle.name_lines.specs.declared.names.NameReason.TheVariants.{Wfn, Name}
 
--- or the place of a text that no name has
+-- the text; or the reason that no name has the line's text, with the place of the refusal
 abbrev pub or_place : Result (List ℕ) ℕ → Result (List ℕ) NameReason
 or_place (Ok text) = Ok text
 or_place (Err place) = Err (Name place)
 
--- or that it is the text of no name
+-- the text; or the reason that no well-formed name has the line's text
 abbrev pub or_wfn : Option (List ℕ) → Result (List ℕ) NameReason
 or_wfn (Some text) = Ok text
 or_wfn None = Err Wfn
@@ -28,7 +28,7 @@ other_form Unbind text = or_place (unbound_any text)
 other_form BindFs text = or_wfn (bound text)
 other_form BindUri text = or_wfn (bound_uri text)
 
--- as a line
+-- the text as a line; or the refusal
 abbrev pub as_line : {Why : Type 0} → Result (List ℕ) Why → Result (List ℕ) Why
 as_line (Ok text) = Ok (text ++ codes "\n")
 as_line (Err why) = Err why

@@ -1,4 +1,4 @@
--- What a line of a source and a target says under `compare` (NIST IR 7696, 6).
+-- What `compare` writes for a line with a source and a target (NIST IR 7696, 6).
 use Rattle.std.specs.Prelude.{ℕ, List, ◌∷◌, ◌++◌, Some, None, Result, Ok, Err, codes}
 use Rattle.std.specs.declared.option.Option.{Option}
 use Rattle.std.specs.List.{flat_map}
@@ -20,25 +20,26 @@ relation_text Subset = codes "SUBSET"
 relation_text Superset = codes "SUPERSET"
 relation_text Undefined = codes "UNDEFINED"
 
--- each after a space
+-- the words of these relations, each after a space
 abbrev pub later_texts : List Relation → List ℕ
 later_texts = flat_map (λ r. 32 ∷ relation_text r)
 
--- a line of the relation of the names, and those of their attributes in order
+-- the line of two names: their relation, and then the relations of their attributes, in order
 abbrev pub relation_line : Values → Values → List ℕ
 relation_line source target = relation_text (name_relation source target) ++ later_texts (relations source target) ++ codes "\n"
 
--- or the place of a target that no name has
+-- the line of the two names; or the reason that no name has the target's text, with the place of the refusal
 abbrev pub to_target : Values → Result Values ℕ → Result (List ℕ) PairReason
 to_target source (Ok target) = Ok (relation_line source target)
 to_target source (Err place) = Err (Target place)
 
--- or that of a source, whatever the target is
+-- the line of the two names; if no name has the source's text, the reason says so whatever the target is, with the
+-- place of the refusal
 abbrev pub from_source : Result Values ℕ → Result Values ℕ → Result (List ℕ) PairReason
 from_source (Ok source) target = to_target source target
 from_source (Err place) target = Err (Source place)
 
--- or that there are no two halves
+-- the line of the names of both halves; or the reason that the line doesn't have two halves
 abbrev pub compared : Option (List ℕ × List ℕ) → Result (List ℕ) PairReason
 compared (Some both) = from_source (read_any both.0) (read_any both.1)
 compared None = Err Pair

@@ -1,4 +1,4 @@
-// What a line of one name says.
+// What is written for a line with one name.
 ghost use Rattle.std.specs.Prelude.{◌≡◌, ◌≤◌, ◌+◌, ◌*◌, Some, None, IfOk, MatchResult, length, take};
 ghost use Rattle.cpe_session.specs.Pages.{Puts};
 ghost use Rattle.name_lines.specs.Names.{as_line, other_form, name_reason_text};
@@ -9,7 +9,7 @@ use cpe_session::{Fill, Page, Reason, Stateless};
 use cpe_uri::{UNBOUND_FRAME, write_bound_uri, write_unbound_any};
 use std::alloc::{AllocError, Global};
 
-/// What each line is written as, which is one name in some form.
+/// A command whose lines have one name each: in which form the name is written.
 #[derive(Clone, Copy, Debug, PartialEq, Eq)]
 pub enum NameCommand {
     /// A formatted string or a URI is written as the text of its well-formed name.
@@ -20,12 +20,12 @@ pub enum NameCommand {
     BindUri,
 }
 
-/// Why a line of one name is refused.
+/// Why a line with one name is refused.
 #[derive(Clone, Copy, Debug, PartialEq, Eq)]
 pub enum NameReason {
-    /// It is the text of no well-formed name.
+    /// No well-formed name has this text.
     Wfn,
-    /// No name has this text, as its formatted string or as its URI, and this is its place.
+    /// No name has this text as its formatted string or its URI. The number is the place of the refusal.
     Name(usize),
 }
 
@@ -60,7 +60,7 @@ impl Stateless for NameCommand {
     }
 }
 
-// The other form of the name that a text stands for, as a line.
+// The other form of the name that has this text, as a line.
 #[derive(Clone, Copy)]
 struct OtherForm<'t> {
     command: NameCommand,
@@ -89,7 +89,8 @@ impl Fill for OtherForm<'_> {
     }
 }
 
-// No form has more than three bytes for each of the text, and those of the frame.
+// Writes the other form into the room. Each form has at most three bytes for each byte of the text, and the bytes of
+// the frame.
 fn write_form(
     command: NameCommand,
     room: &mut [u8],

@@ -1,4 +1,4 @@
-// What a line of a source and a target says.
+// What is written for a line with a source and a target.
 ghost use Rattle.std.specs.Prelude.{◌≡◌, ◌≤◌, ◌+◌, ◌*◌, ◌∷◌, ◌++◌, Ok, IfOk, OnOk, codes, drop, length, take, true, flat_map};
 ghost use Rattle.cpe_io.specs.Halves.{halves};
 ghost use Rattle.cpe_session.specs.Pages.{Puts};
@@ -15,21 +15,23 @@ use cpe_session::{Fill, Page, Reason, Stateless};
 use cpe_uri::{UriFault, lend_any, unbind_any};
 use std::alloc::{AllocError, Global};
 
-// The bytes of the longest word that stands for a relation, and of the space before it.
+// The number of bytes of the longest word for a relation, and of the space before it.
 const WORD: usize = 10;
 
-/// Each line is a source and a target, formatted strings or URIs, and is answered by their relations.
+/// The command `compare`: each line has a source and a target, each a formatted string or a URI. Their relations are
+/// written.
 #[derive(Clone, Copy, Debug, PartialEq, Eq)]
 pub struct Compare;
 
-/// Why a line of a source and a target is refused.
+/// Why a line with a source and a target is refused.
 #[derive(Clone, Copy, Debug, PartialEq, Eq)]
 pub enum PairReason {
-    /// The line has not exactly one space.
+    /// The line doesn't have exactly one space.
     Pair,
-    /// No name has the text before the only space, and this is its place.
+    /// No name has the text before the space. The number is the place of the refusal.
     Source(usize),
-    /// A name has the text before the space, but none has the text after it; this is its place, counted in that text alone.
+    /// A name has the text before the space, but no name has the text after it. The number is the place of the
+    /// refusal, counted from the beginning of the text after the space.
     Target(usize),
 }
 
@@ -64,7 +66,7 @@ impl Stateless for Compare {
     }
 }
 
-// The source is lent from the line where it can be: only else is it made, which takes memory.
+// Lends the source from the line if that is possible. Otherwise makes it, which takes memory.
 fn say_from_source(
     alloc: Global,
     page: &mut Page,
@@ -80,7 +82,7 @@ fn say_from_source(
     }
 }
 
-// And so is the target.
+// Lends the target from the line if that is possible. Otherwise makes it, which takes memory.
 fn say_to_target(
     alloc: Global,
     page: &mut Page,
@@ -96,7 +98,7 @@ fn say_to_target(
     }
 }
 
-// The name of a text that some name has.
+// The name that has this text. The caller makes sure that there is one.
 fn make_name(alloc: Global, text: &[u8]) -> Result<Wfn, AllocError>
     requires { IsUriOrFs text.now }
     ensures { IfOk result (λ name. read_any text.now ≡ Ok name) }
@@ -119,7 +121,7 @@ fn push_relations(
     page.with_room(&RelationLine { whole, each })
 }
 
-// The relation of two names, and those of their attributes in order.
+// The relation of two names, and the relations of their attributes, in order.
 #[derive(Clone, Copy)]
 struct RelationLine {
     whole: Relation,
@@ -155,7 +157,8 @@ fn put_line(room: &mut [u8], at: usize, whole: Relation, each: &Relations) -> us
     put_byte(room, behind_each, b'\n')
 }
 
-// All eleven, each after a space. Where those after the version are EQUAL, as of most names, they are put at once.
+// Writes the relations of all eleven attributes into the room, each after a space. If all relations after the version
+// are EQUAL, as for most names, one call writes these.
 fn put_all(room: &mut [u8], at: usize, relations: &Relations) -> usize
     requires { at + WORD * length attributes ≤ length room.old }
     ensures within { result ≤ at + WORD * length attributes }
@@ -173,7 +176,7 @@ fn put_all(room: &mut [u8], at: usize, relations: &Relations) -> usize
     put_each(room, behind_early, relations, &ATTRIBUTES[4..])
 }
 
-// Whether each after the version is EQUAL.
+// True only if each relation after the version is EQUAL.
 #[inline(always)]
 #[tactic(auto, using(crate::proofs::RelationTexts::equal_late))]
 fn are_equal_late(relations: &Relations) -> bool
@@ -195,7 +198,7 @@ fn is_equal(relation: Relation) -> bool
     matches!(relation, Relation::Equal)
 }
 
-// Each after a space.
+// Writes the relations of these attributes into the room, each after a space.
 #[inline(always)]
 fn put_each(room: &mut [u8], at: usize, relations: &Relations, which: &[Attribute]) -> usize
     requires { at + WORD * length which.now ≤ length room.old }
@@ -210,7 +213,7 @@ fn put_each(room: &mut [u8], at: usize, relations: &Relations, which: &[Attribut
     end
 }
 
-// After a space. Each word is put by its own length, which is known before.
+// Writes a space and the word of a relation into the room. Each case writes a word of fixed length.
 #[inline(always)]
 fn put_word(room: &mut [u8], at: usize, relation: Relation) -> usize
     requires { at + WORD ≤ length room.old }

@@ -1,4 +1,4 @@
--- In lawful rows the test of a certificate says what its definition does.
+-- In lawful rows the test of a certificate agrees with the definition of its result.
 use Rattle.std.proofs.Common.{◌≡◌, Bool, Option, Some, None, if◌then◌else◌, refl, ap, sym}
 use Rattle.std.specs.Prelude.{find}
 use Rattle.std.specs.Option.{option_map_or}

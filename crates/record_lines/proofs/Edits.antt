@@ -1,4 +1,4 @@
--- The lines of records change the rows by their edits alone, and may look as often as these and their queries do.
+-- The lines of records change the rows only by their edits, and take the looks of their edits and questions.
 use Rattle.std.proofs.Common.{◌≡◌, ℕ, List, [], ◌∷◌, Some, None, Result, Ok, Err, ◌⊎◌, inl, inr, Option, refl, ap, sym}
 use Rattle.cpe_session.specs.Session.{state_after}
 use Rattle.cpe_session.specs.Folding.{ChangesBy, CostsBy}
@@ -29,7 +29,7 @@ record_state command number rows (Ok (Edit e)) = step_state rows (edit_text comm
 record_state command number rows (Ok (Query query)) = refl
 record_state command number rows (Err fault) = refl
 
--- what speaks of a certificate is no record, and changes nothing either
+-- under `check`, a line that is meant as a certificate is no record, so it changes nothing
 checked_state : (number : ℕ) (rows : Rows) (text : List ℕ) (proof : Result (Option Proof) ProofFault) → proof_of text ≡ proof
     → state_after rows (by_proof rows proof (by_record Check number rows (record_of text))) ≡ edited rows (record_of text)
 checked_state number rows text (Ok None) is = record_state Check number rows (record_of text)
@@ -55,14 +55,14 @@ costs-lines command s None = refl
 costs-lines command s (Some []) = refl
 costs-lines command s (Some (x ∷ xs)) = refl
 
--- a record is no certificate
+-- a record is no certificate, so under `check` its line says what the record says
 checked_says : (number : ℕ) (rows : Rows) (text : List ℕ) (r : Record) → record_of text ≡ Ok r → (proof : Result (Option Proof) ProofFault) → proof_of text ≡ proof
     → by_proof rows proof (by_record Check number rows (record_of text)) ≡ by_record Check number rows (Ok r)
 checked_says number rows text r read (Ok None) is = ap (by_record Check number rows) read
 checked_says number rows text r read (Ok (Some p)) is = let refused = no_record text (λ none. let wrong : ⊥ = cc in wrong) in absurd (cc)
 checked_says number rows text r read (Err fault) is = let refused = no_record text (λ none. let wrong : ⊥ = cc in wrong) in absurd (cc)
 
--- so its line says what it does
+-- under each command, the line of a record says what the record says
 pub record_says : (command : RecordCommand) (number : ℕ) (rows : Rows) (text : List ℕ) (r : Record) → record_of text ≡ Ok r
     → by_proof rows (proof_in command text) (by_record command number rows (record_of text)) ≡ by_record command number rows (Ok r)
 record_says Resolve number rows text r read = ap (by_record Resolve number rows) read
@@ -72,7 +72,7 @@ record_says Explain number rows text r read = ap (by_record Explain number rows)
 record_says Check number rows text r read = checked_says number rows text r read (proof_of text) refl
 record_says Save number rows text r read = ap (by_record Save number rows) read
 
--- but one the commands write nothing of an edit
+-- all commands except `watch` write nothing for an edit
 pub quiet_edit : (command : RecordCommand) (number : ℕ) (rows : Rows) (e : edit.Edit) → (command ≡ Resolve) ⊎ (command ≡ Evaluate) ⊎ (command ≡ Explain) ⊎ (command ≡ Check) ⊎ (command ≡ Save)
     → edit_text command number rows e ≡ (λ next. [])
 quiet_edit command number rows e (inl is) = ap (λ (k : RecordCommand). edit_text k number rows e) is

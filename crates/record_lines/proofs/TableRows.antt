@@ -1,4 +1,4 @@
--- The table of verdicts as a head, and a row for each statement.
+-- The table of verdicts is a head, and a line for each statement.
 use Rattle.std.proofs.Common.{◌≡◌, ℕ, List, [], ◌++◌, length, slice_get, codes, Option, sym, ap, ◌∙◌, subst, append_assoc}
 use Rattle.std.specs.Option.{option_map_or}
 use Rattle.std.specs.Fmt.{decimal}
@@ -15,7 +15,7 @@ head count = codes "verdicts " ++ decimal count ++ codes "\n"
 abbrev lines : Rows → List ℕ
 lines rows = rows_text (λ k. option_map_or (statement_line rows) (slice_get rows.statements k) []) (length rows.statements)
 
--- after the head, the lines make the table
+-- the head, followed by the lines, is the table
 with_table : (rows : Rows) (count : ℕ) (page page_then : List ℕ) → count ≡ length rows.statements → page_then ≡ page ++ head count
     → page_then ++ lines rows ≡ page ++ verdict_table rows
 with_table rows count page page_then counted put =
@@ -23,14 +23,14 @@ with_table rows count page page_then counted put =
     ∙ append_assoc page (head (length rows.statements)) (lines rows)
     ∙ ap (λ (text : List ℕ). page ++ (head (length rows.statements) ++ text)) (row_each (statement_line rows) rows.statements)
 
--- the lines were poured
+-- if all lines were appended after the head, the table was
 pub table-poured : (rows : Rows) (count : ℕ) (held held_now : Option (List ℕ)) (page page_then page_now : List ℕ)
     → count ≡ length rows.statements → page_then ≡ page ++ head count
     → Pours held held_now page_then page_now (lines rows) → Pours held held_now page page_now (verdict_table rows)
 table-poured rows count held held_now page page_then page_now counted put pours =
     record { prefix = pours.prefix; appends = pours.appends; splits = sym (with_table rows count page page_then counted put) ∙ pours.splits }
 
--- or a prefix of them
+-- if a prefix of the lines was written after the head, it is a prefix of the table
 pub table-begun : (rows : Rows) (count : ℕ) (held held_now : Option (List ℕ)) (page page_then : List ℕ)
     → count ≡ length rows.statements → page_then ≡ page ++ head count
     → AppendsPrefix held held_now (page_then ++ lines rows) → AppendsPrefix held held_now (page ++ verdict_table rows)

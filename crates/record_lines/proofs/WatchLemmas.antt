@@ -1,4 +1,4 @@
--- What `watch` says of an accepted edit.
+-- What `watch` writes for an accepted edit.
 use Rattle.std.proofs.Common.{◌≡◌, ℕ, List, ◌++◌, Option, None, Result, Ok, refl, sym, ap, ◌∙◌, subst}
 use Rattle.std.specs.List.{flat_map}
 use Rattle.cpe_session.specs.Pages.{IsSaid}
@@ -13,11 +13,11 @@ use Rattle.cpe_replies.specs.Replies.{change_line, changed_id, dropped_id}
 use Rattle.record_lines.specs.declared.records.RecordCommand.TheVariants.{Watch}
 use Rattle.record_lines.specs.Records.{edit_text, by_step}
 
--- the lines of some changes, by the statements after the edit and the id that it dropped
+-- the lines of some changes, by the statements after the edit and the id that the edit removed
 abbrev lines : ℕ → List Statement → Option (List ℕ) → List Changed → List ℕ
 lines number statements dropped = flat_map (λ c. change_line number (changed_id statements dropped c) c)
 
--- the lines of its changes were put, and its rows follow
+-- an edit is accepted, and the lines of its changes were appended: this is what `watch` writes for the edit
 pub changes-said : (number : ℕ) (rows next : Rows) (e : Edit) (dropped : Option (List ℕ)) (cs : List Changed) (page page_now : List ℕ)
     → step rows e ≡ Ok next → cs ≡ changes rows e → dropped ≡ dropped_id e → page_now ≡ page ++ lines number next.statements dropped cs
     → IsSaid (by_step (edit_text Watch number rows e) (step rows e)) rows next page page_now None

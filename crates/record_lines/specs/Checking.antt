@@ -1,5 +1,6 @@
--- What is said of a certificate, as a test of each of its levels. In lawful rows that is what their definition says: it holds exactly where it
--- is good for the statement that has its id (`IsChecked`, checked_certificates).
+-- The result of the test of a certificate. The test passes through all levels of the certificate. In lawful rows the
+-- result agrees with the definition (`IsChecked` in checked_certificates): a certificate holds exactly if it is good
+-- for the statement that has its id.
 use Rattle.std.specs.Prelude.{find, if◌then◌else◌}
 use Rattle.std.specs.Option.{option_map_or}
 use Rattle.cpe_rows.specs.Rows.{Rows, has_id}

@@ -1,5 +1,5 @@
--- What a line of a record says under `resolve`, `evaluate`, `watch`, `explain`, `check` and `save`, what it makes of the rows (NIST IR 7697),
--- and what is written at the end (NIST IR 7698).
+-- What `resolve`, `evaluate`, `watch`, `explain`, `check` and `save` write for a line of a record, how they change
+-- the rows (NIST IR 7697), and what they write at the end (NIST IR 7698).
 use Rattle.std.specs.Prelude.{ℕ, Bool, true, false, List, [], Option, Some, None, Ok, Err}
 use Rattle.std.specs.declared.result.Result.{Result}
 use Rattle.cpe_session.specs.Session.{Session, Saying}
@@ -26,33 +26,35 @@ use Rattle.record_lines.specs.Checking.{checked}
 use Rattle.record_lines.specs.declared.records.RecordCommand.{RecordCommand}
 use Rattle.record_lines.specs.declared.records.RecordCommand.TheVariants.{Evaluate, Watch, Explain, Check, Save}
 
--- what an accepted edit, the line of this number, writes where it leaves the next rows: nothing, or under `watch` the verdicts that it changes
+-- what an accepted edit writes: under `watch` the verdicts that it changes, otherwise nothing; `number` is the number
+-- of the edit's line, and `next` are the rows that the edit leaves
 abbrev pub edit_text : RecordCommand → ℕ → Rows → edit.Edit → Rows → List ℕ
 edit_text Watch number rows e next = changes_text number next e (changes rows e)
 edit_text command number rows e next = []
 
--- what a query writes: its answer, but nothing under `save`
+-- what a question writes: under `save` nothing, otherwise its answer
 abbrev pub query_text : RecordCommand → Rows → query.Query → List ℕ
 query_text Save rows q = []
 query_text command rows q = reply_text (answer rows q)
 
--- an accepted edit writes this text of the rows that it leaves
+-- an accepted edit writes this text, which depends on the rows that it leaves; a refused edit writes the reason
 abbrev pub by_step : (Rows → List ℕ) → Result Rows EditFault → Saying Rows
 by_step text (Ok next) = Ok (text next, next)
 by_step text (Err fault) = Err (edit_fault_text fault)
 
--- an edit is applied, and a query is answered
+-- an edit is applied, a question is answered, and a line that is no record is refused
 abbrev pub by_record : RecordCommand → ℕ → Rows → Result Record RecordFault → Saying Rows
 by_record command number rows (Ok (Edit e)) = by_step (edit_text command number rows e) (step rows e)
 by_record command number rows (Ok (Query q)) = Ok (query_text command rows q, rows)
 by_record command number rows (Err fault) = Err (record_fault_text fault)
 
--- the certificate that a line is; but under `check` no line is one
+-- the certificate that a line is; only `check` accepts certificates
 abbrev pub proof_in : RecordCommand → List ℕ → Result (Option Proof) ProofFault
 proof_in Check text = proof_of text
 proof_in command text = Ok None
 
--- what is said of a certificate in these rows; a line that is none says what its record does
+-- for a line with a certificate, the result of its test in these rows; for a line that isn't meant as a certificate,
+-- what its record says; otherwise the reason why the certificate's form is wrong
 abbrev pub by_proof : Rows → Result (Option Proof) ProofFault → Saying Rows → Saying Rows
 by_proof rows (Ok (Some p)) record_says = Ok (checked_line p.id (checked rows p), rows)
 by_proof rows (Ok None) record_says = record_says
@@ -65,7 +67,7 @@ ending Explain rows = certificate_lines rows
 ending Save rows = snapshot rows
 ending command rows = []
 
--- whether a refused line writes nothing
+-- whether refused lines write nothing
 abbrev pub is_quiet : RecordCommand → Bool
 is_quiet Save = true
 is_quiet command = false

@@ -15,7 +15,7 @@ use engine_snapshot::Engine;
 use std::alloc::{AllocError, Global};
 use std::sync::ledger::Ledger;
 
-/// Applies an edit, and puts the verdicts that it changes after what is gathered; or tells why it can't be applied.
+/// Applies an edit, and appends its changed verdicts to the page. If the edit can't be applied, returns why.
 #[inline(never)]
 pub(crate) fn say_changes<L: Ledger>(
     alloc: Global,
@@ -40,7 +40,8 @@ pub(crate) fn say_changes<L: Ledger>(
     }
 }
 
-// The same, where the id of the statement that the edit drops is at hand.
+// Applies an edit as `say_changes` does. `dropped` is the id of the statement that the edit removes, if it removes
+// one.
 fn say_applied<L: Ledger>(
     engine: &mut Engine,
     page: &mut Page,
@@ -66,7 +67,7 @@ fn say_applied<L: Ledger>(
     }
 }
 
-// The id of the statement that an edit drops: after the edit the rows have it no more.
+// The id of the statement that an edit removes. It is copied, because the rows don't have it after the edit.
 fn copy_dropped_id(alloc: Global, edit: &Edit) -> Result<Option<Text>, AllocError>
     ensures { IfOk result (λ id. id ≡ dropped_id edit.now) }
 {
@@ -79,7 +80,7 @@ fn copy_dropped_id(alloc: Global, edit: &Edit) -> Result<Option<Text>, AllocErro
     }
 }
 
-// A line for each change. The engine has made the edit.
+// Appends a line for each change. The engine has applied the edit already.
 fn push_changes(
     page: &mut Page,
     number: u64,
@@ -97,7 +98,7 @@ fn push_changes(
     Ok(())
 }
 
-// The id of a statement that changed.
+// The id of the statement whose verdict changed.
 fn changed_id<'t>(engine: &'t Engine, dropped: &'t Option<Text>, change: &Changed) -> &'t str
     ensures { result.now ≡ changed_id engine.now.statements dropped.now change.now }
 {
@@ -110,7 +111,7 @@ fn changed_id<'t>(engine: &'t Engine, dropped: &'t Option<Text>, change: &Change
     }
 }
 
-// The id of the statement at a place from 0.
+// The id of the statement at a place, counted from 0.
 fn statement_id(engine: &Engine, place: usize) -> &str
     ensures { result.now ≡ statement_id engine.now.statements place }
 {

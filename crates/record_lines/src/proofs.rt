@@ -1,4 +1,4 @@
-// Certificates of verdicts, and what is said of them.
+// Certificates of verdicts, and the results of their tests.
 ghost use Rattle.std.specs.Prelude.{◌≡◌, ◌++◌, [], IfOk, OnOk, length, slice_get, None, codes};
 ghost use Rattle.std.specs.Option.{option_map_or};
 ghost use Rattle.cpe_session.specs.Prelude.{AppendsPrefix, HasSinkCause, Pours};
@@ -14,7 +14,7 @@ use cpe_session::{Page, Sink, SinkFault, Table, pour_table};
 use engine_snapshot::Engine;
 use std::alloc::{AllocError, Global};
 
-// A certificate for each statement.
+// The lines of the certificates, one for each statement.
 #[derive(Clone, Copy)]
 struct Certificates<'e> {
     engine: &'e Engine,
@@ -40,17 +40,17 @@ impl Table for Certificates<'_> {
     }
 }
 
-// Puts the line of a certificate, which is let go.
+// Appends the line of a certificate, and drops the certificate.
 fn put_certificate(alloc: Global, page: &mut Page, proof: Proof) -> Result<(), AllocError>
     ensures { OnOk result (page.new ≡ page.old ++ (proof_text proof ++ codes "\n")) }
 {
     push_proof(alloc, page, &proof)
 }
 
-/// Puts a certificate of each statement's verdict after what is gathered, and gives full pages to the sink on the way.
+/// Appends the certificate of each statement's verdict to the page. Writes full pages to the sink meanwhile.
 ///
 /// # Errors
-/// A failed write, or that memory ran out. A prefix of the certificates may be written then.
+/// A write failed, or memory ran out. A prefix of the page and the certificates may be written then.
 pub(crate) fn pour_certificates<K: Sink>(
     alloc: Global,
     engine: &Engine,
@@ -64,7 +64,7 @@ pub(crate) fn pour_certificates<K: Sink>(
     pour_table(alloc, &Certificates { engine }, page, sink)
 }
 
-// What the rows say of a certificate.
+// The result of the test of a certificate in these rows.
 fn check(alloc: Global, engine: &Engine, proof: &Proof) -> Result<Checked, Memory>
     ensures { IfOk result (λ said. said ≡ checked engine.now proof.now) }
 {
@@ -72,7 +72,7 @@ fn check(alloc: Global, engine: &Engine, proof: &Proof) -> Result<Checked, Memor
     check_proof(alloc, engine, proof)
 }
 
-/// Puts what the rows say of a certificate after what is gathered. The certificate is let go.
+/// Appends the result of the test of a certificate to the page, and drops the certificate.
 #[inline(never)]
 pub(crate) fn say_checked(
     alloc: Global,

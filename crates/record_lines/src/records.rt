@@ -1,4 +1,4 @@
-// What a line of a record says.
+// What is written for a line with a record.
 ghost use Rattle.std.specs.Prelude.{◌≡◌, ◌++◌, [], ℕ, List, true, None, Err, IfOk, OnErr, OnOk, option_map};
 ghost use Rattle.cpe_session.specs.Prelude.{IsBeforeOrAfter, IsSaid, StepsWithin};
 ghost use Rattle.cpe_rows.specs.Prelude.{answer, step};
@@ -23,20 +23,21 @@ use proof_lines::{ProofFault, read_proof};
 use std::alloc::{AllocError, Global};
 use std::sync::ledger::Ledger;
 
-/// Each line is a record: an edit is applied to the rows that the engine keeps, and a query is answered from them.
+/// A command whose lines are records: an edit is applied to the rows of the engine, and a question is answered from
+/// them.
 #[derive(Clone, Copy, Debug, PartialEq, Eq)]
 pub enum RecordCommand {
-    /// Nothing is written at the end of the input.
+    /// At the end of the input, nothing is written.
     Resolve,
-    /// The verdicts of all statements are written there.
+    /// At the end, the verdicts of all statements are written.
     Evaluate,
-    /// The verdicts that an edit changes are written after it, and nothing at the end.
+    /// After an edit, the verdicts that it changes are written. At the end, nothing is written.
     Watch,
-    /// The certificates of the verdicts are written there, one of each statement.
+    /// At the end, the certificates of the verdicts are written, one for each statement.
     Explain,
-    /// A line may be a certificate, too, and it is told whether it holds. Nothing is written at the end.
+    /// A line may also be a certificate; the result of its test is written. At the end, nothing is written.
     Check,
-    /// No line writes anything, and the snapshot of the rows is written at the end.
+    /// For a line, nothing is written. At the end, the snapshot of the rows is written.
     Save,
 }
 
@@ -93,7 +94,7 @@ impl Speaker for RecordCommand {
 }
 
 impl RecordCommand {
-    // The certificate of a line, where the command takes any.
+    // The certificate that a line is, if the command accepts certificates.
     fn proof_in(&self, alloc: Global, text: &[u8]) -> Result<Option<Proof>, ProofFault>
         ensures { Gives result (proof_in self.now text.now) }
     {
@@ -107,7 +108,8 @@ impl RecordCommand {
         }
     }
 
-    // Tells what the rows say of a line that is no record but a certificate, where the command takes any; or why it is no record.
+    // Answers a line that is no record. If the command accepts certificates and the line is one, appends the result
+    // of its test. Otherwise returns why the line is refused.
     #[inline(never)]
     fn say_unread(
         &self,
@@ -128,7 +130,7 @@ impl RecordCommand {
         }
     }
 
-    // Applies an edit, and writes what the command tells of it; or tells why it can't be applied.
+    // Applies an edit, and appends what the command writes for it. If the edit can't be applied, returns why.
     fn say_edit<L: Ledger>(
         &self,
         alloc: Global,
@@ -154,7 +156,7 @@ impl RecordCommand {
         }
     }
 
-    // Answers a query; where the rows are only saved it is not asked.
+    // Appends the answer to a question. The command `save` writes no answers, so it drops the question.
     fn say_query<L: Ledger>(
         &self,
         alloc: Global,
@@ -181,7 +183,7 @@ impl RecordCommand {
     }
 }
 
-// Applies an edit, or tells why it can't be applied. Nothing is written for one that was.
+// Applies an edit, and writes nothing for it. If the edit can't be applied, returns why.
 #[inline(never)]
 fn make_edit<L: Ledger>(
     engine: &mut Engine,
@@ -204,7 +206,7 @@ fn make_edit<L: Ledger>(
     }
 }
 
-// Puts the answer to a query after what is gathered.
+// Appends the answer to a question.
 fn say_answer<L: Ledger>(
     alloc: Global,
     engine: &Engine,
@@ -222,7 +224,7 @@ fn say_answer<L: Ledger>(
     }
 }
 
-// The same for a query for a chain. The names that it has are lent, and none is copied.
+// Appends the answer to a question for a chain. The names of the chain are lent, and none is copied.
 #[inline(never)]
 fn say_chain(
     alloc: Global,
@@ -238,7 +240,7 @@ fn say_chain(
     Ok(None)
 }
 
-// Puts the lines of a chain after what is gathered.
+// Appends the lines of the name's chain.
 fn push_chain_of(
     alloc: Global,
     engine: &Engine,
@@ -253,7 +255,7 @@ fn push_chain_of(
     }
 }
 
-// The same for each query.
+// Appends the answer to a question of any kind.
 #[inline(never)]
 fn say_reply<L: Ledger>(
     alloc: Global,

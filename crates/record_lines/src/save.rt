@@ -7,10 +7,10 @@ use cpe_session::{Page, Sink, SinkFault, pour_text};
 use engine_snapshot::{Engine, write_snapshot};
 use std::alloc::Global;
 
-/// Gives what is gathered, and then the snapshot of the rows, to the sink.
+/// Writes the page, and then the snapshot of the rows, to the sink. The last bytes may be left on the page.
 ///
 /// # Errors
-/// A failed write, or that memory ran out. A prefix of both may be written then.
+/// A write failed, or memory ran out. A prefix of the page and the snapshot may be written then.
 pub(crate) fn pour_snapshot<K: Sink>(
     alloc: Global,
     engine: &Engine,

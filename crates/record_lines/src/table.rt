@@ -9,7 +9,7 @@ use cpe_session::{Page, Sink, SinkFault, Table, pour_table};
 use engine_snapshot::Engine;
 use std::alloc::{AllocError, Global};
 
-// A row for each statement.
+// The lines of the verdicts, one for each statement.
 #[derive(Clone, Copy)]
 struct Lines<'e> {
     engine: &'e Engine,
@@ -35,10 +35,10 @@ impl Table for Lines<'_> {
     }
 }
 
-/// Puts the table of verdicts after what is gathered, and gives full pages to the sink on the way.
+/// Appends the table of verdicts to the page. Writes full pages to the sink meanwhile.
 ///
 /// # Errors
-/// A failed write, or that memory ran out. A prefix of the table may be written then.
+/// A write failed, or memory ran out. A prefix of the page and the table may be written then.
 pub fn pour_verdicts<K: Sink>(
     alloc: Global,
     engine: &Engine,
@@ -55,7 +55,7 @@ pub fn pour_verdicts<K: Sink>(
     }
 }
 
-// How many verdicts follow.
+// Appends the first line of the table, which has the number of verdicts.
 fn push_head(page: &mut Page, count: usize) -> Result<(), AllocError>
     ensures { OnOk result (page.new ≡ page.old ++ (codes "verdicts " ++ decimal count ++ codes "\n")) }
 {

@@ -1,4 +1,5 @@
--- What `convert` writes of a record that is read is UTF-8, so its lines leave the rows that the lines themselves do.
+-- The written form of a record that was read is UTF-8. So the lines that `convert` writes leave the same rows as the
+-- lines that it reads.
 use Rattle.std.proofs.Common.{◌≡◌, ℕ, List, [], ◌∷◌, ◌++◌, Bool, true, false, Option, Some, None, map, IsUtf8, if◌then◌else◌, refl, sym, ap, ◌∙◌, subst}
 use Rattle.std.specs.Prelude.{IfOk, All, IsTrue}
 use Rattle.std.specs.List.{AllByRecursion, flat_map}
@@ -111,7 +112,7 @@ operator_text : (o : Operator) → IsUtf8 (operator_word o)
 operator_text And = IsUtf8-are_ascii _ refl
 operator_text Or = IsUtf8-are_ascii _ refl
 
--- what is asked of a test
+-- the names of the test's facts are well-formed, and the keys of its checks are UTF-8
 abbrev IsWritable : Test → Type 0
 IsWritable t = AllByRecursion IsName (fact_names t) × AllByRecursion IsTextKey (keys_of t)
 

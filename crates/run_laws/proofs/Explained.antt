@@ -1,4 +1,4 @@
--- What `explain` writes of a statement is a line that `check` calls good.
+-- If `explain` writes a certificate, `check` says that this certificate holds.
 use Rattle.std.proofs.Common.{◌≡◌, ℕ, ◌+◌, List, [], ◌∷◌, ◌++◌, Bool, true, false, map, Option, Some, None, codes, if◌then◌else◌, inl, inr, refl, sym, ap, ◌∙◌, subst, append_assoc, append-nil, length, drop, not, get_or, arith, IsUtf8}
 use Rattle.std.specs.Prelude.{Result, Ok, find}
 use Rattle.std.specs.List.{flat_map, list_any, AllByRecursion}
@@ -63,7 +63,7 @@ found_at (x ∷ xs) s differ (inr m) =
     let other : has_id s.id x ≡ false = other_bytes s.id x.id (not_element (has_id x.id) xs (not-true (list_any (has_id x.id) xs) parts.0) s m) in
     ap (λ b. if b then Some x else find (has_id s.id) xs) other ∙ found_at xs s parts.1 m
 
--- ---- what is said of a certificate
+-- ---- the result of the test of a certificate
 
 abbrev said_of : Rows → Why → Option Statement → Checked
 said_of rows w o = option_map_or (λ s. if test_passes rows s.mode s.test w then Holds else Fails) o Absent
@@ -88,7 +88,7 @@ module _ (right : GoodProofsAreRight) (rows : Rows) (lawful : IsLawful rows) (p 
   unfolding checked
   has_verdict holds = by_statement (find (has_id p.id) rows.statements) refl holds
 
--- ---- what is written of it
+-- ---- the line of a result
 
 cancel : (front a b : List ℕ) → front ++ a ≡ front ++ b → a ≡ b
 cancel front a b e = sym (drop_at front a (length front) refl) ∙ ap (drop (length front)) e ∙ drop_at front b (length front) refl
@@ -113,7 +113,7 @@ abbrev has_bytes : List ℕ → Bool
 has_bytes [] = false
 has_bytes (x ∷ xs) = true
 
--- it begins with a brace
+-- the text of a certificate has bytes: it begins with a brace
 text_has_bytes : (p : Proof) → has_bytes (proof_text p) ≡ true
 unfolding proof_text print_from
 text_has_bytes p = refl
@@ -127,7 +127,7 @@ line_checked : (rows : Rows) (number : ℕ) (text : List ℕ) (p : Proof) → pr
 line_checked rows number [] p is some = let wrong : ⊥ = cc in absurd wrong
 line_checked rows number (x ∷ xs) p is some = by_certificate rows number (x ∷ xs) p (proof_of (x ∷ xs)) is
 
--- a line that is said to hold
+-- if `check` says that a line's certificate holds, the result of its test is that it holds
 by_bytes : (rows : Rows) (number : ℕ) (line : List ℕ) (p : Proof) → proof_of line ≡ Ok (Some p)
     → writes false number (line_says (record_session Check) rows number (Some line)) ≡ checked_line p.id Holds → checked_line p.id (checked rows p) ≡ checked_line p.id Holds
 by_bytes rows number [] p is holds = let wrong : ⊥ = cc in absurd wrong
@@ -206,7 +206,7 @@ lines_are_checked_in_turn input it before more line h splits =
           ∙ out_from-append session (start no_rows) before (line ∷ more);
     }
 
--- ---- what holds
+-- ---- a certificate that holds
 
 pub held_is_verdict : GoodProofsAreRight → HeldIsVerdict
 held_is_verdict right before line p is holds =

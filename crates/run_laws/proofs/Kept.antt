@@ -1,4 +1,4 @@
--- The rows that an edit leaves have texts that are UTF-8, where those of the rows and of the edit are.
+-- The texts of the rows that an edit leaves are UTF-8, if the texts of the rows before and of the edit are.
 use Rattle.std.proofs.Common.{ℕ, List, [], ◌∷◌, ◌++◌, Bool, true, false, cond, Option, Some, None}
 use Rattle.std.specs.List.{AllByRecursion}
 use Rattle.cpe_rows.specs.cpe_name.Eleven.{Values}
@@ -52,7 +52,7 @@ each_set k t one (c ∷ cs) h = by (has_key k c) (each_set k t one cs h.1) where
   by true later = (h.0, h.1)
   by false later = (h.0, later)
 
--- with other entries, statements or results
+-- with other entries, the texts of the rows are UTF-8 if the texts of these entries are
 with_entries : (rows : Rows) (es : List Entry) → AreTexts rows → AllByRecursion IsTextEntry es → AreTexts (record rows { entries = es })
 with_entries rows es h all = record { entries = all; statements = h.statements; checks = h.checks }
 

@@ -1,4 +1,4 @@
--- What `save` writes is the snapshot of the rows, so `load` reads those rows.
+-- `save` writes the snapshot of the rows, so `load` reads these rows.
 use Rattle.std.proofs.Common.{◌≡◌, ℕ, ◌+◌, List, [], ◌∷◌, ◌++◌, true, Option, Some, None, codes, inl, inr, refl, sym, ap, ◌∙◌, subst}
 use Rattle.std.specs.Prelude.{Result, Ok, Err}
 use Rattle.cpe_command.specs.cpe_io.Lines.{lines}
@@ -23,11 +23,11 @@ use Rattle.cpe_command.specs.Loading.{IsNoSnapshot, load_says, state_told}
 use Rattle.run_laws.specs.Theorems.{rows_of, SavedIsLoaded, Writes}
 use Rattle.run_laws.proofs.Folded.{rows_kept}
 
--- the rows after lines, under each word
+-- the rows after lines are the same under each command
 pub rows_after : (command : RecordCommand) (ls : List (Option (List ℕ))) → (stage_after (record_session command) (start no_rows) ls).state ≡ rows_of ls
 rows_after command ls = state-folded (record_session command) line_edited (edits-lines command) (start no_rows) ls
 
--- ---- nothing is written for a line
+-- ---- `save` writes nothing for a line
 
 step_quiet : (number : ℕ) (r : Result Rows EditFault) → writes true number (by_step (λ next. []) r) ≡ []
 step_quiet number (Ok next) = refl

@@ -1,4 +1,4 @@
--- The certificate of a statement is written as UTF-8.
+-- The written form of a statement's certificate is UTF-8.
 use Rattle.std.proofs.Common.{List, [], ◌∷◌, Option, Some, None, option_map, map, IsUtf8, refl, ap, sym, ◌∙◌, subst}
 use Rattle.std.specs.Prelude.{All}
 use Rattle.std.specs.List.{flat_map}

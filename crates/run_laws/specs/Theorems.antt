@@ -1,5 +1,6 @@
--- What runs of the program promise together: a snapshot that one saves and another loads, and certificates that one writes and another checks.
--- Each is said of what `run` writes by the meaning of its words (`cpe_command`).
+-- Theorems about runs of the program together: one run saves a snapshot and another loads it; one converts lines and
+-- another reads them; one writes certificates and another checks them. Each theorem is about what `run` writes for
+-- words of the command line, by their meaning (`cpe_command`).
 use Rattle.std.specs.Prelude.{◌≡◌, ℕ, List, [], ◌∷◌, ◌++◌, map, codes, find, Some, Ok}
 use Rattle.std.specs.declared.option.Option.{Option}
 use Rattle.std.specs.List.{AllByRecursion, flat_map}
@@ -30,32 +31,33 @@ use Rattle.cpe_command.specs.Meaning.{meaning}
 
 -- ---- rows
 
--- the rows that these lines leave, one after the other, where there were none before
+-- the rows that these lines leave, one after the other, if there were no rows before
 abbrev pub rows_of : List (Option (List ℕ)) → Rows
 rows_of ls = folded line_edited no_rows ls
 
--- lawful rows, whose texts are UTF-8
+-- the rows are lawful, and their texts are UTF-8
 pub record AreKept (rows : Rows) : Type 0 where
   pub lawful : IsLawful rows
   pub texts : AreTexts rows
 
--- whatever lines are read, the rows that they leave are
+-- any lines leave lawful rows, and the texts of these rows are UTF-8
 abbrev pub RowsAreKept : Type 0
 RowsAreKept = (ls : List (Option (List ℕ))) → AreKept (rows_of ls)
 
 -- ---- save, then load
 
--- this is written under this word for this input
+-- a run with this word writes this transcript for this input
 abbrev pub Writes : List ℕ → List ℕ → Transcript → Type 0
 Writes word input it = Says (meaning (word ∷ [])).task input it
 
--- `evaluate` writes its answers, and then the table of the rows; `load` writes how many rows there are, and the same table
+-- `evaluate` writes its answers, and then the table of the rows; `load` writes the numbers of rows, and then the same
+-- table
 pub record HaveSameTable (input : List ℕ) (loaded table : Transcript) : Type 0 where
   pub answers : List ℕ
   pub loads : loaded ≡ state_told (rows_of (lines input))
   pub evaluates : table.text ≡ answers ++ verdict_table (rows_of (lines input))
 
--- what `save` writes of an input, given to `load`, has the table that `evaluate` writes of that input
+-- if `load` reads what `save` writes for an input, it writes the same table that `evaluate` writes for this input
 abbrev pub SavedIsLoaded : Type 0
 SavedIsLoaded =
     (input : List ℕ) (saved loaded table : Transcript)
@@ -63,7 +65,8 @@ SavedIsLoaded =
 
 -- ---- convert
 
--- the lines that `convert` writes of an input leave the rows that the input leaves, if no record has too long a form
+-- the lines that `convert` writes for an input leave the rows that the input leaves, if no record of the input has
+-- too long a form
 abbrev pub ConvertedIsSame : Type 0
 ConvertedIsSame =
     (input : List ℕ) (converted : Transcript) → Writes (codes "convert") input converted → AllByRecursion (λ line. IsGrown line → ⊥) (lines input)
@@ -75,7 +78,7 @@ ConvertedIsSame =
 abbrev pub check_writes : List (Option (List ℕ)) → Option (List ℕ) → List ℕ
 check_writes before line = next_writes (record_session Check) (stage_after (record_session Check) (start no_rows) before) line
 
--- that stands in what a run of `check` writes, behind what it writes for those lines
+-- the output of `check` begins with what it writes for the lines before, and then has what it writes for this line
 pub record StandsIn (before : List (Option (List ℕ))) (line : Option (List ℕ)) (text : List ℕ) : Type 0 where
   pub later : List ℕ
   pub is : text ≡ out_from (record_session Check) (start no_rows) before ++ (check_writes before line ++ later)
@@ -85,16 +88,16 @@ LinesAreCheckedInTurn =
     (input : List ℕ) (checked : Transcript) (before more : List (Option (List ℕ))) (line : Option (List ℕ))
     → Writes (codes "check") input checked → lines input ≡ before ++ line ∷ more → StandsIn before line checked.text
 
--- the certificates of these rows, a line each
+-- the certificates of these rows, one for each statement, as lines
 abbrev pub certificates : Rows → List (Option (List ℕ))
 certificates rows = map (λ s. Some (proof_text (certificate rows s))) rows.statements
 
--- what `explain` writes of an input ends with the certificates of its rows
+-- what `explain` writes for an input ends with the certificates of the rows that the input leaves
 pub record EndsWithCertificates (input : List ℕ) (explained : Transcript) : Type 0 where
   pub answers : List ℕ
   pub text : explained.text ≡ answers ++ certificate_lines (rows_of (lines input))
 
--- and `check` says of each, behind the same lines, that it holds
+-- what `check` writes ends with a line for each of these certificates, which says that it holds
 pub record EndsWithHolds (input : List ℕ) (checked : Transcript) : Type 0 where
   pub answers : List ℕ
   pub text : checked.text ≡ answers ++ flat_map (λ s. checked_line s.id Holds) (rows_of (lines input)).statements
@@ -105,16 +108,17 @@ ExplainedIsChecked =
     → Writes (codes "explain") input explained → lines both ≡ lines input ++ certificates (rows_of (lines input)) → Writes (codes "check") both checked
     → EndsWithCertificates input explained × EndsWithHolds input checked
 
--- ---- what holds is the verdict
+-- ---- a certificate that holds has the verdict
 
--- a statement has the certificate's id, the certificate is good for it, and gives its verdict
+-- a statement has the certificate's id, the certificate is good for this statement, and the truth of the certificate
+-- is the statement's verdict
 pub record HasVerdict (rows : Rows) (p : Proof) : Type 0 where
   pub statement : Statement
   pub found : find (has_id p.id) rows.statements ≡ Some statement
   pub good : Good rows statement p.why
   pub gives : given_truth p.why ≡ verdict rows statement
 
--- of a certificate of which `check` says that it holds
+-- a certificate has the verdict of its statement, if `check` says that the certificate holds
 abbrev pub HeldIsVerdict : Type 0
 HeldIsVerdict =
     (before : List (Option (List ℕ))) (line : List ℕ) (p : Proof)

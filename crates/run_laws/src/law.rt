@@ -1,19 +1,20 @@
-// Laws of runs. These functions do nothing: their clauses are the laws.
+// Laws about runs of the program. These functions do nothing: their clauses are the laws.
 ghost use Rattle.run_laws.specs.Theorems.{ConvertedIsSame, ExplainedIsChecked, HeldIsVerdict, LinesAreCheckedInTurn, RowsAreKept, SavedIsLoaded};
 
-/// Whatever lines are read, the rows that they leave are lawful, and their texts are UTF-8.
+/// Any lines leave lawful rows, and the texts of these rows are UTF-8.
 pub fn rows_are_kept()
     ensures { RowsAreKept }
 {}
 
-/// What `save` writes of an input, given to `load`, has the table that `evaluate` writes of that input.
+/// If `load` reads what `save` writes for an input, it writes the same table that `evaluate` writes for this input.
 pub fn saved_is_loaded()
     ensures { SavedIsLoaded }
 {
     cpe_snapshot::law::states_have_snapshots();
 }
 
-/// The lines that `convert` writes of an input leave the rows that the input leaves, if no record of it has too long a form.
+/// The lines that `convert` writes for an input leave the rows that the input leaves, if no record of the input has
+/// too long a form.
 pub fn converted_is_same()
     ensures { ConvertedIsSame }
 {
@@ -21,7 +22,8 @@ pub fn converted_is_same()
     cpe_records::json_law::prints_are_texts();
 }
 
-/// What `explain` writes of an input ends with certificates, and `check` says of each, behind the same lines, that it holds.
+/// `check` says of each certificate at the end of the output of `explain` that it holds. For this, `check` reads the
+/// input of `explain`, and then these certificates.
 pub fn explained_is_checked()
     ensures { ExplainedIsChecked }
 {
@@ -30,8 +32,8 @@ pub fn explained_is_checked()
     cpe_records::json_law::prints_are_texts();
 }
 
-/// A certificate of which `check` says that it holds has the verdict of its statement. What `check` says of a line stands in its output,
-/// behind what it says of the lines before.
+/// A certificate has the verdict of its statement, if `check` says that the certificate holds. What `check` writes
+/// for a line follows what it writes for the lines before.
 pub fn held_is_verdict()
     ensures in_turn { LinesAreCheckedInTurn }
     ensures verdict { HeldIsVerdict }

@@ -1,4 +1,4 @@
--- What is kept, and its parts, own what a box at the same types owns.
+-- What C keeps, and its parts, own what a box with the same types owns.
 use mir.Syntax.{impl, tnil, dnil}
 use mathlib.Core.List.{[]}
 use denote.Signature.{Slot, plain}

@@ -1,4 +1,4 @@
--- The answers to lines, one after the other.
+-- The answers to lines, joined one after the other.
 use Rattle.std.proofs.Common.{◌≡◌, ℕ, List, [], ◌∷◌, ◌++◌, Option, refl, sym, ap, ◌∙◌, subst, map, append_assoc}
 use Rattle.cpe_session.specs.cpe_io.Lines.{line_of, lines}
 use Rattle.cpe_session.proofs.cpe_io.LineLemmas.{pieces-cut}

@@ -1,4 +1,4 @@
--- Who speaks before the first line says what a run of the command says.
+-- A session before its first line would write what a run of its command writes.
 use Rattle.std.proofs.Common.{◌≡◌, ℕ, Bool, true, false, List, [], Option, Some, None, refl, sym, ap, ◌∙◌}
 use Rattle.std.specs.Prelude.{if◌then◌else◌, is_some}
 use Rattle.std.proofs.lemmas.Bool.{true≢false}
@@ -24,7 +24,7 @@ use Rattle.talks.specs.declared.speaking.Speaking.TheVariants as speaking
 use Rattle.talks.specs.Beginning.{answers_lines, begins}
 use Rattle.talks.specs.Talks.{goes_on, spoken_from}
 
--- what generates lines answers none
+-- no session begins for `make` or `drill`, because these commands generate their lines
 by_tests : (make drill : Bool) (count : ℕ) → begins (if make then Some (command.Make count) else (if drill then Some (command.Drill count) else None)) ≡ None
 by_tests true drill count = refl
 by_tests false true count = refl

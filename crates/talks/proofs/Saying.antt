@@ -1,4 +1,4 @@
--- A text that fits was given, or its length was told: memory did not run out.
+-- If the buffer got a text, or its length was returned, memory did not run out.
 use Rattle.std.proofs.Common.{◌≡◌, ℕ, List, [], ◌∷◌, Option}
 use Rattle.cpe_session.specs.cpe_io.Lines.{line_of}
 use Rattle.cpe_session.specs.Statuses.{number_of}

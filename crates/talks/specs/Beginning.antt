@@ -14,18 +14,18 @@ use Rattle.talks.specs.declared.talk.Talk.{Talk}
 use Rattle.talks.specs.declared.talk.Phase.TheVariants.{Open}
 use Rattle.talks.specs.Talks.{goes_on}
 
--- the words of a command line: one, or two where there is a second
+-- the words of a command line: one word, or two words if the second isn't empty
 abbrev pub words_of : List ℕ → List ℕ → List (List ℕ)
 words_of word [] = word ∷ []
 words_of word (x ∷ xs) = word ∷ (x ∷ xs) ∷ []
 
--- whether each line is answered by itself
+-- whether a task answers its lines one by one
 abbrev pub answers_lines : Task → Bool
 answers_lines (Fixed all) = false
 answers_lines (Lines speech) = true
 answers_lines (Whole says) = false
 
--- who speaks before the first line, where a command answers lines
+-- the command that answers the lines, with its state before the first line; none if the command answers no lines
 abbrev pub begins : Option Command → Option Speaking
 begins (Some (command.Name name)) = Some (speaking.Name name)
 begins (Some command.Compare) = Some speaking.Compare
@@ -38,7 +38,7 @@ begins (Some (command.Make count)) = None
 begins (Some (command.Drill count)) = None
 begins None = None
 
--- it is open, and writes for any lines what a run of these words writes for them
+-- the session is open, and for any lines it would write what a run with these words writes for them
 pub record Opens (words : List (List ℕ)) (talk : Talk) : Type 0 where
   pub phase : talk.phase ≡ Open
   pub says : (bytes : List ℕ) → Says (meaning words).task bytes (goes_on talk.speaking talk.progress (lines bytes))

@@ -1,4 +1,4 @@
--- The relations that were found of two texts.
+-- The relations that are found for two texts.
 use Rattle.std.specs.Prelude.{◌≡◌, ℕ, Ok, Err}
 use Rattle.std.specs.declared.result.Result.{Result}
 use Rattle.cpe_rows.specs.cpe_name.Eleven.{Values}
@@ -10,12 +10,13 @@ use Rattle.talks.specs.declared.told.Told.{Told}
 use Rattle.talks.specs.declared.pairs.Compared.{Compared}
 use Rattle.talks.specs.Pairs.{OfBoth}
 
--- those of two names
+-- these are the relations of the two names
 pub record AreRelations (a b : Values) (compared : Compared) : Type 0 where
   pub whole : compared.whole ≡ name_relation a b
   pub each : (w : Attribute) → relation_of compared.each w ≡ relation (value_of a w) (value_of b w)
 
--- those of the names that the texts are read as; or the place of the first that no name has, or that memory ran out
+-- these are the relations of the names that the texts have; or the result is the place of the first text that no name
+-- has, or that memory ran out
 abbrev pub IsCompared : Result Values ℕ → Result Values ℕ → Result Compared Told → Type 0
 IsCompared (Ok a) (Ok b) (Ok compared) = AreRelations a b compared
 IsCompared (Ok a) (Err place) (Ok compared) = ⊥

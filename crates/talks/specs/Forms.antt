@@ -8,7 +8,7 @@ use Rattle.cpe_uri.specs.EitherBinding.{unbound_any}
 use Rattle.talks.specs.declared.forms.Form.{Form}
 use Rattle.talks.specs.declared.forms.Form.TheVariants.{Wfn, Fs, Uri}
 
--- a refusal without a place has the place 0
+-- a refusal without a place gets the place 0
 abbrev pub or_zero : Option (List ℕ) → Result (List ℕ) ℕ
 or_zero (Some text) = Ok text
 or_zero None = Err 0

@@ -1,4 +1,4 @@
--- Lines that were given, each with its answer.
+-- The lines that a session got, each with its answer.
 use Rattle.std.specs.Prelude.{◌≡◌, ℕ, false, List, [], ◌∷◌, ◌++◌}
 use Rattle.std.specs.declared.option.Option.{Option}
 use Rattle.std.specs.List.{flat_map}
@@ -6,12 +6,12 @@ use Rattle.cpe_session.specs.cpe_io.Lines.{has_newline, line_of}
 use Rattle.cpe_session.specs.Task.{Transcript}
 use Rattle.talks.specs.Talks.{behind}
 
--- none has a newline
+-- no line has a newline
 abbrev pub AreLines : List (List ℕ × List ℕ) → Type 0
 AreLines [] = Unit {0}
 AreLines (both ∷ more) = (has_newline both.0 ≡ false) × AreLines more
 
--- the bytes of a run that reads them: after each a newline
+-- the input of a run with these lines: each line, and a newline after it
 abbrev pub bytes_of : List (List ℕ × List ℕ) → List ℕ
 bytes_of = flat_map (λ both. both.0 ++ 10 ∷ [])
 
@@ -19,8 +19,9 @@ bytes_of = flat_map (λ both. both.0 ++ 10 ∷ [])
 abbrev pub answers : List (List ℕ × List ℕ) → List ℕ
 answers = flat_map (λ both. both.1)
 
--- What a session says at first and at last, where these lines were given and so answered: for each there is what it says next, and whatever
--- follows the line, it said the answer and then that.
+-- `first` gives what the session would write before these lines, for any lines that follow. `last` gives the same
+-- after these lines. Each of these lines got its answer: before the line, the session would write this answer, and
+-- then what it would write after the line.
 abbrev pub IsAnswered : List (List ℕ × List ℕ) → (List (Option (List ℕ)) → Transcript) → (List (Option (List ℕ)) → Transcript) → Type 0
 IsAnswered [] first last = (more : List (Option (List ℕ))) → first more ≡ last more
 IsAnswered (both ∷ later) first last =

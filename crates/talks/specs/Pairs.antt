@@ -1,4 +1,4 @@
--- How two names relate, as C is told it.
+-- How two names are related, as C gets it.
 use Rattle.std.specs.Prelude.{◌≡◌, ℕ, Bool, true, false, Ok, Err}
 use Rattle.std.specs.declared.result.Result.{Result}
 use Rattle.cpe_rows.specs.cpe_name.Eleven.{Values}
@@ -35,13 +35,13 @@ numbered a b = record {
   other = rank (relation a.other b.other);
 }
 
--- one where it is so
+-- 1 if it is true, and otherwise 0
 abbrev pub one_if : Bool → ℕ
 one_if true = 1
 one_if false = 0
 
--- What is told of two texts: what is told of the names that they are read as; or the place of the first that no name has. Memory may
--- run out at any time.
+-- The result for two texts. If both have names, it is a result for these names. Otherwise it is the place of the
+-- first text that no name has. Memory may run out at any time.
 abbrev pub OfBoth : (Values → Values → ℕ → Type 0) → Result Values ℕ → Result Values ℕ → Told → Type 0
 OfBoth IsSo (Ok a) (Ok b) (Done number) = IsSo a b number
 OfBoth IsSo (Err at) b (Refused place) = place ≡ at
@@ -49,11 +49,11 @@ OfBoth IsSo (Ok a) (Err at) (TargetRefused place) = place ≡ at
 OfBoth IsSo a b Memory = Unit {0}
 OfBoth IsSo a b told = ⊥
 
--- the numbers of their relations stand in the place of the old ones; or those are as they were, and what is told says why
+-- the numbers of the relations replace the old numbers; or the old numbers are unchanged, and the result says why
 abbrev pub IsRelated : Result Values ℕ → Result Values ℕ → RelationNumbers → RelationNumbers → Told → Type 0
 IsRelated source target old now (Done number) = OfBoth (λ a b zero. (zero ≡ 0) × (now ≡ numbered a b)) source target (Done number)
 IsRelated source target old now told = OfBoth (λ a b number. ⊥) source target told × (now ≡ old)
 
--- whether the first covers the second
+-- the number is 1 if the first name covers the second, and otherwise 0
 abbrev pub Covers : Result Values ℕ → Result Values ℕ → Told → Type 0
 Covers = OfBoth (λ a b number. number ≡ one_if (covers a b))

@@ -1,4 +1,4 @@
--- What a session still says whose lines are given one by one.
+-- What a session would still write, if its lines are given one by one.
 use Rattle.std.specs.Prelude.{ℕ, List, ◌++◌}
 use Rattle.std.specs.declared.option.Option.{Option}
 use Rattle.cpe_session.specs.Session.{Session, Stage, stage_after, out_from}
@@ -15,14 +15,14 @@ use Rattle.cpe_command.specs.Records.{record_session}
 use Rattle.talks.specs.declared.speaking.Speaking.{Speaking}
 use Rattle.talks.specs.declared.speaking.Speaking.TheVariants.{Name, Compare, Records, Convert, Advise, Cover}
 
--- what is written for these lines and at their end, from a stage on, and the status
+-- what is written for these lines and at their end, from this stage on, and the status
 abbrev pub spoken_from : {State : Type 0} → Session State → Stage State → List (Option (List ℕ)) → Transcript
 spoken_from session s ls = record {
   text = out_from session s ls ++ session.ends (stage_after session s ls).state;
   status = status_of (stage_after session s ls).refused;
 }
 
--- the same of who speaks, who has come so far
+-- what the session's command writes for these lines and at their end, from this state and progress on, and the status
 abbrev pub goes_on : Speaking → Progress → List (Option (List ℕ)) → Transcript
 goes_on (Name command) progress = spoken_from (name_session command) (stage_of progress tt)
 goes_on Compare progress = spoken_from pair_session (stage_of progress tt)

@@ -10,7 +10,8 @@ use cpe_command::{Advisories, Command, Engine, NameCommand, Names, read_word};
 use cpe_session::Progress;
 use std::alloc::Global;
 
-/// A session of the command that the words name, before its first line; or none, where they name no command that answers lines.
+/// A session of the command that the words name, before its first line; or `None` if they name no command that
+/// answers lines.
 pub fn begin(alloc: Global, word: &[u8], second: &[u8]) -> Option<Talk>
     ensures { MatchOption result (answers_lines (meaning (words_of word.now second.now)).task ≡ false)
         (λ talk. (answers_lines (meaning (words_of word.now second.now)).task ≡ true) × Opens (words_of word.now second.now) talk) }
@@ -25,7 +26,7 @@ pub fn begin(alloc: Global, word: &[u8], second: &[u8]) -> Option<Talk>
     }
 }
 
-// Who speaks, before the first line.
+// The command that answers the lines, with its state before the first line.
 fn speaking_of(alloc: Global, word: &[u8], second: &[u8]) -> Option<Speaking>
     ensures { result ≡ begins (command_of (words_of word.now second.now)) }
 {
@@ -35,7 +36,7 @@ fn speaking_of(alloc: Global, word: &[u8], second: &[u8]) -> Option<Speaking>
     }
 }
 
-// The same of the command that one word names.
+// The command that one word names, with its state before the first line.
 fn of_one_word(alloc: Global, word: &[u8]) -> Option<Speaking>
     ensures { result ≡ begins (command_of (word.now ∷ [])) }
 {
@@ -46,7 +47,7 @@ fn of_one_word(alloc: Global, word: &[u8]) -> Option<Speaking>
         Command::Convert => Some(Speaking::Convert),
         Command::Advise => Some(Speaking::Advise(Advisories::new(alloc))),
         Command::Cover => Some(Speaking::Cover(Names::new(alloc))),
-        // A snapshot has no lines, and what is made is read from none.
+        // A snapshot has no lines, and generated lines are not read from the input.
         Command::Load | Command::Make(_) | Command::Drill(_) => None,
     }
 }

@@ -13,19 +13,19 @@ use std::alloc::Global;
 /// The form in which a name is written.
 #[derive(Clone, Copy)]
 pub enum Form {
-    /// The text of the well-formed name, of a formatted string or a URI.
+    /// The text of the well-formed name, written from a formatted string or a URI.
     Wfn,
-    /// The formatted string, of the text of a well-formed name.
+    /// The formatted string, written from the text of a well-formed name.
     Fs,
-    /// The canonical URI, of the text of a well-formed name.
+    /// The canonical URI, written from the text of a well-formed name.
     Uri,
 }
 
-/// Writes a name in a form, of its text in another (NIST IR 7695, 6.1 and 6.2).
+/// Writes a name in another form into `out` (NIST IR 7695, 6.1 and 6.2). If no name has the text, the number of the
+/// result is the place of the refusal, or 0 if the refusal has no place. If the form is longer than `out`, nothing is
+/// written, and the number is the length of the form.
 ///
-/// Where no name has the text the place of the refusal is told, and 0 where it has none. Where what is to be written is longer than
-/// `out`, nothing is written, and its length is told. Memory is taken only where `out` has no room for the longest form that a text of this
-/// length may have.
+/// Allocates: only if `out` is shorter than the longest form that a text of this length may have.
 pub fn give_form(alloc: Global, form: Form, text: &[u8], out: &mut [u8]) -> Told
     ensures { Gives (form_of form text.now) out.old out.new result }
 {
@@ -42,14 +42,14 @@ pub fn give_form(alloc: Global, form: Form, text: &[u8], out: &mut [u8]) -> Told
     }
 }
 
-// So many bytes are room enough for any form, or as many as can be told.
+// A number of bytes that is enough for any form of the text; at most the highest number of 64 bits.
 fn most_of(text: &[u8]) -> usize
     ensures { result ≡ min (3 * length text.now + UNBOUND_FRAME) (2 ^ 64 - 1) }
 {
     text.len().saturating_mul(3).saturating_add(UNBOUND_FRAME)
 }
 
-// Writes the form into a room that is long enough, and then into what C gave.
+// Writes the form into a room that is long enough, and then into `out`.
 fn give_by_room(form: Form, text: &[u8], room: &mut [u8], out: &mut [u8]) -> Told
     requires { 3 * length text.now + UNBOUND_FRAME ≤ length room.old }
     ensures { Gives (form_of form text.now) out.old out.new result }
@@ -60,7 +60,8 @@ fn give_by_room(form: Form, text: &[u8], room: &mut [u8], out: &mut [u8]) -> Tol
     }
 }
 
-// No form has more than three bytes for each of the text, and those of the frame.
+// Writes the form into the room. Each form has at most three bytes for each byte of the text, and the bytes of the
+// frame.
 fn write_form(form: Form, room: &mut [u8], text: &[u8]) -> Result<usize, usize>
     requires { 3 * length text.now + UNBOUND_FRAME ≤ length room.old }
     ensures form { MatchResult result (λ end. form_of form text.now ≡ Ok (take end room.new)) (λ place. form_of form text.now ≡ Err place) }
@@ -74,7 +75,8 @@ fn write_form(form: Form, room: &mut [u8], text: &[u8]) -> Result<usize, usize>
     }
 }
 
-/// Gives a text to C: writes it at the start of `out`, or tells how long it is.
+/// Writes a text at the beginning of `out`. If `out` is too short, writes nothing, and the number of the result is
+/// the length of the text.
 pub fn give(text: &[u8], out: &mut [u8]) -> Told
     ensures { Fits text.now out.old out.new result }
 {

@@ -12,7 +12,7 @@ use std::alloc::Global;
 use std::marker::Model;
 use std::ptr::null_mut;
 
-/// What C keeps of a session: the pointer to it, or none.
+/// What C keeps of a session: a pointer to the session, or no session.
 #[repr(C)]
 #[derive(Drop)]
 pub struct KeptTalk {
@@ -28,14 +28,14 @@ impl Model for KeptTalk {
 }
 
 impl KeptTalk {
-    /// Keeps what the box has.
+    /// Keeps the session of this box.
     pub fn of(whole: Box<Talk>) -> KeptTalk
         ensures { result.value ≡ Some whole.value }
     {
         KeptTalk::of_parts(Parts::of(whole))
     }
 
-    /// The box again.
+    /// The box with the session that was kept.
     pub fn into_box(self) -> Box<Talk>
         requires { IsSome self.value }
         ensures { Some result.value ≡ self.value }
@@ -43,7 +43,7 @@ impl KeptTalk {
         self.into_parts().into_box()
     }
 
-    /// Keeps nothing.
+    /// Keeps no session.
     pub fn none(alloc: Global) -> KeptTalk
         ensures { result.value ≡ None }
     {
@@ -53,7 +53,7 @@ impl KeptTalk {
         }
     }
 
-    /// Keeps what these parts own.
+    /// Keeps the session that these parts own.
     pub(crate) fn of_parts(parts: Parts<Talk, Global>) -> KeptTalk
         ensures { result.value ≡ Some parts.value }
     {
@@ -76,8 +76,9 @@ impl KeptTalk {
     }
 }
 
-/// Begins a session of the command that a word names, or two, and keeps it; the second is empty where there is one alone. Where it doesn't begin,
-/// `kept` stays as it was. A session that it kept before would not be let go.
+/// Begins a session of the command that one word names, or two words, and keeps the session in `kept`. `second` is
+/// empty if one word names the command. If no session begins, `kept` is unchanged. A session that `kept` had before
+/// would not be dropped.
 pub fn keep_begun(alloc: Global, word: &[u8], second: &[u8], kept: &mut KeptTalk) -> Told
     ensures { Begins word.now second.now kept.old.value kept.new.value result }
 {
@@ -99,7 +100,7 @@ fn keep(alloc: Global, talk: Talk, kept: &mut KeptTalk) -> Told
     }
 }
 
-/// Lets a session go, by one call: in place each field would split the proof.
+/// Drops a session, by one call. A drop in place would split the proof at each field.
 pub fn let_go(whole: Box<Talk>) {
     drop(whole);
 }

@@ -1,4 +1,4 @@
-// What the calls of a session come to together.
+// What the calls of a session write together.
 ghost use Rattle.std.specs.Prelude.{◌≡◌, [], ℕ, List, Option};
 ghost use Rattle.cpe_session.specs.cpe_io.Lines.{lines};
 ghost use Rattle.cpe_session.specs.Task.{Says, Transcript};
@@ -6,9 +6,10 @@ ghost use Rattle.cpe_command.specs.Meaning.{meaning};
 ghost use Rattle.talks.specs.Joined.{AreLines, IsAnswered, answers, bytes_of};
 ghost use Rattle.talks.specs.Talks.{behind};
 
-/// The answers of a session, one after the other, and then that at its end, are what a run writes for the lines, each with its
-/// newline: what it says at first is what the run says (`Opens`), each call answers a line of it (`TakesLine`), and at the end what
-/// it says where no line follows is answered (`TakesEnd`).
+/// The answers to the lines of a session, and then the answer at its end, are together what a run writes for these
+/// lines, each with its newline. Three contracts give what the law needs. At first the session would write what the
+/// run writes (`Opens`). Each call answers one of the lines (`TakesLine`). The last call writes what the session
+/// would write if no line follows (`TakesEnd`).
 pub fn joined_answers()
     ensures { (words : List (List ℕ)) (first last : List (Option (List ℕ)) → Transcript) (said : List (List ℕ × List ℕ))
         → ((bytes : List ℕ) → Says (meaning words).task bytes (first (lines bytes))) → AreLines said → IsAnswered said first last

@@ -1,4 +1,4 @@
-// How two names relate.
+// How two names are related.
 ghost use Rattle.std.specs.Prelude.{◌≡◌, IfOk, Ok};
 ghost use Rattle.cpe_rows.specs.cpe_name.Prelude.{name_lent, Values};
 ghost use Rattle.cpe_relation.specs.NameRelation.{covers, is_above};
@@ -12,8 +12,8 @@ use cpe_rows::{NameRef, Wfn};
 use cpe_uri::{UriFault, lend_any, unbind_any};
 use std::alloc::{AllocError, Global};
 
-/// The relation of two names and those of their attributes, as numbers: 0 is DISJOINT, 1 EQUAL, 2 SUBSET, 3 SUPERSET, and 4
-/// UNDEFINED (NIST IR 7696, 6).
+/// The relation of two names, and the relations of their attributes, as numbers (NIST IR 7696, 6). The number 0 is
+/// DISJOINT, 1 is EQUAL, 2 is SUBSET, 3 is SUPERSET, and 4 is UNDEFINED.
 #[repr(C)]
 #[derive(Clone, Copy)]
 pub struct RelationNumbers {
@@ -31,15 +31,16 @@ pub struct RelationNumbers {
     pub other: u8,
 }
 
-// The relations of the names of two texts.
+// The relation of the names of two texts, and the relations of their attributes.
 #[derive(Clone, Copy)]
 pub(crate) struct Compared {
     pub(crate) whole: Relation,
     pub(crate) each: Relations,
 }
 
-/// Tells how two names relate, formatted strings or URIs, and puts their relations into `numbers` (NIST IR 7696, 6). Where no name has a text,
-/// its place is told, and `numbers` stay as they were, as they do where memory runs out.
+/// Writes the relations of two names into `numbers` (NIST IR 7696, 6). Each text is a formatted string or a URI. If
+/// no name has a text, the number of the result is the place of the refusal. Then `numbers` is unchanged, and also if
+/// memory runs out.
 pub fn relate(alloc: Global, source: &[u8], target: &[u8], numbers: &mut RelationNumbers) -> Told
     ensures { IsRelated (read_any source.now) (read_any target.now) numbers.old numbers.new result }
 {
@@ -52,8 +53,8 @@ pub fn relate(alloc: Global, source: &[u8], target: &[u8], numbers: &mut Relatio
     }
 }
 
-/// Tells whether the first name covers the second: the number is 1 where it does, and else 0 (NIST IR 7696, 6). Where no name has a text, its place
-/// is told.
+/// The number 1 if the first name covers the second, and the number 0 if it doesn't (NIST IR 7696, 6). If no name has
+/// a text, the number of the result is the place of the refusal.
 pub fn tell_covers(alloc: Global, source: &[u8], target: &[u8]) -> Told
     ensures { Covers (read_any source.now) (read_any target.now) result }
 {
@@ -63,7 +64,7 @@ pub fn tell_covers(alloc: Global, source: &[u8], target: &[u8]) -> Told
     }
 }
 
-// The source is lent from its text where it can be: only else is it made, which takes memory.
+// Lends the source from its text if that is possible. Otherwise makes it, which takes memory.
 fn compare_texts(alloc: Global, source: &[u8], target: &[u8]) -> Result<Compared, Told>
     ensures { IsCompared (read_any source.now) (read_any target.now) result }
 {
@@ -74,7 +75,7 @@ fn compare_texts(alloc: Global, source: &[u8], target: &[u8]) -> Result<Compared
     }
 }
 
-// The same of a source that is made.
+// Makes the source, and compares it with the target.
 fn compare_made(alloc: Global, source: &[u8], target: &[u8]) -> Result<Compared, Told>
     requires { IsUriOrFs source.now }
     ensures { IsCompared (read_any source.now) (read_any target.now) result }
@@ -89,7 +90,7 @@ fn compare_made(alloc: Global, source: &[u8], target: &[u8]) -> Result<Compared,
     }
 }
 
-// And so is the target.
+// Lends the target from its text if that is possible. Otherwise makes it, which takes memory.
 fn compare_to(alloc: Global, source: &NameRef, target: &[u8]) -> Result<Compared, Told>
     ensures { IsCompared (Ok (name_lent source.now)) (read_any target.now) result }
 {
@@ -100,7 +101,7 @@ fn compare_to(alloc: Global, source: &NameRef, target: &[u8]) -> Result<Compared
     }
 }
 
-// The same of a target that is made.
+// Makes the target, and compares the source with it.
 fn compare_to_made(alloc: Global, source: &NameRef, target: &[u8]) -> Result<Compared, Told>
     requires { IsUriOrFs target.now }
     ensures { IsCompared (Ok (name_lent source.now)) (read_any target.now) result }
@@ -115,7 +116,7 @@ fn compare_to_made(alloc: Global, source: &NameRef, target: &[u8]) -> Result<Com
     }
 }
 
-// The name of a text that some name has.
+// The name that has this text. The caller makes sure that there is one.
 fn make_name(alloc: Global, text: &[u8]) -> Result<Wfn, AllocError>
     requires { IsUriOrFs text.now }
     ensures { IfOk result (λ name. read_any text.now ≡ Ok name) }
@@ -134,7 +135,7 @@ fn compare(source: &NameRef, target: &NameRef) -> Compared
     Compared { whole, each }
 }
 
-// Whether the relation of the names is one by which the source covers the target.
+// Whether the source covers the target, by the relation of the two names.
 fn tells_cover(compared: &Compared) -> bool
     ensures { (a b : Values) → AreRelations a b compared.now → result ≡ covers a b }
 {

@@ -5,7 +5,7 @@ ghost use Rattle.std.specs.Box.Ownership.{box_owns};
 use std::alloc::{Allocator, Global};
 use std::marker::Model;
 
-/// What a box owns, with its pointer in sight of the modules of the crate.
+/// What a box owns, as its pointer and its allocator. All modules of the crate can read the pointer.
 #[derive(Drop)]
 pub(crate) struct Parts<T, A: Allocator> {
     pub(crate) at: *mut T,
@@ -18,7 +18,7 @@ impl<T, A: Allocator> Model for Parts<T, A> {
 }
 
 impl<T, A: Allocator> Parts<T, A> {
-    /// Takes a box apart.
+    /// The parts of a box.
     pub(crate) fn of(whole: Box<T, A>) -> Parts<T, A>
     where
         T: Drop,
@@ -28,7 +28,7 @@ impl<T, A: Allocator> Parts<T, A> {
         Parts { at, alloc }
     }
 
-    /// The box again.
+    /// The box that has these parts.
     pub(crate) fn into_box(self) -> Box<T, A>
         ensures { result.value ≡ self.value }
     {
@@ -37,7 +37,8 @@ impl<T, A: Allocator> Parts<T, A> {
     }
 }
 
-/// What a box of it owns; or none, where there is no memory. Of any type, since how one of many fields would be let go splits the proof.
+/// The parts of a new box with this value, or `None` if memory runs out. The function is for any type, because for a
+/// type with many fields the drop of the value would split the proof.
 pub(crate) fn boxed<T: Drop>(alloc: Global, whole: T) -> Option<Parts<T, Global>>
     ensures { IfSome result (λ parts. parts.value ≡ whole) }
 {

@@ -1,4 +1,4 @@
-// Who speaks in a session, and what its lines have left.
+// The command that answers the lines of a session, and the state that the lines leave.
 ghost use Rattle.std.specs.Prelude.{◌≡◌, ◌∷◌, [], ℕ, List, IfOk, OnOk, Option};
 ghost use Rattle.cpe_session.specs.cpe_io.Lines.{line_of};
 ghost use Rattle.talks.specs.Talks.{behind, goes_on};
@@ -10,12 +10,12 @@ use cpe_session::{Each, Progress, Status, Steps, answer_given, end_given};
 use std::alloc::{AllocError, Global};
 use std::sync::ledger::Ledger;
 
-/// Who answers the lines of a session, and the state that they change.
+/// The command that answers the lines of a session, with the state that the lines change.
 #[derive(Drop)]
 pub enum Speaking {
     /// Each line is one name, which is written in another form.
     Name(NameCommand),
-    /// Each line is a source and a target.
+    /// Each line has a source and a target. Their relations are written.
     Compare,
     /// Each line is a record, which edits these rows or asks about them.
     Records(RecordCommand, Engine),
@@ -23,14 +23,14 @@ pub enum Speaking {
     Convert,
     /// Each line is a record, which edits these items and advisories or asks about them.
     Advise(Advisories),
-    /// Each line is a name, and at the end those are written that no other covers.
+    /// Each line is a name. At the end, the names that no other name covers are written.
     Cover(Names),
 }
 
 /// Answers a line: the page has what a run would have written for it.
 ///
 /// # Errors
-/// That memory ran out. The session can't go on then.
+/// Memory ran out. The session takes no more lines then.
 pub(crate) fn speak<L: Ledger>(
     alloc: Global,
     speaking: &mut Speaking,
@@ -66,10 +66,10 @@ pub(crate) fn speak<L: Ledger>(
     }
 }
 
-/// Ends a session: the page has what a run would have written at the end, and the status is that of the run.
+/// Ends a session: the page has what a run would have written at the end. The result is the status of that run.
 ///
 /// # Errors
-/// That memory ran out.
+/// Memory ran out.
 pub(crate) fn fall_silent<L: Ledger>(
     alloc: Global,
     speaking: &Speaking,

@@ -1,4 +1,4 @@
-// A session that C holds.
+// A session that C keeps.
 ghost use Rattle.std.specs.Prelude.{◌≡◌, true, false};
 ghost use Rattle.cpe_session.specs.cpe_io.Lines.{has_newline};
 ghost use Rattle.talks.specs.Told.{Fits};
@@ -12,18 +12,19 @@ use memchr::memchr;
 use std::alloc::Global;
 use std::sync::ledger::Ledger;
 
-/// Whether a session can go on.
+/// What a session still accepts.
 #[derive(Clone, Copy)]
 pub enum Phase {
-    /// It takes lines, and its end.
+    /// The session accepts lines, and its end.
     Open,
-    /// It ended. What it answered then can be asked for again.
+    /// The session ended. Its last answer can be read again.
     Ended,
-    /// Memory ran out. It answers nothing any more.
+    /// Memory ran out in the session. It answers nothing more.
     Broken,
 }
 
-/// A session that is given its lines one by one: who speaks, how far it has come, and the last answer.
+/// A session whose lines are given one by one: the command that answers them, the progress so far, and the last
+/// answer.
 #[derive(Drop)]
 pub struct Talk {
     pub speaking: Speaking,
@@ -31,8 +32,10 @@ pub struct Talk {
     pub phase: Phase,
 }
 
-/// Answers a line: `out` has the bytes that a run would have written for it, or their number is told where it has no room for them. A session
-/// that is over, or a text with a newline, which is no line, changes nothing. Where memory runs out the session is over.
+/// Answers a line: `out` has the bytes that a run would have written for it. If `out` is too short for them, nothing
+/// is written, and the number of the result is their length. A text with a newline is no line: the session is
+/// unchanged then. It is also unchanged if it ended before, or if memory ran out in it before. If memory runs out in
+/// this call, the session takes no more lines.
 pub fn say<L: Ledger>(
     alloc: Global,
     talk: &mut Talk,
@@ -76,8 +79,9 @@ fn say_line<L: Ledger>(
     }
 }
 
-/// Ends a session: `out` has the bytes that a run would have written at the end of these lines, as [`say`] gives them, and `status` is its exit
-/// status. A session that is over changes nothing.
+/// Ends a session: `out` has the bytes that a run would have written at the end, and `status` is the exit status of
+/// that run. If `out` is too short, nothing is written, and the number of the result is the length of the bytes. If
+/// the session ended before, or memory ran out in it before, the session and `status` are unchanged.
 pub fn end<L: Ledger>(
     alloc: Global,
     talk: &mut Talk,
@@ -116,7 +120,8 @@ fn end_open<L: Ledger>(
     }
 }
 
-/// Gives the last answer again, unless memory ran out in the session.
+/// Writes the last answer into `out` again, unless memory ran out in the session. If `out` is too short, nothing is
+/// written, and the number of the result is the length of the answer.
 pub fn repeat(talk: &Talk, out: &mut [u8]) -> Told
     ensures over { talk.now.phase ≡ Phase.Broken → result ≡ Told.Over }
     ensures again { (talk.now.phase ≡ Phase.Broken → ⊥) → Fits talk.now.progress.page out.old out.new result }

@@ -1,40 +1,42 @@
-// What C is told.
+// The result of a call.
 ghost use Rattle.std.specs.Prelude.{◌≡◌};
 ghost use Rattle.talks.specs.Told.{code_of, in_c, number_of};
 
-/// What a call comes to.
+/// The result of a call.
 #[derive(Clone, Copy)]
 pub enum Told {
-    /// It was done. The number is the length of the text that was written, or what the call says of it.
+    /// The call was done. The number is the length of the text that was written, or another number that the call
+    /// defines.
     Done(usize),
-    /// The text is longer than the room, in which nothing was written. The number is its length.
+    /// The text is longer than the buffer, and nothing was written. The number is the length of the text.
     Short(usize),
-    /// The text, or the first of two, is refused. The number is the place, where there is one.
+    /// The text is refused, or the first of two texts. The number is the place of the refusal, or 0 if the refusal
+    /// has no place.
     Refused(usize),
-    /// The second of two texts is refused, and this is the place.
+    /// The second of two texts is refused. The number is the place of the refusal.
     TargetRefused(usize),
     /// Memory ran out.
     Memory,
     /// The words name no command that answers lines.
     NoCommand,
-    /// The line has a newline in it.
+    /// The line has a newline.
     NotALine,
-    /// The session ended, or memory ran out in it.
+    /// The session ended before, or memory ran out in it before.
     Over,
 }
 
-/// The same as C is told it: the number of the case, and the number in it.
+/// The result of a call as C gets it: a code and a number.
 #[repr(C)]
 #[derive(Clone, Copy)]
 pub struct Answer {
-    /// Which case it is.
+    /// The code of the case.
     pub code: u32,
-    /// The number in it, or 0.
+    /// The number of the case, or 0 if the case has no number.
     pub number: usize,
 }
 
 impl Told {
-    /// As C is told it.
+    /// The result as C gets it.
     pub fn in_c(self) -> Answer
         ensures { result ≡ in_c self }
     {

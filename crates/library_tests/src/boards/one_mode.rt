@@ -1,4 +1,5 @@
-// A fact leaves the ends that it had; and a fact of mode follow without ends is FALSE, whatever its own name covers.
+// Facts of one mode. A fact gets another end. A fact of mode follow that has no ends is FALSE, whatever its own name
+// covers.
 ghost use Rattle.std.specs.Prelude.{◌≡◌, [], Some};
 ghost use Rattle.cpe_rows.specs.declared.truth.Truth.TheVariants.{False};
 ghost use Rattle.fact_rows.specs.Facts.{fact_at, new_fact, truth_of};
@@ -9,7 +10,7 @@ use kept_facts::LevelBoard;
 use name_index::NameId;
 use std::alloc::Global;
 
-// The fact of a removed name, which has no end.
+// Computes again the fact of a removed name, which has no end.
 fn refresh_fact_without_ends(facts: &mut FactRows, board: &LevelBoard, fact: NameId)
     requires { fact_at facts.old fact.0 ≡ Some (new_fact []) }
     ensures { truth_of facts.new fact.0 ≡ False }
@@ -23,7 +24,7 @@ fn one_end(alloc: Global, end: u32) -> Result<Vec<NameId>, Memory> {
     Ok(ends)
 }
 
-// Adds the fact, unless it is one already.
+// Adds a fact with this end, unless it is a fact already.
 fn add(alloc: Global, facts: &mut FactRows, fact: u32, end: u32) -> bool {
     if facts.has(NameId(fact)) {
         return false;
@@ -45,7 +46,7 @@ fn lead(alloc: Global, facts: &mut FactRows, fact: u32, end: u32) -> bool {
     }
 }
 
-// The end has this fact alone.
+// Whether the end has this fact and no other.
 fn has_one(facts: &FactRows, end: u32, fact: u32) -> bool {
     match facts.facts_of(NameId(end)) {
         [only] => only.0 == fact,
@@ -53,7 +54,7 @@ fn has_one(facts: &FactRows, end: u32, fact: u32) -> bool {
     }
 }
 
-// Two facts have the same end, and one of them gets another.
+// Adds two facts with the same end, and then gives one of them another end.
 fn leads_elsewhere(alloc: Global) -> bool {
     let mut facts = FactRows::new(alloc);
     let added = add(alloc, &mut facts, 1, 8) && add(alloc, &mut facts, 2, 8);

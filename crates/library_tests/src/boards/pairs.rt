@@ -9,7 +9,8 @@ use kept_facts::{Level, LevelBoard};
 use name_index::{NameId, NameTable, Steps};
 use std::sync::ledger::Ledger;
 
-// Five probes are on the board, of the products `p` and `q0` to `q3`. A target of the product `p` comes: two looks at most.
+// Adds a target of the product `p`. The board has five probes, of the products `p` and `q0` to `q3`. Two looks are
+// taken at most.
 fn add_target_two_looks<L: Ledger>(
     board: &mut LevelBoard,
     table: &NameTable,
@@ -34,8 +35,8 @@ fn add_target_two_looks<L: Ledger>(
     board.add_target(table, target, steps);
 }
 
-// Two targets come, and a probe that covers both. The first target goes, and then the second: what holds after each, and that the
-// probe is marked then.
+// Adds two targets, and then a probe that covers the second. Removes the first target, and then the second. Returns
+// the probe's level after each removal. At the end the probe is marked.
 fn drop_two_targets<L: Ledger>(
     board: &mut LevelBoard,
     table: &NameTable,
@@ -71,7 +72,7 @@ fn drop_two_targets<L: Ledger>(
     (one_left, board.level(probe))
 }
 
-// The only target that comes is known in part, and a probe may cover it.
+// Adds the only target, and returns the probe's level. The target is known in part, and the probe may cover it.
 fn add_target_known_in_part<L: Ledger>(
     board: &mut LevelBoard,
     table: &NameTable,
@@ -94,7 +95,8 @@ fn add_target_known_in_part<L: Ledger>(
     board.level(probe)
 }
 
-// A target that a probe may cover goes, and one that it covers stays.
+// Removes a target that the probe may cover, and returns the probe's level. The probe covers another target, which is
+// not removed.
 fn drop_target_known_in_part<L: Ledger>(
     board: &mut LevelBoard,
     table: &NameTable,

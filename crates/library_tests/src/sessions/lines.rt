@@ -1,8 +1,8 @@
-// A reader of lines over memory.
+// A reader of lines over bytes in memory.
 use cpe_io::{Found, LineReader, MemSource, Source};
 use std::alloc::Global;
 
-// Whether the reader finds this line, and a read past it then gives so many bytes.
+// Whether the reader finds this line, and the next read then gives this number of bytes.
 fn finds(reader: &mut LineReader, source: &mut MemSource, line: &[u8], left: usize) -> bool {
     reader.find_line(source) == Ok(Found::Text)
         && reader.text() == line

@@ -1,4 +1,4 @@
-// A caller counts its steps.
+// A caller that counts its steps.
 ghost use Rattle.std.specs.Prelude.{◌≡◌, ◌+◌, ◌<◌};
 
 use name_index::Steps;
@@ -12,7 +12,7 @@ fn tick_twice<L: Ledger>(steps: &mut Steps<L>)
     steps.tick();
 }
 
-// How many bytes a count takes at run time.
+// The number of bytes that a count takes at run time.
 fn bytes_of_two_steps<L: Ledger>(blank: Blank) -> usize
     requires name { blank.name ≡ L.name }
     requires parts { blank.parts ≡ L.parts }

@@ -1,8 +1,8 @@
-// Sources and sinks over readers and writers of std, of whose bytes no clause speaks.
+// Sources and sinks over readers and writers of the standard library. No clause says which bytes these have.
 use cpe_io::{Failed, Sink, SinkFault, Source, StdSink, StdSource, write_all};
 use std::io::{self, Read, Write};
 
-// Whether a read into two bytes gives these.
+// Whether a read into a buffer of two bytes gives these bytes.
 fn gives<S: Source>(source: &mut S, bytes: &[u8]) -> bool {
     let mut room = [b'-'; 2];
     match source.read(&mut room) {
@@ -51,7 +51,7 @@ fn a_write_that_takes_nothing_has_failed(rt: HostRuntime) {
     assert!(rt; room == *b"ab");
 }
 
-// Reads and flushes fail; writes take all.
+// A stream whose reads and flushes fail, and whose writes accept all bytes.
 #[derive(Drop)]
 struct Stuck;
 

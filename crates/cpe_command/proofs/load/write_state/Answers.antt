@@ -8,7 +8,7 @@ use Rattle.cpe_session.proofs.Pouring.{Pours-rest}
 use Rattle.cpe_session.proofs.Runs.{Ran-written, Ran-written_fault}
 use Rattle.cpe_command.proofs.load.write_state.Goals as goal
 
--- a row failed
+-- a line could not be appended to the page, or a write failed
 pub returns-in-Err-clause-ran : goal.returns-in-Err-clause-ran
 returns-in-Err-clause-ran g c =
     let text = state_text c.args.engine.now in
@@ -28,7 +28,7 @@ returns-in-Ok-clause-ran g c =
     let is = sym (ap (λ (l : List ℕ). l ++ text) c.new-page.ensures) ∙ pours.splits in
     λ left. Ran-written left held now (record { text = text; status = Done }) tt (subst (λ (t : List ℕ). Appends held now t) (sym is) all)
 
--- the rows were poured, and the write of what was left failed
+-- all lines were appended, and the last write failed
 pub returns-clause-ran : goal.returns-clause-ran
 returns-clause-ran g c =
     let text = state_text c.args.engine.now in

@@ -4,7 +4,7 @@ use Rattle.cpe_rows.specs.Rows.{Rows}
 use Rattle.cpe_drill.specs.Drill.{LeavesRows}
 use Rattle.cpe_drill.proofs.run.drill.Goals as goal
 
--- the rows stand in the engine again
+-- the rows are in the engine again
 pub returns-clause-ran : goal.returns-clause-ran
 returns-clause-ran g c = λ left.
     Ran-besides (c.drill_records-status.ensures.ran left)

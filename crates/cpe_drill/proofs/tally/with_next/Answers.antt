@@ -10,6 +10,6 @@ returns-in-Some c =
     tally-next c.args.engine.now c.args.place c.requires.below c.in-Some.truth c.with.result c.in-Some.ensures.verdict
     (c.with.ensures (first c.args.engine.now c.args.place) c.requires.told)
 
--- the place is one of a statement
+-- there is a statement at this place
 pub returns-in-None : goal.returns-in-None
 returns-in-None c = absurd (none-below c.args.engine.now c.args.place c.requires.below c.in-None.ensures.verdict)

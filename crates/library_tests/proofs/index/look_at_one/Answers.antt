@@ -1,4 +1,4 @@
--- Of five products one is near.
+-- Only one of the five products is near to `p`.
 use Rattle.std.proofs.Common.{◌≡◌, ◌∷◌, [], ℕ, Bool, List, if◌then◌else◌, count_by, ap, ◌∙◌, arith}
 use Rattle.cpe_rows.specs.cpe_values.declared.value.Value.{Value}
 use Rattle.cpe_relation.specs.Near.{near}

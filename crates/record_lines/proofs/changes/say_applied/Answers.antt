@@ -2,7 +2,7 @@ use Rattle.std.proofs.Common.{◌∙◌}
 use Rattle.record_lines.proofs.WatchLemmas.{changes-said}
 use Rattle.record_lines.proofs.changes.say_applied.Goals as goal
 
--- the lines of the changes were put
+-- the lines of the changes were appended
 pub returns-in_ok-push_changes-in-Ok-clause-said : goal.returns-in_ok-push_changes-in-Ok-clause-said
 returns-in_ok-push_changes-in-Ok-clause-said g c =
     changes-said c.args.number c.args.engine.now c.apply.new.self c.args.edit c.args.dropped.now c.as_slice.result.now

@@ -5,7 +5,7 @@ use Rattle.cpe_snapshot.specs.States.{Snap}
 use Rattle.cpe_command.proofs.LoadLemmas.{Answers-refusal, Answers-state, first_left, state_left}
 use Rattle.cpe_command.proofs.load.LoadListener.say.Goals as goal
 
--- the state was told
+-- the input is a snapshot, and its counts and verdicts were written
 pub returns-in-Ok-clause-answers : goal.returns-in-Ok-clause-answers
 returns-in-Ok-clause-answers g c =
     let lawful = subst (λ (rows : Rows). IsLawful rows) (sym c.put.ensures) c.lawful.ensures in
@@ -18,7 +18,7 @@ returns-in-Ok-clause-leaves g c =
     let snap = subst (λ (rows : Rows). Snap rows c.args.input.now) (sym c.put.ensures) c.in-Ok.ensures.loaded in
     state_left c.write_state.result c.args.state.now c.put.new.state c.args.input.now snap (c.write_state.ensures.ran (Some []))
 
--- no state has this snapshot
+-- the input is the snapshot of no rows
 pub returns-in-Err-NotSnapshot-clause-answers : goal.returns-in-Err-NotSnapshot-clause-answers
 returns-in-Err-NotSnapshot-clause-answers g c =
     Answers-refusal c.refuse.result c.args.input.now (c.in-Err-NotSnapshot.ensures.refused c.in-Err-NotSnapshot.field-0-is) (c.refuse.ensures.ran (Some []))

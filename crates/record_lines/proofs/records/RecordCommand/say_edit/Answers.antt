@@ -9,7 +9,7 @@ use Rattle.record_lines.specs.Records.{by_step}
 use Rattle.record_lines.proofs.Edits.{quiet_edit}
 use Rattle.record_lines.proofs.records.RecordCommand.say_edit.Goals as goal
 
--- both commands write nothing of an edit
+-- the command writes nothing for an edit
 pub returns-in-Resolve-clause-said : goal.returns-in-Resolve-clause-said
 returns-in-Resolve-clause-said g c =
     IfOk-weaker c.make_edit.result _ _
