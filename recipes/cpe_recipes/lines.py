@@ -1,4 +1,4 @@
-"""Runs a word of cpe that keeps no state on all processors of a machine: sh lines.sh WORD.. < LINES.
+"""Runs a command of cpe that keeps no state, on all processors of a machine: sh lines.sh WORD.. < LINES.
 
 WORD.. is unbind, bind fs, bind uri or compare. The recipe writes what `cpe WORD..` writes, with the same line numbers in refusals, and ends
 with the same status. GNU parallel runs the workers. The variable WORKERS is the number of workers at a time; without it there are as many

@@ -34,7 +34,7 @@ What you know in addition:
 What is written:
 
 - --all: also the verdicts that are FALSE, and below the table the advisories that aren't analysed.
-- --strict: a verdict is FALSE, but counted, if it would be UNKNOWN only because an item says less than an advisory asks for.
+- --strict: a verdict is FALSE, but counted as `perhaps`, if it would be UNKNOWN only because an item says less than an advisory asks for.
 - --format: table, json, csv, sarif, cyclonedx-vex or openvex (formats/). --json is --format json, which report.py reads. --time is the time
   that the result has.
 - --why: the items that make a verdict TRUE (`decidedBy`), in all forms except the table (deciding.py).
