@@ -21,9 +21,9 @@
   store doesn't keep their verdicts.
 - forget: ends the reports of these files. Use it for files that could not be read or added, and that you can't add again.
 
-`scan.py --store FOLDER` scans from the store (kept.py, adding.py and stored.py say how). The status is 0 if all was added, or if nothing is
-missing or wrong. It is 1 if something was left out, is missing or wrong, which is reported. It is 2 if there is no store, or the store
-can't be read or written.
+`scan.py --store FOLDER` scans from the store (kept.py, adding.py and stored.py say how). The status is 0 if add added all, or if the other
+command found nothing missing or wrong. It is 1 if something was left out, is missing or wrong, which is reported. It is 2 if there is no
+store, or the store can't be read or written.
 """
 from __future__ import annotations
 
