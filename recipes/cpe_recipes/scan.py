@@ -51,8 +51,8 @@ for TRUE, and FALSE needs all.
 
 What a list doesn't say is UNKNOWN. A fact may match an item that is known in part, because the item's name has a pattern. A fact may also
 match an item that says less, such as a plugin without its platform. reasons.py writes the missing attributes beside a verdict that depends
-on such an item. These verdicts are counted separately, as `perhaps`; NIST IR 7696 says that they are FALSE. If no version that an item may
-have is in a range, the range is FALSE for the item (decide.py).
+on an item that says less. These verdicts are counted separately, as `perhaps`; NIST IR 7696 says that they are FALSE. If no version that an
+item may have is in a range, the range is FALSE for the item (decide.py).
 
 The status is 0 if every verdict is written and nothing was left out. It is 1 if something was left out, which is reported. It is 2 if there
 is no result; then only the reason is written. It is 3 if a verdict fits a gate, even if something was left out.
