@@ -9,15 +9,14 @@ machine.
   each node, and each match is a fact. If a configuration could hold without a product that is marked as vulnerable, the statement also asks
   for one of its vulnerable products.
 - A match with a range of versions becomes an AND of two children. One is the product in any version; the other is a check with the key NVD,
-  cpeMatch and the id of the match. If the machine doesn't have the product, and no other fact holds, the statement is FALSE. If the machine
-  has the product, the statement is UNKNOWN until a record `check` says whether its version is in the range. The ranges are written into a
-  file of their own, for decide.py.
+  cpeMatch and the id of the match. If a machine has the product, the statement is UNKNOWN until a record `check` says whether the version
+  is in the range. The ranges are written into a file of their own, for decide.py.
 - An advisory without configurations isn't analysed yet, and has no statement. A remark counts such advisories (unanalysed.py).
 - If there are several records of an advisory, the record that was modified last counts (latest.py). If two records have the same time and
   differ, what only the second has is UNKNOWN, and reported.
 - What can't be read in an advisory, such as a bad name or bound, becomes a check that stays UNKNOWN, and is reported. So the rest of the
   advisory still counts.
-- An advisory of more names than a line can have becomes several statements, CVE-..#2 and so on. One of them is TRUE if the whole would be
+- An advisory of more names than a record can have becomes several statements, CVE-..#2 and so on. One of them is TRUE if the whole would be
   TRUE. The tables join them by their ids.
 
 --ranges names the file for the ranges. --details names the file for scores and titles, which affected.sh reads. What is left out is

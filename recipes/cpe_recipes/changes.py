@@ -7,10 +7,10 @@ The recipe writes a line for each verdict that differs between the files, unless
     gone MACHINE ID BEFORE AFTER        it is FALSE now, or isn't there any more
     changed MACHINE ID BEFORE AFTER     it is another one
 
-BEFORE and AFTER are verdicts, or `none` if there is no verdict. If AFTER is `none`, the line ends with one of these reasons. The machine is
-missing, or has no items. The advisory isn't analysed, is rejected, was left out, or isn't in the feeds. Or the verdict is a FALSE that
-could be another verdict, because pages of the dictionary or of the match feed are missing. If a user settled AFTER, the line ends with the
-user's reason.
+In these lines BEFORE and AFTER are verdicts, or `none` if there is no verdict. If AFTER is `none`, the line ends with a reason. The machine
+may be missing, or have no items. The advisory may not be analysed, or may be rejected, left out, or missing from the feeds. Or pages of the
+dictionary or the match feed are missing, so that a FALSE could be another verdict. If a user settled AFTER, the line ends with the user's
+reason.
 
 A change to `none` doesn't show that the machine was mended. So the status is 1, with a report, if a machine has no items any more. The same
 holds if an advisory was left out or isn't in the feeds. An advisory that isn't analysed or is rejected doesn't cause status 1. Verdicts of

@@ -1,23 +1,23 @@
-"""Decides which ranges of versions have an item of which machine: the results of the checks that advisories.py writes for ranges.
+"""Decides in which ranges of versions a machine has an item: the results of the checks that advisories.py writes for ranges.
 
-A range is decided for a machine if its name covers an item of the machine, or a name to which the dictionary leads the item.
+A range is decided for a machine if the range's name covers an item of the machine, or a name to which the dictionary leads the item.
 
 1. The range is TRUE if the match feed's own list for that match has one of these names.
-2. Else it is TRUE if the version of one of these names is in the range by all orders that it may have. It is FALSE if all versions are
-   outside the range by all orders.
+2. Else it is TRUE if the version of one of these names is in the range by all orders that it may have. It is FALSE if all these versions
+   are outside the range by all orders.
 3. Else the orders differ. Then there is no result, which is reported: the check stays UNKNOWN (versions.py).
 
 The kind of a component decides which order its version has. Without a kind, the order of `cpe advise` is one of the possible orders, and
 cpe is asked for its result.
 
-A name with a pattern is known in part, and the name of the range may cover it. Then the result is FALSE if all versions with this beginning
-are outside the range. Otherwise there is no result.
+A name with a pattern is known in part, and the name of the range may cover it. Then the result is FALSE if all versions that begin like the
+pattern are outside the range. Otherwise there is no result.
 
     python3 decide.py --ranges FILE.. --records FILE.. --machines FILE [--names FILE] [--matches FILE..] [--letters FILE]
 
-The ranges are those of `advisories.sh --ranges`. The records have the entries and deprecations of a dictionary. The file of machines has a
-line for each: its name, and the names of its items. A line is written for each decided check of a machine: the machine, the id of the
-check, and TRUE or FALSE, separated by tabs.
+The ranges are those of `advisories.sh --ranges`. The records have the entries and deprecations of a dictionary. --machines names a file
+with a line for each machine: its name, and the names of its items. A line is written for each decided check of a machine: the machine, the
+check's id, and TRUE or FALSE, separated by tabs.
 """
 from __future__ import annotations
 

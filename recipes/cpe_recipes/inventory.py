@@ -7,8 +7,8 @@ managers.
 - All names that a list gives for a component are read. lists/ has a module for each form, which says what it reads.
 - A line of a plain list is a name in either binding, or a package URL. A # at the beginning of a line or after a space begins a comment.
 - A name is one item, however often it is in the list, in whatever binding and letter case. Repetitions are not reported.
-- A package URL gets the names that names.txt and the table of --names have for it (names_table.py). With --machines the package URL itself
-  is written. The recipe that reads the lines then finds its names, in the dictionary too (naming.py).
+- A package URL gets only the names that names.txt and the table of --names have for it (names_table.py). With --machines the package URL
+  itself is written. The recipe that reads the lines then finds its names, in the dictionary too (naming.py).
 
 A component without a name, or without a name that can be an item, is reported. Texts that look like names, in members that aren't read, are
 counted in a report. A list of another form is refused, and the message names the form. A list without any item is refused too: an empty

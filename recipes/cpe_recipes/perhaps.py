@@ -12,8 +12,8 @@ By NIST IR 7696 such a fact is FALSE. For example, `log4j:2.0` in any update isn
 any version isn't known to be 2.0. In mode plain the names are compared, in mode follow their ends.
 
 The fact of a range has no version, so an item with a version says more in this attribute. The item may say less in another attribute, such
-as a plugin without its platform. Then neither name covers the other. With the file --ranges of `advisories.sh`, such an item is compared by
-its version. It is listed unless the version is surely outside the range. The option --letters is that of `decide.py`.
+as a plugin without its platform. Then neither name covers the other. With --ranges, the file of `advisories.sh`, such an item is compared
+by its version. It is listed unless the version is surely outside the range. The option --letters is that of `decide.py`.
 """
 from __future__ import annotations
 

@@ -94,7 +94,7 @@ class Server(uvicorn.Server):
 
 def _options() -> argparse.ArgumentParser:
     parser = argparse.ArgumentParser("cpe_service", description="Which machines are affected by which advisories, since when, and why.")
-    parser.add_argument("word", nargs="*", help="token NAME, backup FILE or take FOLDER; without it the service runs")
+    parser.add_argument("word", nargs="*", help="token NAME, backup FILE or take FOLDER; without any of these the service runs")
     parser.add_argument("--data", type=Path, required=True, metavar="DIR", help="the data folder")
     parser.add_argument("--host", default="127.0.0.1", help="the address to listen on")
     parser.add_argument("--port", type=int, default=8765)
@@ -103,14 +103,14 @@ def _options() -> argparse.ArgumentParser:
         ("workers", "processes that judge, each with its own part of the machines"),
         ("most-list", "bytes that a list may have"),
         ("most-feed", "bytes that a page of a feed may have"),
-        ("seconds", "how long a client may take to send a body"),
-        ("wait", "how long a list that was put waits for its verdicts before the answer"),
+        ("seconds", "seconds that a client may take to send a body"),
+        ("wait", "seconds that the answer to a put list waits for its verdicts"),
         ("rate", "requests a second that a client may send"),
-        ("days", "how long changes are kept"),
+        ("days", "days for which changes are kept"),
     ):
         parser.add_argument(f"--{name}", type=int, default=getattr(Settings, name.replace("-", "_")), metavar="N", help=what)
     parser.add_argument("--samples", action="store_true", help="begins with the samples of the recipes, if there is no machine yet")
-    parser.add_argument("--read", action="store_true", help="of token: it may only read")
+    parser.add_argument("--read", action="store_true", help="with token: the token may only read")
     return parser
 
 
