@@ -1,4 +1,4 @@
-// An edit in two stages: the first takes all memory, and the second makes the edit.
+// An edit in two stages: the first takes all memory that the edit needs, and the second makes it.
 ghost use Rattle.std.specs.Prelude.{◌≡◌, ◌≤◌, [], IfErr, IfOk, OnErr, map, true};
 ghost use Rattle.name_index.specs.cpe_steps.Within.{StepsWithin};
 ghost use Rattle.cpe_rows.specs.Prelude.{after, Applied, changes, is_valid_edit, Refuses, step, verdict};
