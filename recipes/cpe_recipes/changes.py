@@ -12,9 +12,10 @@ may be missing, or have no items. The advisory may not be analysed, or may be re
 dictionary or the match feed are missing, so that a FALSE could be another verdict. If a user settled AFTER, the line ends with the user's
 reason.
 
-A change to `none` doesn't show that the machine was mended. So the status is 1, with a report, if a machine has no items any more. The same
-holds if an advisory was left out or isn't in the feeds. An advisory that isn't analysed or is rejected doesn't cause status 1. Verdicts of
-a single inventory have no MACHINE. If one of the two files is cut off, the status is 2, and nothing is written.
+A change to `none` doesn't show that the machine was mended. So the status is 1, with a report, if a machine has no
+items any more. The same holds if an advisory was left out or isn't in the feeds. An advisory that isn't analysed or is
+rejected doesn't cause status 1. Lines for verdicts of a single inventory have no MACHINE. If one of the two files is
+cut off, the status is 2, and nothing is written.
 """
 from __future__ import annotations
 

@@ -12,15 +12,16 @@
   check gets the result.
 - --decided: the output of `decide.py`.
 
-A fleet decides like `scan.py`, whatever the modes of the statements. What a list doesn't say is UNKNOWN. With --strict a verdict is FALSE
-if it would be UNKNOWN only because an item says less than an advisory asks for. Remarks name the items that have no entry, or only a
-removed entry.
+A fleet decides like `scan.py`, whatever the modes of the statements are. What a list doesn't say is UNKNOWN. With
+--strict a verdict is FALSE if it would be UNKNOWN only because an item says less than an advisory asks for. Remarks
+name the items that have no entry, or only a removed entry.
 
-A fleet writes only verdicts. `affected.sh` and `report.py` take --kev and --epss with the output of a fleet. Only `scan.py` has --fail-on,
---since and --format.
+A fleet writes only verdicts. `affected.sh` and `report.py` accept --kev and --epss with the output of a fleet. Only
+`scan.py` has --fail-on, --since and --format.
 
-It writes a line `MACHINE STATEMENT TRUTH` for each verdict, in the order of the machines and of the statements. For a machine without items
-it writes `MACHINE no items`. If every machine was written, the last line is `machines COUNT`.
+A fleet writes a line `MACHINE STATEMENT TRUTH` for each verdict, in the order of the machines and of the statements.
+For a machine without items a fleet writes `MACHINE no items`. If every machine was written, the last line is
+`machines COUNT`.
 
 Each worker reads the records once. The variable WORKERS is the number of workers; without it there are as many workers as processors. If a
 worker dies, its machines are done again from the start, up to three times. Refused records are reported, and the status is 1. If machines

@@ -11,7 +11,8 @@ scan.py. The recipe writes
     perhaps MACHINE PACKAGE names.txt: LINE [| LINE..]
     no candidate MACHINE PACKAGE
 
-If only the dictionary names a package, put LINE into a table for --names to decide which product it is (naming.py).
+If a package only has candidates from the dictionary, put LINE into a table for --names to decide which product the
+package is (naming.py).
 
 An item without an entry has no chain. So an advisory that uses another name of the product doesn't find the item. If entries of its product
 are deprecated and lead to other products, these products are written after `now called`. A component with several names isn't listed if one
