@@ -1,7 +1,8 @@
 """Decides in which ranges of versions a machine has an item. Each decision is the result of a check that advisories.py
 writes for a range.
 
-A range is decided for a machine if the range's name covers an item of the machine, or a name to which the dictionary leads the item.
+A range is decided for a machine if the range's name covers an item of the machine, or a name to which the dictionary
+leads the item.
 
 1. The range is TRUE if the match feed's own list for the match of this range has one of these names.
 2. Else the range is TRUE if one of these names has a version that is in the range by all orders that this version may

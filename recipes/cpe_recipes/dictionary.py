@@ -1,5 +1,5 @@
-"""Turns products (/rest/json/cpes/2.0) or match strings (/rest/json/cpematch/2.0) of NVD's API 2.0 into records `entry` and
-`deprecate`, all entries first.
+"""Turns products (/rest/json/cpes/2.0) or match strings (/rest/json/cpematch/2.0) of NVD's API 2.0 into records `entry`
+and `deprecate`, all entries first.
 
     sh dictionary.sh [--partial] [--large] [FILE..] > records
 
@@ -13,8 +13,9 @@
   recipe writes the date of the product's last change.
 - A match string itself, with its range of versions, is no name of a dictionary. So only its matches are read.
 
-What is left out is reported, and the status is 1. A feed without any record is refused. A feed with missing pages is refused too; with
---partial the missing pages are only reported. --large accepts pages that unpack to any size (unpack.py).
+What is left out is reported, and the status is 1. A feed without any record is refused. A feed with missing pages is
+refused too; with --partial the missing pages are only reported. --large accepts pages that unpack to any size
+(unpack.py).
 """
 from __future__ import annotations
 

@@ -1,4 +1,5 @@
-"""The records of a snapshot that `cpe save` wrote: sh from-snapshot.sh SNAPSHOT. Add new records after them to continue the saved session:
+"""The records of a snapshot that `cpe save` wrote: sh from-snapshot.sh SNAPSHOT. Add new records after them to continue
+the saved session:
 
     { sh from-snapshot.sh inventory.snapshot; cat new.jsonl; } | cpe watch
 
@@ -7,8 +8,8 @@ deprecation is before that of its predecessor. A deprecation is written from the
 entry without a note of its deprecation is left out; no session of `cpe` makes such an entry. An entry is left out too
 if its notes make its record too long for a line.
 
-If the file is no snapshot, nothing is written, and the status is 2. The recipe doesn't test whether the rows are lawful. If they aren't,
-`cpe` refuses their records, and `cpe load` refuses the snapshot.
+If the file is no snapshot, nothing is written, and the status is 2. The recipe doesn't test whether the rows are
+lawful. If they aren't, `cpe` refuses their records, and `cpe load` refuses the snapshot.
 """
 from __future__ import annotations
 

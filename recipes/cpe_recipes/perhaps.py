@@ -8,8 +8,9 @@ name covers the fact's name, and the names aren't equal, the recipe writes
 
     perhaps MACHINE ID ITEM FACT
 
-By NIST IR 7696 such a fact is FALSE. For example, `log4j:2.0` in any update isn't known to be `log4j:2.0` without an update, and `log4j` in
-any version isn't known to be 2.0. In mode plain the names are compared, in mode follow their ends.
+By NIST IR 7696 such a fact is FALSE. For example, `log4j:2.0` in any update isn't known to be `log4j:2.0` without an
+update, and `log4j` in any version isn't known to be 2.0. In mode plain the names are compared, in mode follow their
+ends.
 
 The fact of a range has no version, so an item with a version says more in this attribute. The item may say less in
 another attribute, such as a plugin without its platform. Then neither name covers the other. With --ranges, the file of

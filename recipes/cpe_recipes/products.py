@@ -6,10 +6,11 @@
 writes the advisories that could be other than FALSE on a machine, as one page of the same form, for `advisories.sh` or
 `scan.py`.
 
-The recipe reads the vulnerable matches of an advisory. It reads all matches if the advisory has a vulnerable operating system, firmware or
-hardware (concern.py). An advisory is kept if one of the read matches
+The recipe reads the vulnerable matches of an advisory. It reads all matches if the advisory has a vulnerable operating
+system, firmware or hardware (concern.py). An advisory is kept if one of the matches that are read
 
-- has the vendor and product of an item, or of a name to which the dictionary of --records leads, or may lead, the item; or
+- has the vendor and product of an item, or of a name to which the dictionary of --records leads, or may lead, the item;
+  or
 - has a vendor or product with a special, or is no name; or
 - has the product of an item whose vendor is a pattern, or the vendor of an item whose product is a pattern.
 

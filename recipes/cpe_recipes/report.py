@@ -11,13 +11,13 @@ and verdicts. The filter is part of the address, as in `page.html#q=openssl&mach
 runs no scripts, only the filter is missing.
 
 - --title: the title of the page.
-- --before: verdicts of an earlier day, in the same form. The page then has the changes since that day, as `changes.sh` writes them, with
-  the reason if a verdict is `none` now. This option needs a FILE.
+- --before: verdicts of an earlier day, in the same form. The page then has the changes since that day, as `changes.sh`
+  writes them, with the reason if a verdict is `none` now. This option needs a FILE.
 - the other options are those of `affected.sh`, for verdicts of a fleet or of `cpe evaluate`. The output of `scan.py`
   already has these data.
 
-If something was left out, or a machine has no items, the status is 1, and this is reported. If there is no result, the status is 2, and
-nothing is written, except what fits on a full disk.
+If something was left out, or a machine has no items, the status is 1, and this is reported. If there is no result, the
+status is 2, and nothing is written, except what fits on a full disk.
 """
 from __future__ import annotations
 
