@@ -1,5 +1,5 @@
 #!/usr/bin/env python3
-"""Decides which ranges of versions have an item of which machine: the code is cpe_recipes/decide.py.
+"""Decides in which ranges of versions a machine has an item: the code is cpe_recipes/decide.py.
 
     python3 decide.py --ranges FILE.. --records FILE.. --machines FILE [--matches FILE..] [--letters FILE]
 """

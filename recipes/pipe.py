@@ -5,10 +5,11 @@
         client.ask('{"do":"entry","name":"cpe:/a:gnu:gnutls:3.8.0"}')    # Answer(number=1, refusal=None, lines=[])
         for answer in client.ask_all(lines_of_a_feed): ..
 
-The client serves all commands that read lines. `save` answers no line: `send` writes the lines, and `end` returns the snapshot.
+The client serves all commands that read lines. `save` answers no line. For `save`, `send` writes the lines, and `end`
+returns the snapshot.
 
-As a script (python3 pipe.py WORD.. < LINES) it writes for each line its number and the lines of its answer, separated by tabs. At the end
-it writes what `cpe` writes at the end of the input. Empty lines are ignored.
+As a script (python3 pipe.py WORD.. < LINES) it writes for each line its number and the lines of its answer, separated
+by tabs. At the end it writes what `cpe` writes at the end of the input. Empty lines are ignored.
 """
 import collections
 import contextlib

@@ -1,5 +1,5 @@
 #!/usr/bin/env python3
-"""Writes which advisories concern which machine, from feeds and software lists: the code is cpe_recipes/scan.py.
+"""Writes which advisories affect which machine, from feeds and software lists: the code is cpe_recipes/scan.py.
 
     python3 scan.py --dictionary FILE.. --advisories FILE.. [--matches FILE..] --machines FILE | --lists FILE.. [--json]
 """

@@ -2,26 +2,29 @@
 
     sh advisories.sh [--ranges FILE] [--details FILE] [--partial] [--large] [FILE..] > records
 
-A statement has the id of its CVE, and follows deprecations. It is TRUE if one of the configurations holds with a vulnerable product on the
-machine.
+A statement has the id of its CVE, and follows deprecations. The statement is TRUE if one of the CVE's configurations
+holds with a vulnerable product on the machine.
 
-- A configuration has nodes. A node has matches, and perhaps further nodes as its `children`. The test has the `operator` and `negate` of
-  each node, and each match is a fact. If a configuration could hold without a product that is marked as vulnerable, the statement also asks
-  for one of its vulnerable products.
-- A match with a range of versions becomes an AND of two children. One is the product in any version; the other is a check with the key NVD,
-  cpeMatch and the id of the match. If a machine has the product, the statement is UNKNOWN until a record `check` says whether the version
-  is in the range. The ranges are written into a file of their own, for decide.py.
-- An advisory without configurations isn't analysed yet, and has no statement. A remark counts such advisories (unanalysed.py).
-- If there are several records of an advisory, the record that was modified last counts (latest.py). If two records have the same time and
-  differ, what only the second has is UNKNOWN, and reported.
-- What can't be read in an advisory, such as a bad name or bound, becomes a check that stays UNKNOWN, and is reported. So the rest of the
-  advisory still counts.
-- An advisory of more names than a record can have becomes several statements, CVE-..#2 and so on. One of them is TRUE if the whole would be
-  TRUE. The tables join them by their ids.
+- A configuration has nodes. A node has matches, and perhaps further nodes as its `children`. The test has the
+  `operator` and `negate` of each node, and each match is a fact. If a configuration could hold without a product that
+  is marked as vulnerable, the statement also asks for one of its vulnerable products.
+- A match with a range of versions becomes an AND of two children. One is the product in any version; the other is a
+  check with the key NVD, cpeMatch and the id of the match. If a machine has the product, the statement is UNKNOWN until
+  a record `check` says whether the version is in the range. The ranges are written into a file of their own, for
+  decide.py.
+- An advisory without configurations isn't analysed yet, and has no statement. A remark counts such advisories
+  (unanalysed.py).
+- If there are several records of an advisory, the record that was modified last is used (latest.py). If two records
+  have the same time and differ, what only the second has is UNKNOWN, and reported.
+- What can't be read in an advisory, such as a bad name or bound, becomes a check that stays UNKNOWN, and is reported.
+  The rest of the advisory is kept.
+- An advisory with more names than a record can have becomes several statements, with ids such as CVE-..#2. One of these
+  statements is TRUE if the whole advisory would be TRUE. The tables join the statements by their ids.
 
---ranges names the file for the ranges. --details names the file for scores and titles, which affected.sh reads. What is left out is
-reported, and the status is 1. A feed without any vulnerability is refused. A feed with missing pages is refused too; with --partial the
-missing pages are only reported. --large accepts pages that unpack to any size (unpack.py).
+--ranges names the file for the ranges. --details names the file for scores and titles, which affected.sh reads. What is
+left out is reported, and the status is 1. A feed without any vulnerability is refused. A feed with missing pages is
+refused too; with --partial the missing pages are only reported. --large accepts pages that unpack to any size
+(unpack.py).
 """
 from __future__ import annotations
 

@@ -3,21 +3,25 @@
     sh affected.sh [--details FILE] [--suppress FILE] [--settled FILE] [--records FILE] [--ranges FILE] [--decided FILE]
         [--kev FILE] [--epss FILE] [FILE]
 
-For each machine the table has the advisories that are TRUE, and then those that are ERROR or UNKNOWN. The last line counts the verdicts of
-each kind. A machine without items is reported.
+For each machine the table has the advisories that are TRUE, and then those that are ERROR or UNKNOWN. The last line
+counts the verdicts of each kind. A machine without items is reported.
 
-- --details: the file of scores and titles that `advisories.sh --details` wrote. The highest score is first.
-- --suppress: accepted advisories, lines `ID MACHINE REASON`; * is every machine. They are written below the table.
+- --details: the file of scores and titles that `advisories.sh --details` wrote. With this file the highest score is
+  first.
+- --suppress: accepted advisories, lines `ID MACHINE REASON`; * is every machine. Accepted advisories are written below
+  the table.
 - --settled: UNKNOWNs that a user settled, lines `MACHINE ID TRUE|FALSE REASON`; * is every machine (settled.py).
-- --records: the records that were evaluated. With them the table says what an UNKNOWN depends on: the checks of its statement that have no
-  result in the records.
+- --records: the records that were evaluated. With them the table says what an UNKNOWN depends on: the checks of its
+  statement that have no result in the records.
 - --decided: the output of `decide.py`, which has results of further checks.
-- --ranges: the file that `advisories.sh --ranges` wrote. With it the table has the product and bounds of a range that isn't decided.
-- --kev, --epss: CISA's list of known exploited vulnerabilities, and EPSS (threats.py). Each gets a column. Known exploited advisories are
-  then first, and among equal scores the highest EPSS.
+- --ranges: the file that `advisories.sh --ranges` wrote. With it the table has the product and bounds of a range that
+  isn't decided.
+- --kev, --epss: CISA's list of known exploited vulnerabilities, and EPSS (threats.py). Each adds a column. Known
+  exploited advisories are then first. Among equal scores the highest EPSS is first.
 
-Each option except --kev and --epss may be given several times. The status is 1 if a record was refused, a machine has no items, or a line
-of --suppress or --settled is wrong. If the verdicts are cut off, the status is 2, and nothing is written.
+Each option except --kev and --epss may be given several times. The status is 1 if a record was refused, a machine has
+no items, or a line of --suppress or --settled is wrong. If the verdicts are cut off, the status is 2, and nothing is
+written.
 """
 from __future__ import annotations
 

@@ -1,8 +1,9 @@
 """The chains of names as a graph in DOT: sh chain-graph.sh [--svg FILE] RECORDS NAME...
 
-RECORDS are those of `cpe resolve`, and each NAME is in either binding. The graph has each entry of the chains once. An arrow leads from an
-entry to each successor, labelled with the kind of the deprecation. A name without a successor has a double frame, and a removed name a
-dashed frame. With --svg the program `dot` of Graphviz also draws the graph into FILE.
+RECORDS are records for `cpe resolve`. Each NAME is in either binding. The graph has each entry of the chains once. An
+arrow leads from an entry to each successor, labelled with the kind of the deprecation. A name without a successor has a
+double frame, and a removed name a dashed frame. With --svg the program `dot` of Graphviz also draws the graph into
+FILE.
 
     sh chain-graph.sh records.jsonl cpe:/a:mysql:mysql:5.1.73 | dot -Tsvg > chain.svg
 

@@ -1,5 +1,5 @@
-"""What changed between two sets of verdicts: sh changes.sh BEFORE AFTER. Both files are from `cpe evaluate`, from a fleet, or from
-`scan.py --json`.
+"""What changed between two sets of verdicts: sh changes.sh BEFORE AFTER. Both files are from `cpe evaluate`, from a
+fleet, or from `scan.py --json`.
 
 The recipe writes a line for each verdict that differs between the files, unless it is FALSE or missing in both:
 
@@ -7,14 +7,15 @@ The recipe writes a line for each verdict that differs between the files, unless
     gone MACHINE ID BEFORE AFTER        it is FALSE now, or isn't there any more
     changed MACHINE ID BEFORE AFTER     it is another one
 
-In these lines BEFORE and AFTER are verdicts, or `none` if there is no verdict. If AFTER is `none`, the line ends with a reason. The machine
-may be missing, or have no items. The advisory may not be analysed, or may be rejected, left out, or missing from the feeds. Or pages of the
-dictionary or the match feed are missing, so that a FALSE could be another verdict. If a user settled AFTER, the line ends with the user's
-reason.
+In these lines BEFORE and AFTER are verdicts, or `none` if there is no verdict. If AFTER is `none`, the line ends with a
+reason. The machine may be missing, or have no items. The advisory may not be analysed, or may be rejected, left out, or
+missing from the feeds. Or pages of the dictionary or the match feed are missing, so that a FALSE could be another
+verdict. If a user settled AFTER, the line ends with the user's reason.
 
-A change to `none` doesn't show that the machine was mended. So the status is 1, with a report, if a machine has no items any more. The same
-holds if an advisory was left out or isn't in the feeds. An advisory that isn't analysed or is rejected doesn't cause status 1. Verdicts of
-a single inventory have no MACHINE. If one of the two files is cut off, the status is 2, and nothing is written.
+A change to `none` doesn't show that the machine was mended. So the status is 1, with a report, if a machine has no
+items any more. The same holds if an advisory was left out or isn't in the feeds. An advisory that isn't analysed or is
+rejected doesn't cause status 1. Lines for verdicts of a single inventory have no MACHINE. If one of the two files is
+cut off, the status is 2, and nothing is written.
 """
 from __future__ import annotations
 

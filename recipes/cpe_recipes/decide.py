@@ -1,23 +1,25 @@
-"""Decides in which ranges of versions a machine has an item: the results of the checks that advisories.py writes for ranges.
+"""Decides in which ranges of versions a machine has an item. Each decision is the result of a check that advisories.py
+writes for a range.
 
-A range is decided for a machine if the range's name covers an item of the machine, or a name to which the dictionary leads the item.
+A range is decided for a machine if the range's name covers an item of the machine, or a name to which the dictionary
+leads the item.
 
-1. The range is TRUE if the match feed's own list for that match has one of these names.
-2. Else it is TRUE if the version of one of these names is in the range by all orders that it may have. It is FALSE if all these versions
-   are outside the range by all orders.
-3. Else the orders differ. Then there is no result, which is reported: the check stays UNKNOWN (versions.py).
+1. The range is TRUE if the match feed's own list for the match of this range has one of these names.
+2. Else the range is TRUE if one of these names has a version that is in the range by all orders that this version may
+   have. The range is FALSE if the versions of all these names are outside the range by all their orders.
+3. Else the orders differ. Then the check has no result and stays UNKNOWN, which is reported (versions.py).
 
-The kind of a component decides which order its version has. Without a kind, the order of `cpe advise` is one of the possible orders, and
-cpe is asked for its result.
+The kind of a component decides which order its version has. Without a kind, the order of `cpe advise` is one of the
+possible orders, and the recipe asks cpe for the result by this order.
 
-A name with a pattern is known in part, and the name of the range may cover it. Then the result is FALSE if all versions that begin like the
-pattern are outside the range. Otherwise there is no result.
+An item is known in part if its name has a pattern. If the name of a range may cover this name, the result is FALSE if
+all versions that begin like the pattern are outside the range. Otherwise there is no result.
 
     python3 decide.py --ranges FILE.. --records FILE.. --machines FILE [--names FILE] [--matches FILE..] [--letters FILE]
 
-The ranges are those of `advisories.sh --ranges`. The records have the entries and deprecations of a dictionary. --machines names a file
-with a line for each machine: its name, and the names of its items. A line is written for each decided check of a machine: the machine, the
-check's id, and TRUE or FALSE, separated by tabs.
+--ranges names files that `advisories.sh --ranges` wrote. --records names files with the entries and deprecations of a
+dictionary. --machines names a file with a line for each machine: its name, and the names of its items. A line is
+written for each decided check of a machine: the machine, the check's id, and TRUE or FALSE, separated by tabs.
 """
 from __future__ import annotations
 

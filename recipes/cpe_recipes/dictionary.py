@@ -1,18 +1,21 @@
-"""Turns products (/rest/json/cpes/2.0) or match strings (/rest/json/cpematch/2.0) of NVD's API 2.0 into records `entry` and
-`deprecate`, all entries first.
+"""Turns products (/rest/json/cpes/2.0) or match strings (/rest/json/cpematch/2.0) of NVD's API 2.0 into records `entry`
+and `deprecate`, all entries first.
 
     sh dictionary.sh [--partial] [--large] [FILE..] > records
 
-- A product becomes an entry with its English title. The entry has a note ORIGINAL_RECORD with the day on which the product was created. The
-  names that a match string matches become entries without a title. A name is written once, and its repetitions are not reported. If there
-  are several records of a product, the record with the latest `lastModified` counts.
-- The successors of a deprecated product are those of its own `deprecatedBy`, and the products that say that they deprecate it. The API
-  gives no kind of a deprecation. The recipe writes NAME_REMOVAL without a successor, NAME_CORRECTION with one successor, and
-  ADDITIONAL_INFORMATION with several. The API gives no date either. The recipe writes the date of the product's last change.
+- A product becomes an entry with its English title. The entry has a note ORIGINAL_RECORD with the day on which the
+  product was created. The names that a match string matches become entries without a title. A name is written once, and
+  its repetitions are not reported. If there are several records of a product, the record with the latest `lastModified`
+  is used.
+- The successors of a deprecated product are those of its own `deprecatedBy`, and the products that say that they
+  deprecate it. The API doesn't say the kind of a deprecation. The recipe writes NAME_REMOVAL if there is no successor,
+  NAME_CORRECTION for one successor, and ADDITIONAL_INFORMATION for several. The API doesn't say the date either, so the
+  recipe writes the date of the product's last change.
 - A match string itself, with its range of versions, is no name of a dictionary. So only its matches are read.
 
-What is left out is reported, and the status is 1. A feed without any record is refused. A feed with missing pages is refused too; with
---partial the missing pages are only reported. --large accepts pages that unpack to any size (unpack.py).
+What is left out is reported, and the status is 1. A feed without any record is refused. A feed with missing pages is
+refused too; with --partial the missing pages are only reported. --large accepts pages that unpack to any size
+(unpack.py).
 """
 from __future__ import annotations
 

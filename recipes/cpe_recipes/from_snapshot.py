@@ -1,13 +1,15 @@
-"""The records of a snapshot that `cpe save` wrote: sh from-snapshot.sh SNAPSHOT. Add new records after them to continue the saved session:
+"""The records of a snapshot that `cpe save` wrote: sh from-snapshot.sh SNAPSHOT. Add new records after them to continue
+the saved session:
 
     { sh from-snapshot.sh inventory.snapshot; cat new.jsonl; } | cpe watch
 
-`cpe save` makes the same snapshot of these records. Deprecations are written after all entries; a successor's deprecation is before that of
-its predecessor. A deprecation is written from the last notes of its entry. A deprecated entry without such a note is left out; no session
-of `cpe` leaves such an entry. An entry is left out too if its notes make its record too long for a line.
+`cpe save` makes the same snapshot of these records. Deprecations are written after all entries; a successor's
+deprecation is before that of its predecessor. A deprecation is written from the last notes of its entry. A deprecated
+entry without a note of its deprecation is left out; no session of `cpe` makes such an entry. An entry is left out too
+if its notes make its record too long for a line.
 
-If the file is no snapshot, nothing is written, and the status is 2. The recipe doesn't test whether the rows are lawful. If they aren't,
-`cpe` refuses their records, and `cpe load` refuses the snapshot.
+If the file is no snapshot, nothing is written, and the status is 2. The recipe doesn't test whether the rows are
+lawful. If they aren't, `cpe` refuses their records, and `cpe load` refuses the snapshot.
 """
 from __future__ import annotations
 

@@ -1,22 +1,26 @@
-"""Turns software lists into records `item`. It reads JSON of CycloneDX, SPDX, Syft, Trivy and npm, plain lists, and the output of package
-managers.
+"""Turns software lists into records `item`. It reads JSON of CycloneDX, SPDX, Syft, Trivy and npm, plain lists, and the
+output of package managers.
 
     sh inventory.sh [--names FILE] [FILE..] > records
     sh inventory.sh --machines FILE.. > machines.txt
 
-- All names that a list gives for a component are read. lists/ has a module for each form, which says what it reads.
-- A line of a plain list is a name in either binding, or a package URL. A # at the beginning of a line or after a space begins a comment.
-- A name is one item, however often it is in the list, in whatever binding and letter case. Repetitions are not reported.
-- A package URL gets only the names that names.txt and the table of --names have for it (names_table.py). With --machines the package URL
-  itself is written. The recipe that reads the lines then finds its names, in the dictionary too (naming.py).
+- All names of a component in a list are read. The folder lists/ has a module for each form. The head of the module says
+  what is read.
+- A line of a plain list is a name in either binding, or a package URL. A # at the beginning of a line or after a space
+  begins a comment.
+- A name is one item, however often it is in the list, in whatever binding and letter case. Repetitions are not
+  reported.
+- A package URL gets only the names that names.txt and the table of --names have for it (names_table.py). With
+  --machines the package URL itself is written. The recipe that reads the lines then finds the names of the package, in
+  the dictionary too (naming.py).
 
-A component without a name, or without a name that can be an item, is reported. Texts that look like names, in members that aren't read, are
-counted in a report. A list of another form is refused, and the message names the form. A list without any item is refused too: an empty
-inventory would look as if nothing were affected.
+A component without a name, or without a name that can be an item, is reported. Texts that look like names, in members
+that aren't read, are counted in a report. A list of another form is refused, and the message names the form. A list
+without any item is refused too: an empty inventory would look as if nothing were affected.
 
-The records have all names of a component one after the other. With --machines each list is that of a machine, whose name is that of the
-file without endings. A machine becomes a line, which keeps the names of a component together (components.py). A machine without items has a
-line too, and is reported.
+The records have all names of a component one after the other. With --machines each file is the list of one machine. The
+machine's name is the file's name without endings. A machine becomes a line, in which the names of a component are
+together (components.py). A machine without items has a line too, and is reported.
 """
 from __future__ import annotations
 

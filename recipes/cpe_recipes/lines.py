@@ -1,9 +1,10 @@
 """Runs a command of cpe that keeps no state, on all processors of a machine: sh lines.sh WORD.. < LINES.
 
-WORD.. is unbind, bind fs, bind uri or compare. The recipe writes what `cpe WORD..` writes, with the same line numbers in refusals, and ends
-with the same status. GNU parallel runs the workers. The variable WORKERS is the number of workers at a time; without it there are as many
-workers as processors. The variable PIECE is the number of lines for each worker. If a worker dies, its piece is done again, up to three
-times. If the worker dies each time, the other pieces are still written, the fault is reported, and the status is 5.
+WORD.. is unbind, bind fs, bind uri or compare. The recipe writes what `cpe WORD..` writes, with the same line numbers
+in refusals, and ends with the same status. GNU parallel runs the workers. The variable WORKERS is the number of workers
+at a time; without it there are as many workers as processors. A worker does a piece of the lines; the variable PIECE is
+the number of lines in a piece. If a worker dies, its piece is done again, up to three times. If the worker dies each
+time, the other pieces are still written, the fault is reported, and the status is 5.
 """
 from __future__ import annotations
 

@@ -4,27 +4,28 @@
 
     sh parallel.sh --store FOLDER MACHINES [--strict] [--hardware none] [--letters FILE]
 
-- --store, in place of RECORDS, ranges and matches: a folder in which store.py keeps feeds. Advisories that name no product of the machines
-  are FALSE, and aren't written; a remark counts them.
+- --store, in place of RECORDS, ranges and matches: a folder in which store.py keeps feeds. Advisories that name no
+  product of the machines are FALSE, and aren't written; a remark counts them.
 - RECORDS: entries, deprecations, statements and results of checks, as the recipes write them.
 - MACHINES: a line for each machine: its name, and the names of its items.
-- --ranges: the ranges of versions that `advisories.sh --ranges` wrote. Each range is decided for each machine, as by `decide.py`, and its
-  check gets the result.
+- --ranges: the ranges of versions that `advisories.sh --ranges` wrote. Each range is decided for each machine, as
+  `decide.py` does it. The result is that of the range's check.
 - --decided: the output of `decide.py`.
 
-A fleet decides like `scan.py`, whatever the modes of the statements. What a list doesn't say is UNKNOWN. With --strict a verdict is FALSE
-if it would be UNKNOWN only because an item says less than an advisory asks for. Remarks name the items that have no entry, or only a
-removed entry.
+A fleet decides like `scan.py`, whatever the modes of the statements are. What a list doesn't say is UNKNOWN. With
+--strict a verdict is FALSE if it would be UNKNOWN only because an item says less than an advisory asks for. Remarks
+name the items that have no entry, or only a removed entry.
 
-A fleet writes only verdicts. `affected.sh` and `report.py` take --kev and --epss with the output of a fleet. Only `scan.py` has --fail-on,
---since and --format.
+A fleet writes only verdicts. `affected.sh` and `report.py` accept --kev and --epss with the output of a fleet. Only
+`scan.py` has --fail-on, --since and --format.
 
-It writes a line `MACHINE STATEMENT TRUTH` for each verdict, in the order of the machines and of the statements. For a machine without items
-it writes `MACHINE no items`. If every machine was written, the last line is `machines COUNT`.
+A fleet writes a line `MACHINE STATEMENT TRUTH` for each verdict, in the order of the machines and of the statements.
+For a machine without items a fleet writes `MACHINE no items`. If every machine was written, the last line is
+`machines COUNT`.
 
-Each worker reads the records once. The variable WORKERS is the number of workers; without it there are as many workers as processors. If a
-worker dies, its machines are done again from the start, up to three times. Refused records are reported, and the status is 1. If machines
-are missing, the status is 5.
+Each worker reads the records once. The variable WORKERS is the number of workers; without it there are as many workers
+as processors. If a worker dies, its machines are done again from the start, up to three times. Refused records are
+reported, and the status is 1. If machines are missing, the status is 5.
 """
 from __future__ import annotations
 

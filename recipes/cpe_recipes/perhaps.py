@@ -2,18 +2,20 @@
 
     sh perhaps.sh RECORDS MACHINES [--names FILE] [--ranges FILE [--letters FILE]]
 
-RECORDS are those of a dictionary and of advisories. MACHINES has a line for each machine: its name, and the names of its items. The recipe
-compares each fact of a statement with each item of the same vendor and product. If the item's name covers the fact's name, and they aren't
-equal, it writes
+RECORDS are those of a dictionary and of advisories. MACHINES has a line for each machine: its name, and the names of
+its items. The recipe compares each fact of a statement with each item of the same vendor and product. If the item's
+name covers the fact's name, and the names aren't equal, the recipe writes
 
     perhaps MACHINE ID ITEM FACT
 
-By NIST IR 7696 such a fact is FALSE. For example, `log4j:2.0` in any update isn't known to be `log4j:2.0` without an update, and `log4j` in
-any version isn't known to be 2.0. In mode plain the names are compared, in mode follow their ends.
+By NIST IR 7696 such a fact is FALSE. For example, `log4j:2.0` in any update isn't known to be `log4j:2.0` without an
+update, and `log4j` in any version isn't known to be 2.0. In mode plain the names are compared, in mode follow their
+ends.
 
-The fact of a range has no version, so an item with a version says more in this attribute. The item may say less in another attribute, such
-as a plugin without its platform. Then neither name covers the other. With --ranges, the file of `advisories.sh`, such an item is compared
-by its version. It is listed unless the version is surely outside the range. The option --letters is that of `decide.py`.
+The fact of a range has no version, so an item with a version says more in this attribute. The item may say less in
+another attribute, such as a plugin without its platform. Then neither name covers the other. With --ranges, the file of
+`advisories.sh`, such an item is compared by its version. The item is listed unless its version is surely outside the
+range. The option --letters is that of `decide.py`.
 """
 from __future__ import annotations
 

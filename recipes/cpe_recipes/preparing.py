@@ -1,9 +1,10 @@
-"""Reads pages for a store in several processes: each reads a file, or a member of an archive, while another is put.
+"""Reads pages for a store in several processes: each reads a file, or a member of an archive, while another is added.
 
     python3 run.py preparing
 
-Such a process takes parts from its standard input until that ends, and writes what each becomes. What is unpacked, what is put, and what is
-said, is all of the process that started them, in the order of the files. So neither the store nor what is said depends on how many there are.
+Such a process reads parts from its standard input until the input ends, and writes what becomes of each part. The
+process that started it unpacks the files, adds the pages to the store, and reports, all in the order of the files. So
+neither the store nor the reports depend on the number of processes.
 """
 from __future__ import annotations
 

@@ -2,20 +2,23 @@
 
     sh products.sh --machines FILE [--records FILE] [--matches FILE].. [--names FILE] [--partial] [--large] [FILE..] > page
 
-`cpe` takes 100,000 statements, and NVD's feeds (JSON of /rest/json/cves/2.0) have more advisories. This recipe writes those that could be
-other than FALSE on a machine, as one page of the same form, for `advisories.sh` or `scan.py`.
+`cpe` takes at most 100,000 statements, and NVD's feeds (JSON of /rest/json/cves/2.0) have more advisories. This recipe
+writes the advisories that could be other than FALSE on a machine, as one page of the same form, for `advisories.sh` or
+`scan.py`.
 
-The recipe reads the vulnerable matches of an advisory. It reads all matches if the advisory has a vulnerable operating system, firmware or
-hardware (concern.py). An advisory is kept if one of the read matches
+The recipe reads the vulnerable matches of an advisory. It reads all matches if the advisory has a vulnerable operating
+system, firmware or hardware (concern.py). An advisory is kept if one of the matches that are read
 
-- has the vendor and product of an item, or of a name to which the dictionary of --records leads, or may lead, the item; or
+- has the vendor and product of an item, or of a name to which the dictionary of --records leads, or may lead, the item;
+  or
 - has a vendor or product with a special, or is no name; or
 - has the product of an item whose vendor is a pattern, or the vendor of an item whose product is a pattern.
 
-An advisory is kept too if the match feed (--matches) lists an item of a machine for one of its matches. The item then counts under the
-match's name too. An advisory is also kept if `advisories.sh` has to report something, such as that the advisory isn't analysed. All other
-advisories name products that the machines don't have. They are FALSE on every machine, and a remark counts them. A feed with missing pages
-is refused; with --partial the missing pages are only reported. --large accepts pages that unpack to any size (unpack.py).
+An advisory is kept too if the match feed (--matches) lists an item of a machine for one of its matches. The item then
+also has the match's name. An advisory is also kept if `advisories.sh` has to report something, such as that the
+advisory isn't analysed. All other advisories name products that the machines don't have. They are FALSE on every
+machine, and a remark counts them. A feed with missing pages is refused; with --partial the missing pages are only
+reported. --large accepts pages that unpack to any size (unpack.py).
 """
 from __future__ import annotations
 

@@ -3,19 +3,21 @@
     python3 report.py [--title TEXT] [--before FILE] [--details FILE] [--suppress FILE] [--settled FILE] [--records FILE]
         [--ranges FILE] [--decided FILE] [--kev FILE] [--epss FILE] [FILE] > page.html
 
-The page is one file, which loads nothing. Its top has what was left out, and the number of verdicts of each kind. Then follow the
-advisories: known exploited advisories first, if the input names them, and then the highest score. Each advisory has the machines on which
-it isn't FALSE, and what the verdict depends on if this is known. The last part has the machines, each with the number of its verdicts. A
-filter selects rows by texts, machines and verdicts. The filter is part of the address, as in
-`page.html#q=openssl&machine=web-1&truth=UNKNOWN`. Without scripts only the filter is missing.
+The page is one file, which loads nothing. Its top has what was left out, and the number of verdicts of each kind. Then
+follow the advisories: known exploited advisories are first, if the input names them; the others follow by score, the
+highest first. Each advisory has the machines whose verdict isn't FALSE, and what each verdict depends on, if this is
+known. The last part has the machines, each with the number of its verdicts. A filter selects rows by texts, machines
+and verdicts. The filter is part of the address, as in `page.html#q=openssl&machine=web-1&truth=UNKNOWN`. If the browser
+runs no scripts, only the filter is missing.
 
 - --title: the title of the page.
-- --before: verdicts of an earlier day, in the same form. The page then has the changes since that day, as `changes.sh` writes them, with
-  the reason if a verdict is `none` now. This option needs a FILE.
-- the others are the options of `affected.sh`, for verdicts of a fleet or of `cpe evaluate`. The output of `scan.py` already has these data.
+- --before: verdicts of an earlier day, in the same form. The page then has the changes since that day, as `changes.sh`
+  writes them, with the reason if a verdict is `none` now. This option needs a FILE.
+- the other options are those of `affected.sh`, for verdicts of a fleet or of `cpe evaluate`. The output of `scan.py`
+  already has these data.
 
-If something was left out, or a machine has no items, the status is 1, and this is reported. If there is no result, the status is 2, and
-nothing is written, except what fits on a full disk.
+If something was left out, or a machine has no items, the status is 1, and this is reported. If there is no result, the
+status is 2, and nothing is written, except what fits on a full disk.
 """
 from __future__ import annotations
 

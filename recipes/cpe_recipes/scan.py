@@ -1,4 +1,4 @@
-"""Writes which advisories concern which machine, from feeds and software lists.
+"""Writes which advisories affect which machine, from feeds and software lists.
 
     python3 scan.py --store FOLDER [--fresh] | --dictionary FILE.. --advisories FILE.. [--matches FILE..]
         | --records FILE.. --advisories FILE.. [--matches FILE..]
@@ -8,54 +8,60 @@
 
 What is read:
 
-- --dictionary, --advisories, --matches: pages of NVD's API 2.0, or its feeds, plain, packed or in archives. Advisories may be CVE records
-  of format 5 too (cve5.py).
+- --dictionary, --advisories, --matches: pages of NVD's API 2.0, or its feeds, plain, packed or in archives. Advisories
+  may be CVE records of format 5 too (cve5.py).
 - --records, in place of --dictionary: the output of dictionary.sh.
-- --store, in place of all feeds: a folder in which store.py keeps them. The scan reads only what concerns the machines. With --fresh it
-  decides all verdicts again.
-- --lists: software lists, one for each machine: CycloneDX, SPDX, Syft's and Trivy's JSON, plain lists of names or package URLs, and the
-  output of package managers (lists/).
+- --store, in place of all feeds: a folder in which store.py keeps feeds. The scan reads only what concerns the
+  machines. With --fresh the scan decides all verdicts again.
+- --lists: software lists, one for each machine: CycloneDX, SPDX, Syft's and Trivy's JSON, plain lists of names or
+  package URLs, and the output of package managers (lists/).
 - --machines, in place of --lists: the output of inventory.sh --machines.
-- --partial: pages of a feed may be missing. Missing pages are reported, and each FALSE that may be another verdict for this reason is
-  marked.
+- --partial: pages of a feed may be missing. Missing pages are reported, and each FALSE that may be another verdict for
+  this reason is marked.
 - --large: a page may unpack to any size; unpack.py has the limits without this option.
 
 What you know in addition:
 
-- --names: tables with the names of packages (names_table.py), which count before names.txt.
-- --letters: the products whose letters in versions count upward, in place of letters.txt.
-- --platform NAME: the operating system of the machines whose lists name none; platforms.py says what is FALSE without it.
-- --hardware none: the machines have no hardware of their own, as in containers. Without this option a verdict is UNKNOWN if it depends on
-  hardware that a list doesn't name.
-- --suppress: accepted advisories, lines `ID MACHINE REASON`; * is every machine. They are written below the table.
+- --names: tables with CPE names of packages (names_table.py). These tables are used before names.txt.
+- --letters: the products in whose versions letters count upward, in place of letters.txt.
+- --platform NAME: the operating system of the machines whose lists name none; platforms.py says what is FALSE without
+  this option.
+- --hardware none: the machines have no hardware of their own, as in containers. Without this option a verdict is
+  UNKNOWN if it depends on hardware that a list doesn't name.
+- --suppress: accepted advisories, lines `ID MACHINE REASON`; * is every machine. Accepted advisories are written below
+  the table.
 - --settled: UNKNOWNs that a user settled, lines `MACHINE ID TRUE|FALSE REASON`; * is every machine (settled.py).
 - --kev, --epss: CISA's list of known exploited vulnerabilities, and EPSS (threats.py).
 
 What is written:
 
 - --all: also the verdicts that are FALSE, and below the table the advisories that aren't analysed.
-- --strict: a verdict is FALSE, but counted as `perhaps`, if it would be UNKNOWN only because an item says less than an advisory asks for.
-- --format: table, json, csv, sarif, cyclonedx-vex or openvex (formats/). --json is --format json, which report.py reads. --time is the time
-  that the result has.
+- --strict: a verdict is FALSE, but counted as `perhaps`, if it would be UNKNOWN only because an item says less than an
+  advisory asks for.
+- --format: table, json, csv, sarif, cyclonedx-vex or openvex (formats/). --json is --format json, which report.py
+  reads. --time is the time written in the result.
 - --why: the items that make a verdict TRUE (`decidedBy`), in all forms except the table (deciding.py).
-- --fail-on: the status is 3 if a verdict fits one of these gates (gates.py, gating.py). --since is the earlier result for the term `new` of
-  a gate.
+- --fail-on: the status is 3 if a verdict fits one of these gates (gates.py, gating.py). --since is the earlier result
+  for the term `new` of a gate.
 
-cases.py chooses which statements are evaluated for which machine. One run of cpe evaluates them. If there are more statements than cpe can
-take, cpe gets them in portions, with the same verdicts (portions.py). In this case, and always with a store, advisories that can't concern
-any of the machines are FALSE without being evaluated (concern.py). With --all they are evaluated too.
+cases.py chooses which statements are evaluated for which machine. One run of cpe evaluates them. If there are more
+statements than cpe can take, the scan passes them to cpe in portions; the verdicts are the same (portions.py). In this
+case, and always with a store, advisories that can't concern any of the machines are FALSE without being evaluated
+(concern.py). With --all these advisories are evaluated too.
 
-A statement holds for a machine if it holds by the written names of items and facts, or by the names to which the dictionary leads from
-these (calling.py). A negated test holds only if it holds by all these names (negations.py). Of several names of a component, one is enough
-for TRUE, and FALSE needs all.
+A statement holds for a machine if it holds by the written names of items and facts, or by the names to which the
+dictionary leads from these (calling.py). A negated test holds only if it holds by all these names (negations.py). If a
+component has several names, a verdict is TRUE if one of them makes it TRUE, and FALSE only if all make it FALSE.
 
-What a list doesn't say is UNKNOWN. A fact may match an item that is known in part, because the item's name has a pattern. A fact may also
-match an item that says less, such as a plugin without its platform. reasons.py writes the missing attributes beside a verdict that depends
-on an item that says less. These verdicts are counted separately, as `perhaps`; NIST IR 7696 says that they are FALSE. If no version that an
-item may have is in a range, the range is FALSE for the item (decide.py).
+What a list doesn't say is UNKNOWN. A fact may match an item that is known in part (its name has a pattern). A fact may
+also match an item that says less than the fact, such as a plugin without its platform. reasons.py writes the missing
+attributes beside a verdict that depends on an item that says less. These verdicts are counted separately, as `perhaps`;
+NIST IR 7696 says that they are FALSE. If no version that an item may have is in a range, the range is FALSE for the
+item (decide.py).
 
-The status is 0 if every verdict is written and nothing was left out. It is 1 if something was left out, which is reported. It is 2 if there
-is no result; then only the reason is written. It is 3 if a verdict fits a gate, even if something was left out.
+The status is 0 if every verdict is written and nothing was left out. It is 1 if something was left out, which is
+reported. It is 2 if there is no result; then only the reason is written. It is 3 if a verdict fits a gate, even if
+something was left out.
 """
 from __future__ import annotations
 

@@ -1,4 +1,4 @@
-"""Keeps feeds in a store: each page is read once, and a scan takes from the store what concerns its machines.
+"""Keeps feeds in a store: each page is read once, and a scan reads from the store what concerns its machines.
 
     python3 store.py add --store FOLDER [--large] [--jobs NUMBER] [PAGES..]
     python3 store.py status --store FOLDER
@@ -6,24 +6,26 @@
     python3 store.py changes --store FOLDER [--since TIME]
     python3 store.py forget --store FOLDER FILES..
 
-- add: adds pages of NVD's API 2.0 or its feeds (products, advisories, matches), and CVE records of format 5, plain, packed or in archives.
-  It makes the folder if needed. If there are several versions of a record, the version that was modified last counts. So pages of changes
-  replace older records, older pages change nothing, and a known page is ignored. Each page is added whole or not at all. If a run was
-  stopped or killed, or the disk was full, run add again with the same pages. Until then each scan reports these pages as left out. It also
-  reports what could not be read, until you add a good page. Without pages, add finishes the work of a stopped run. --jobs is the number of
-  further processes that read pages. Without it, one process reads and writes.
-- status: writes how much is in the store, and when something was last added. It lists missing pages, unfinished runs of add, and what could
-  not be read.
-- check: reads the whole store. It compares the derived tables with the records, and the records of each page with a checksum of the added
-  records.
-- changes: writes in the form of changes.sh, with the time of each scan, which verdicts differ from the scan before. It compares the
-  verdicts by feeds and lists alone, without --settled. --since leaves out earlier scans. Scans with --all aren't compared, because the
-  store doesn't keep their verdicts.
-- forget: ends the reports of these files. Use it for files that could not be read or added, and that you can't add again.
+- add: adds pages of NVD's API 2.0 or its feeds (products, advisories, matches), and CVE records of format 5, plain,
+  packed or in archives. The folder is made if needed. If there are several versions of a record, the version that was
+  modified last is used. So pages of changes replace older records, older pages change nothing, and a known page is
+  ignored. Each page is added whole or not at all. If a run was stopped or killed, or the disk was full, run add again
+  with the same pages. Until then each scan reports these pages as left out. Each scan also reports what could not be
+  read, until you add a good page. Without pages, add finishes the work of a stopped run. --jobs is the number of
+  further processes that read pages. Without --jobs, one process reads and writes.
+- status: writes how much is in the store, and when something was last added. It lists missing pages, unfinished runs of
+  add, and what could not be read.
+- check: reads the whole store. It compares the derived tables with the records, and the records of each page with a
+  checksum of the added records.
+- changes: writes in the form of changes.sh, with the time of each scan, which verdicts differ from the scan before. It
+  compares the verdicts by feeds and lists alone, without --settled. --since leaves out scans before this time. Scans
+  with --all aren't compared, because the store doesn't keep their verdicts.
+- forget: ends the reports about these files. Use forget for files that could not be read or added, and that you can't
+  add again.
 
-`scan.py --store FOLDER` scans from the store (kept.py, adding.py and stored.py say how). The status is 0 if add added all, or if the other
-command found nothing missing or wrong. It is 1 if something was left out, is missing or wrong, which is reported. It is 2 if there is no
-store, or the store can't be read or written.
+`scan.py --store FOLDER` scans from the store (kept.py, adding.py and stored.py say how). The status is 0 if add added
+all, or if another command found nothing missing or wrong. It is 1, with a report, if something was left out, is missing
+or is wrong. It is 2 if there is no store, or the store can't be read or written.
 """
 from __future__ import annotations
 

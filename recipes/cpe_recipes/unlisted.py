@@ -3,20 +3,21 @@
     sh unlisted.sh RECORDS MACHINES [--names FILE]
     sh unlisted.sh --store FOLDER | --dictionary FILE.. | --records FILE.. --machines FILE | --lists FILE.. [--names FILE] [--partial] [--large]
 
-RECORDS are those of a dictionary. MACHINES has a line for each machine: its name, and the names of its items. The options are those of
-scan.py. The recipe writes
+RECORDS are those of a dictionary. MACHINES has a line for each machine: its name, and the names of its items. The
+options are those of scan.py. The recipe writes
 
     not in the dictionary MACHINE NAME [now called VENDOR:PRODUCT..]
     under a removed name MACHINE NAME
     perhaps MACHINE PACKAGE names.txt: LINE [| LINE..]
     no candidate MACHINE PACKAGE
 
-If only the dictionary names a package, put LINE into a table for --names to decide which product it is (naming.py).
+If a package only has candidates from the dictionary, put LINE into a table for --names to decide which product the
+package is (naming.py).
 
-An item without an entry has no chain. So an advisory that uses another name of the product doesn't find the item. If entries of its product
-are deprecated and lead to other products, these products are written after `now called`. A component with several names isn't listed if one
-of the names has an entry. An item under a removed name has no end, so an advisory finds it only by this name. What can't be an item is
-reported, and the status is 1.
+An item without an entry has no chain. So an advisory that uses another name of the product doesn't find the item. If
+entries of its product are deprecated and lead to other products, these products are written after `now called`. A
+component with several names isn't listed if one of the names has an entry. An item under a removed name has no end, so
+an advisory finds it only by this name. What can't be an item is reported, and the status is 1.
 """
 from __future__ import annotations
 

@@ -5,10 +5,10 @@
         TRUE, since item cpe:2.3:a:mysql:mysql:5.1:.. leads to cpe:2.3:a:oracle:mysql:5.1:.. (NAME_CORRECTION), which the fact .. covers
         ..
 
---records names the records that were explained. They have what a certificate doesn't have: the operator of a test, the fact that covers no
-item, the check, and the kinds of deprecations. Lines that are no certificates, such as the answers before them, are ignored. This recipe
-doesn't test certificates; `cpe check` does that. The status is 1 if a line with the word `proof` isn't a certificate, and 2 if there is no
-certificate at all.
+--records names the records that were explained. The records have what a certificate doesn't have: the operator of a
+test, the fact that covers no item, the check, and the kinds of deprecations. Lines that are no certificates, such as
+the answers before them, are ignored. This recipe doesn't test certificates; `cpe check` does that. The status is 1 if a
+line with the word `proof` isn't a certificate, and 2 if there is no certificate at all.
 """
 from __future__ import annotations
 

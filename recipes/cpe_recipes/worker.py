@@ -1,6 +1,8 @@
-"""A worker of a fleet over GNU parallel: PROGRAM RECORDS PLAN PIECE. It takes the machines of a piece one after the other.
+"""A worker of a fleet over GNU parallel: PROGRAM RECORDS PLAN PIECE. It decides the machines of a piece one after the
+other.
 
-The plan and the piece are files that `parallel.py` wrote. The worker writes PIECE.said, with what is left out, and PIECE.out.
+The plan and the piece are files that `parallel.py` wrote. The worker writes PIECE.said, with what is left out, and
+PIECE.out.
 """
 from __future__ import annotations
 
