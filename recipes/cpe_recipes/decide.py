@@ -4,7 +4,7 @@ writes for a range.
 A range is decided for a machine if the range's name covers an item of the machine, or a name to which the dictionary
 leads the item.
 
-1. The range is TRUE if the match feed's own list for the match of this range has one of these names.
+1. The range is TRUE if the match feed lists one of these names for this range.
 2. Else the range is TRUE if one of these names has a version that is in the range by all orders that this version may
    have. The range is FALSE if the versions of all these names are outside the range by all their orders.
 3. Else the orders differ. Then the check has no result and stays UNKNOWN, which is reported (versions.py).
