@@ -47,7 +47,7 @@ program:
 # rt has no command that builds a program without running it. Over an empty input this one writes
 # nothing and ends with status 0, so the status is that of the proof and the build.
 build: need_rt
-	@[ -x build/cpe ] || echo 'The first build checks the proofs of all crates below the program: some 170 processor minutes, so an' \
+	@[ -x build/cpe ] || echo 'The first build checks the proofs of all crates below the program: some 150 processor minutes, so an' \
 		'hour on four processors. rt tells each crate when it comes to it, and each function that is proved.'
 	cd crates/cpe && rt run -- unbind < /dev/null
 	@$(take_program)
