@@ -24,12 +24,13 @@ COMMAND = run.ADVISE
 (TWIN,) = run.TWINS[COMMAND]
 # What a session has, one after the other; the words of its lines, and what a line of it is called.
 PARTS = {"item": "an item", "advisory": "an advisory", "affected": "affected", "advisories": "advisories"}
-# Of ten ranges so many have both bounds, and so many the end alone.
+# The share of ranges with both bounds, and with only an upper bound, of ten.
 BOUNDS = ("both", "both", "both", "both", "both", "both", "end", "end", "end", "start")
 
 
 def products(count):
-    """So many names up to their version: part, vendor and product of the sample, and a number after the product."""
+    """This many names with part, vendor and product of the sample, and a number after the product; they end before the
+    version."""
     names = [make_lines.components_of(it)[:3] for it in make_lines.sample()]
     for number, (part, vendor, product) in zip(range(count), itertools.cycle(names), strict=False):
         yield make_lines.PREFIX + b":".join((part, vendor, product + b"_%d" % number)) + b":"
@@ -78,7 +79,7 @@ MADE = {"item": items_of, "advisory": advisories_of, "affected": affected_of, "a
 
 
 class Size:
-    """So many items and advisories, and the inputs: one for each part, which has the parts before it too."""
+    """A number of items and advisories, and their inputs: one for each part, which also has the parts before it."""
 
     def __init__(self, items, advisories):
         self.items, self.advisories = items, advisories
@@ -103,7 +104,8 @@ def write(path, lines):
 
 
 def best_times(programs, paths, rounds):
-    """The best time of each program for each input; all take turns, since differences of these times are told."""
+    """The best time of each program for each input. The programs take turns, because differences of these times are
+    reported."""
     turns = [[run.best_times(programs, it, 1) for it in paths] for _ in range(rounds)]
     return {name: [min(turn[at][name] for turn in turns) for at in range(len(paths))] for name in programs}
 

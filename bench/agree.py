@@ -3,8 +3,8 @@
 
     python3 bench/agree.py [PROGRAM]
 
-A twin that writes something else is no measure of the program. Ends with status 1 if one does, and with 2 if there is no rustc to
-build the twins with.
+A twin that writes something else is no measure of the program. Ends with status 1 if one does, and with 2 if there is
+no rustc to build the twins with.
 """
 import argparse
 import os

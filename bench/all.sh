@@ -1,8 +1,9 @@
 #!/bin/sh
-# All measurements of make bench, one after the other: sh bench/all.sh PROGRAM [RESULTS]. What they print is shown, and written to the
-# file RESULTS (build/bench/results.txt if left out), after the date, the machine, its load and the checksum of the program.
-# Ends with status 1 if a measurement failed, and names it; the others are run all the same. The file is there at the end only, so it
-# never has a part of a run. A target that is missed is no failure: the scripts print it.
+# All measurements of make bench, one after the other: sh bench/all.sh PROGRAM [RESULTS]. What they print is shown, and
+# written to the file RESULTS (build/bench/results.txt if left out), after the date, the machine, its load and the
+# checksum of the program. Ends with status 1 if a measurement failed, and names it; the others are run all the same.
+# The file is there at the end only, so it never has a part of a run. A target that is missed is no failure: the scripts
+# print it.
 set -u
 [ $# = 1 ] || [ $# = 2 ] || { echo 'usage: sh bench/all.sh PROGRAM [RESULTS]' >&2; exit 2; }
 from=$PWD

@@ -1,6 +1,6 @@
 #!/usr/bin/env python3
-"""Measures `cpe convert` beside `cpe resolve`, which reads the same records and keeps them, and beside `jq -c -S .`, which reads them as
-JSON and writes them with sorted keys.
+"""Measures `cpe convert` beside `cpe resolve`, which reads the same records and keeps them, and beside `jq -c -S .`,
+which reads them as JSON and writes them with sorted keys.
 
 Prints a table, and says of each target whether it is met. README.md beside this file says how to read it.
 """
@@ -20,7 +20,8 @@ COMMAND, RESOLVE, JQ = "cpe convert", "cpe resolve", "jq -c -S ."
 
 
 def check_order(program, paths):
-    """Ends this run where jq would write what is written in another way: its keys are sorted, and nothing is left to write shorter."""
+    """Ends this run where jq would write what is written in another way: its keys are sorted, and nothing is left to
+    write shorter."""
     if not shutil.which("jq"):
         return
     sorted_again = f"{shlex.quote(str(program))} convert | {{ grep -v '^refused ' || :; }} | {JQ}"

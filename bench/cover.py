@@ -1,6 +1,6 @@
 #!/usr/bin/env python3
-"""Measures `cpe cover` against an unproved Rust program that writes the same, on the same lists: what a name takes, by the number of
-names; and by the shares of a list for which it is slow.
+"""Measures `cpe cover` against an unproved Rust program that writes the same, on the same lists: what a name takes, by
+the number of names; and by the shares of a list for which it is slow.
 
 Prints a table, and says of each target whether it is met. README.md beside this file says how to read it.
 """
@@ -18,7 +18,7 @@ import run
 MOST_MICROSECONDS, MOST_RATIO = 10, 1.5
 # The most names that are kept.
 MOST_NAMES = 1_000_000
-# Of so many names one has a special, and one is a product in any version.
+# The share of names with a special, and of products in any version.
 ONE_PATTERN, ONE_PRODUCT = 50, 20
 # How many names are of one product.
 VERSIONS = 5
@@ -26,8 +26,8 @@ COMMAND = run.COVER
 
 
 def listed(count):
-    """Names as such lists have them: five of each product, which is one of the sample with a number after it; some products in any
-    version, and some patterns."""
+    """Names as such lists have them: five of each product, which is one of the sample with a number after it; some
+    products in any version, and some patterns."""
     names = [make_lines.components_of(it) for it in make_lines.sample()]
     for number in range(count):
         place, product = divmod(number, count // VERSIONS)
@@ -74,7 +74,7 @@ def made(name, lines):
 
 
 def measure(programs, lists, rounds):
-    """The seconds of a name of each list; they are told on the way."""
+    """Measures the seconds per name of each list, and prints them at once."""
     print(f"\n{COMMAND}, best of {rounds}")
     print(f"{'program':<14}{'list':<34}{'names':>11}{'seconds':>10}{'us a name':>11}{'peak KiB':>12}")
     found = {}

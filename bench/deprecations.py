@@ -1,9 +1,9 @@
 #!/usr/bin/env python3
-"""Measures what an edit of a deprecation takes of `cpe resolve` where many entries hang together, by how many they are: in
-layers, in chains, and where many have one successor.
+"""Measures what an edit of a deprecation takes of `cpe resolve` where many entries hang together, by how many they are:
+in layers, in chains, and where many have one successor.
 
-All times are of the processor. Prints a table, and says of each shape whether its growth is within the target. README.md beside this
-file says how to read it.
+All times are of the processor. Prints a table, and says of each shape whether its growth is within the target.
+README.md beside this file says how to read it.
 """
 import argparse
 import os
@@ -98,7 +98,7 @@ SHAPES = {
 
 
 def inputs(shape, count):
-    """The lines of what stands before the edits that are timed, those of the edits, and how many these are."""
+    """The lines before the timed edits, the lines of these edits, and how many edits there are."""
     before, edits = SHAPES[shape](count)
     return near.text(entries(count) + before), near.text(edits), len(edits)
 
@@ -111,7 +111,8 @@ def seconds(program, before, edits):
 
 
 def measure(program, shape, rounds):
-    """The microseconds of an edit among the most entries beside one among the fewest; short runs are made more often."""
+    """The microseconds of an edit among the most entries beside one among the fewest; short runs are made more
+    often."""
     each = []
     for count in SIZES:
         before, edits, edited = inputs(shape, count)

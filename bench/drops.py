@@ -1,8 +1,10 @@
 #!/usr/bin/env python3
-"""Measures what drops from the front take of `cpe resolve` by how many rows there are: items, statements, results of checks.
+"""Measures what drops from the front take of `cpe resolve` by how many rows there are: items, statements, results of
+checks.
 
-Half of the rows are dropped, the first one first. All times are of the processor. Prints a table, and says of each kind whether its
-growth is within the target: what a line costs is to be about the same for few and for many. README.md beside this file says how to read it.
+Half of the rows are dropped, the first one first. All times are of the processor. Prints a table, and says of each kind
+whether its growth is within the target: what a line costs is to be about the same for few and for many. README.md
+beside this file says how to read it.
 
 usage: drops.py PROGRAM
 """
@@ -45,7 +47,7 @@ def lines_of(records):
 
 
 def drops(program, kind, count):
-    """The processor time for half of so many rows to be dropped, in seconds."""
+    """The processor time to remove half of this many rows, in seconds."""
     row = KINDS[kind]
     put = lines_of(row(number, kind) for number in range(count))
     dropped = lines_of(row(number, f"drop-{kind}") for number in range(count // 2))

@@ -1,6 +1,6 @@
 #!/usr/bin/env python3
-"""Measures `cpe explain` beside `cpe evaluate`, which keeps the same rows and writes a table, and `cpe check` beside `cpe explain`; and how
-what they do at the end, and for each certificate, grows with items that are near no fact.
+"""Measures `cpe explain` beside `cpe evaluate`, which keeps the same rows and writes a table, and `cpe check` beside
+`cpe explain`; and how what they do at the end, and for each certificate, grows with items that are near no fact.
 
 Prints a table, and says of each target whether it is met. README.md beside this file says how to read it.
 """
@@ -18,7 +18,8 @@ import run
 MOST_OF_EVALUATE, MOST_OF_MAKING, MOST_GROWTH = 3.0, 3.0, 1.3
 STATEMENTS = 1000
 FEW, MANY = 10_000, 100_000
-# Many statements share the near names: a thousand certificates take less than what reading 100,000 items differs by from run to run.
+# Many statements share the near names: a thousand certificates take less than what reading 100,000 items differs by
+# from run to run.
 NEAR_STATEMENTS = 20_000
 NEAR = 5
 PROOF = b'{"do":"proof",'
@@ -41,7 +42,7 @@ def far_items(far):
 
 
 def near_lines(far):
-    """Statements in mode plain, the items near them, and before these so many that are near no fact."""
+    """Statements in mode plain and the items near them; before these, statements that are near no fact."""
     yield from far_items(far)
     for number in range(STATEMENTS):
         for version in range(NEAR):
@@ -78,7 +79,8 @@ def with_proofs(program, path):
 
 
 def measured(program, path, statements, rounds):
-    """What evaluate, making and checking take in seconds: the first as a whole, the others beside reading the records."""
+    """What evaluate, making and checking take in seconds: the first as a whole, the others beside reading the
+    records."""
     best = run.best_times({word: [program, word] for word in ("resolve", "evaluate", "explain")}, path, rounds)
     check = run.best_times({"check": [program, "check"]}, with_proofs(program, path), rounds)["check"]
     found = best["evaluate"], best["explain"], best["explain"] - best["resolve"], check - best["resolve"]

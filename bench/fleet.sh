@@ -1,9 +1,9 @@
 #!/bin/sh
-# What more workers bring, of the recipes for a fleet: sh bench/fleet.sh [PROGRAM [MACHINES [ROUNDS]]]. Each is run with 1, 2
-# and 4 workers, over 1,000,000 pairs of names, and over a dictionary of 128,650 entries, 1,000 statements and so many machines (1,000 if
-# left out) of 30 items each; the best of ROUNDS runs counts (3 if left out). Before that a prefix of the verdicts is compared with
-# what `cpe evaluate` says of each machine, and every output with that of one worker.
-# It needs Python 3, and leaves out what isn't here: GNU parallel, or Python's module distributed.
+# Measures the recipes for a fleet with more workers: sh bench/fleet.sh [PROGRAM [MACHINES [ROUNDS]]]. Each is run with
+# 1, 2 and 4 workers, over 1,000,000 pairs of names, and over a dictionary of 128,650 entries, 1,000 statements and
+# MACHINES machines (1,000 if left out) of 30 items each. The best of ROUNDS runs counts (3 if left out). Before that a
+# prefix of the verdicts is compared with `cpe evaluate` on each machine, and every output with that of one worker. It
+# needs Python 3. Recipes that need GNU parallel, or Python's module distributed, are left out if that isn't installed.
 set -eu
 program=${1:-build/cpe} machines=${2:-1000} rounds=${3:-3}
 case $program in /*) ;; *) program=$PWD/$program ;; esac

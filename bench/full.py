@@ -3,11 +3,12 @@
 
     python3 bench/full.py PROGRAM [--share S] [--machines N] [--items N] [--of N] [--whole] [--fresh]
 
-It makes a share of 1,436,460 products and 300,000 advisories (a tenth if left out), in the form of NVD's API 2.0, the same at every run,
-below build/bench/full: few products have many names and advisories, and most have few; a tenth of the names is deprecated, and three in
-ten advisories aren't analysed. Machines have items of a number of products, each machine other ones. A day later 1,000 advisories changed,
-and three machines. Of each run it prints the processor time of Python and of cpe together, by phases, and the most memory that one
-process held; --whole adds a scan without a store, and --fresh one a day later that decides all. Python 3 (standard library alone) and Linux.
+It makes a share of 1,436,460 products and 300,000 advisories (a tenth if left out), in the form of NVD's API 2.0, the
+same at every run, below build/bench/full: few products have many names and advisories, and most have few; a tenth of
+the names is deprecated, and three in ten advisories aren't analysed. Machines have items of a number of products, each
+machine other ones. A day later 1,000 advisories changed, and three machines. Of each run it prints the processor time
+of Python and of cpe together, by phases, and the most memory that one process held; --whole adds a scan without a
+store, and --fresh one a day later that decides all. Python 3 (standard library alone) and Linux.
 """
 import argparse
 import bisect
@@ -153,7 +154,7 @@ RUNNER = """
 import importlib, json, resource, sys
 sys.dont_write_bytecode = True
 sys.path.insert(0, sys.argv[1])
-from cpe_recipes import progress, said
+from cpe_recipes import console, progress
 steps, taken = ["beginning"], []
 def times():
     own, runs = (resource.getrusage(of) for of in (resource.RUSAGE_SELF, resource.RUSAGE_CHILDREN))
@@ -163,7 +164,7 @@ def step(self, text):
     steps.append(text.split(",")[0])
 progress.Progress.step = step
 try:
-    said.main(importlib.import_module(f"cpe_recipes.{sys.argv[3]}").run, sys.argv[3], sys.argv[4:])
+    console.main(importlib.import_module(f"cpe_recipes.{sys.argv[3]}").run, sys.argv[3], sys.argv[4:])
 finally:
     taken.append(times())
     json.dump([steps, taken], open(sys.argv[2], "w"))

@@ -1,9 +1,9 @@
 #!/usr/bin/env python3
-"""Measures calls of the library for C from Go beside go-cpe, a package of Go alone, in one process: names that are unbound, and pairs of
-which the first covers the second or not.
+"""Measures calls of the library for C from Go beside go-cpe, a package of Go alone, in one process: names that are
+unbound, and pairs of which the first covers the second or not.
 
-It needs `go`, `cc`, the library (make library), and go-cpe as Debian's golang-github-knqyf263-go-cpe-dev puts it; where one isn't there
-it says so, and measures nothing. Prints a table. README.md beside this file says how to read it.
+It needs `go`, `cc`, the library (make library), and go-cpe from Debian's golang-github-knqyf263-go-cpe-dev. If one is
+missing, it reports that, and measures nothing. Prints a table, which README.md beside this file explains.
 """
 import argparse
 import os
@@ -57,7 +57,7 @@ def built(library):
 
 
 def measured(program, what, path, rounds):
-    """Nanoseconds a line on both sides, the best of so many rounds, the lines, and on how many of them the two differ."""
+    """Nanoseconds a line on both sides, the best of these rounds, the lines, and on how many of them the two differ."""
     runs = []
     for _ in range(rounds):
         out = subprocess.run([program, what, path], capture_output=True, text=True, check=True)

@@ -1,8 +1,8 @@
 #!/usr/bin/env python3
-"""Measures what the index of names by product does for `cpe resolve`: what entries take where there are very many or all
-are of different products, and what a search takes that finds few of them, beside one that goes over all.
+"""Measures the index of names by product in `cpe resolve`: the cost of entries if there are very many, or if each has
+another product; and of searches that find few of them, compared with a search over all.
 
-Prints a table for each, and says of each target whether it is met. README.md beside this file says how to read it.
+Prints a table for each, and whether each target is met. README.md beside this file explains the tables.
 """
 import argparse
 import itertools
@@ -37,13 +37,14 @@ def named(product, version=b"*"):
 FRONTS = [named(b"qmail%02d" % number, b"1.0") for number in range(BESIDE)]
 BACKS = [named(b"%02dqmail" % number, b"1.0") for number in range(BESIDE)]
 VERSIONS = [named(b"mailqueue", b"%d" % number) for number in range(BESIDE)]
-# The forms of search: a product by which one of these entries is found, by its number, and one by which all of these are.
+# The forms of search: a product by which one of these entries is found, by its number, and one by which all of these
+# are.
 FORMS = {
     "product": ((b"qmail%02d", FRONTS), (b"mailqueue", VERSIONS)),
     "front": ((b"qmail%02d*", FRONTS), (b"qmail*", FRONTS)),
     "back": ((b"*%02dqmail", BACKS), (b"*qmail", BACKS)),
 }
-# A question whose answer is like no other, after those that are timed: whatever they are answered, it tells the end.
+# A question with a unique answer, after the timed lines: its answer shows that they are done.
 LAST = make_lines.record(b"lookup", named(b"qmail", b"last")) + b"\n"
 LAST_ANSWER = b"lookup " + named(b"qmail", b"last") + b" absent\n"
 
@@ -54,7 +55,8 @@ def beside():
 
 
 def searches(form, all_each, times):
-    """So many times a search of this form for each of the entries, which finds it alone or all, and what they write."""
+    """This many searches of this form for each of the entries, each of which finds that entry alone or all, and their
+    output."""
     product, names = FORMS[form][all_each]
     records, answers = [], []
     for number in range(BESIDE):
@@ -69,7 +71,7 @@ class Session:
     """The program with its entries, kept waiting for questions."""
 
     def __init__(self, words, path, count):
-        """So many entries: those beside the others, and before them the first of the input."""
+        """This many entries: those beside the others, and before them the first of the input."""
         self.path, self.count, self.times = path, count, {}
         self.child = subprocess.Popen(words, stdin=subprocess.PIPE, stdout=subprocess.PIPE, bufsize=run.PIECE)
         with open(path, "rb") as source:
@@ -140,7 +142,8 @@ def measure_first(sessions):
 
 
 def time_searches(sessions, rounds, times):
-    """Keeps for each session the seconds of a search by its form and by whether it finds all; the sessions take turns."""
+    """Keeps for each session the seconds of a search by its form and by whether it finds all; the sessions take
+    turns."""
     for form, all_each in itertools.product(FORMS, (False, True)):
         often = max(1, times // 50) if all_each else times
         records, answers = searches(form, all_each, often)
@@ -182,7 +185,7 @@ def scanned(session, form, times):
 
 
 def measure_scan(words, session, rounds, times):
-    """What a search takes that goes over all entries, beside ours."""
+    """The time of a search over all entries, beside ours."""
     twin = run.built_twins([TWIN])
     if not twin:
         return
@@ -217,7 +220,7 @@ def targets(load, held, few, many):
 
 
 def bytes_an_entry(words, session):
-    """What an entry takes of memory, or None where the system doesn't tell."""
+    """The memory of an entry, or None if the system doesn't report it."""
     before = run.peak(words, pathlib.Path(os.devnull))
     return None if None in (before, session.most_held) else (session.most_held - before) * 1024 / session.count
 

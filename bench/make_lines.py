@@ -5,11 +5,11 @@ usage: make_lines.py MODE LINES FILE
 
 valid        formatted strings, drawn from the sample
 refused      formatted strings that are spoilt: one third each is cut off late, is cut off
-             early, and has inside it a character that can't stand there unquoted
+             early, and has inside it a character that isn't allowed there unquoted
 long         formatted strings of 65,536 bytes, nearly all of them in the product
 uri          the URIs of the names of the lines of `valid`
-uri-refused  URIs that are spoilt: one third each has late in it a byte that can't stand there
-             bare, is cut off where no URI ends, and has inside it a fault of a percent form
+uri-refused  URIs that are spoilt: one third each has late in it a byte that isn't allowed
+             there unencoded, is cut off where no URI ends, and has inside it a fault of a percent form
 uri-long     URIs of 65,536 bytes, nearly all of them in the product
 wfn          the texts of the well-formed names of the lines of `valid`, all eleven
              attributes in their order
@@ -22,8 +22,8 @@ pair         pairs of formatted strings and URIs: one third each is two names of
 pair-refused pairs that are spoilt: one third each has not exactly one space, a source that is
              refused, and a target that is
 pair-long    pairs whose lines have nearly 65,536 bytes: a product, and a part of it between asterisks
-pair-equal   the same of bytes that are all equal but the last of the part, which doesn't stand
-             in the product: the worst for a search that tries each place
+pair-equal   the same of bytes that are all equal but the last of the part, which isn't in
+             the product: the worst for a search that tries each place
 entry        records of `resolve` that add an entry each: names of the sample and, after them, the
              same names in other versions, no two alike; a third of them with a provenance
 new-product  such records, the product of each another one, of letters and digits
@@ -48,7 +48,7 @@ watched      records of `watch`: statements in mode plain, of three facts each, 
              items, as many results of checks, of the first hundred of which one in four statements asks, and half
              of the items dropped
 edges        lines about the greatest length, long ones and odd line ends, and names whose
-             attributes stand in other ways (LINES is not read); only for the comparison
+             attributes have another order (LINES is not read); only for the comparison
              of outputs
 uri-edges    URIs in odd spellings, good and bad (LINES is not read); as `edges`
 pair-edges   pairs of names with short texts, good and bad (LINES is not read); as `edges`
@@ -63,19 +63,19 @@ SAMPLE = pathlib.Path(__file__).resolve().parent / "official-names.txt"
 SEED = 2303
 LONGEST = 65536
 PREFIX = b"cpe:2.3:"
-# None of these stands in a formatted string without a backslash, or at all.
+# A formatted string has these only after a backslash, or not at all.
 SPOILERS = (b"!", b"/", b"(", b"\\.", b" ", b"\x7f", b"\xc3\xa9")
 URI_PREFIX = b"cpe:/"
-# None of these stands bare in a URI.
+# A URI doesn't have these unencoded.
 URI_SPOILERS = (b"!", b"/", b"*", b"\\", b" ", b"\x7f", b"\xc3\xa9")
 # No character and no special has one of these percent forms.
 FORM_FAULTS = (b"%41", b"%5f", b"%30", b"%00", b"%7f", b"%80", b"%2g", b"%g1", b"%%21")
 LETTERS = b"abcdefghijklmnopqrstuvwxyz0123456789"
 ATTRIBUTES = b"part vendor product version update edition language sw_edition target_sw target_hw other".split()
-# None of these stands between the quotes of a value, after a whole character.
+# A quoted value doesn't have these after a whole character.
 QUOTE_FAULTS = (b".", b"-", b"!", b'"', b"\\a", b"\\_", b" ", b"\x7f", b"\xc3\xa9")
 BAD_PARTS = (b'"x"', b'"A"', b'"ah"', b'"*"', b'""', b"a")
-# How many lines stand after the entries of `asked` (twice), `searched` and `asked-often`.
+# How many lines follow the entries of `asked` (twice), `searched` and `asked-often`.
 ASKED, SEARCHED, ASKED_OFTEN = 1000, 100, 60_000
 # The most steps of a chain of deprecations, successors beside the next, and ends in all.
 STEPS, SUCCESSORS, ENDS = 50, 15, 60
@@ -116,7 +116,7 @@ def cut_early(draw, name):
 
 
 def spoilt_inside(draw, name):
-    """The name with a spoiler after its prefix, where no backslash stands before it."""
+    """The name with a spoiler after its prefix, in a place without a backslash before it."""
     while True:
         at = draw.between(len(PREFIX), len(name))
         if name[at - 1 : at] != b"\\":
@@ -251,7 +251,7 @@ def cut_off(draw, attributes):
 
 
 def misquoted(draw, attributes):
-    """The text with a fault of quoting in a value, where no backslash stands before it."""
+    """The text with a fault of quoting in a value, in a place without a backslash before it."""
     spoilt = draw.one_of([n for n, it in enumerate(attributes) if it.endswith(b'"')])
     before, value = attributes[spoilt].split(b'"', 1)
     while True:
@@ -347,7 +347,7 @@ def equal_pair_lines(count):
 
 
 def spelled(text):
-    """The JSON of a text in which no control character stands."""
+    """The JSON of a text without control characters."""
     return b'"' + re.sub(rb'["\\]', rb"\\\g<0>", text) + b'"'
 
 
@@ -362,7 +362,7 @@ def in_another_version(draw, name):
 
 
 def entry_names(draw, count):
-    """So many names, no two alike."""
+    """This many different names."""
     seen, names = {}, sorted(sample(), key=lambda _: draw.random())
     for name in itertools.islice(itertools.cycle(names), count):
         while name in seen:
@@ -435,7 +435,7 @@ def often_asked_lines(count):
 
 
 def deprecated_of(count):
-    """How many deprecations stand after so many entries."""
+    """How many deprecations follow this many entries."""
     return max(1, count * 20_000 // 128_650)
 
 
@@ -468,7 +468,8 @@ class Deprecations:
         return self.kept[start : start + min(many, most)]
 
     def chain(self):
-        """The edits of one chain, as likely of 1 or 2 steps as of 25 to 50. It grows at its end, one in four at its start."""
+        """The edits of one chain, as likely of 1 or 2 steps as of 25 to 50. It grows at its end, one in four at its
+        start."""
         steps = min(int((STEPS + 1) ** self.draw.random()), len(self.fresh) - 1)
         names = [self.fresh.pop() for _ in range(steps + 1)]
         room, edits = ENDS, []
@@ -530,7 +531,7 @@ def statement(draw, number, names, mode):
 
 
 def advisory_lines(names, count, mode):
-    """So many statements over twice as many items."""
+    """This many statements over twice as many items."""
     draw = Draw()
     for name in sorted(names, key=lambda _: draw.random())[: 2 * count]:
         yield record(b"item", name)
@@ -622,7 +623,7 @@ def searched_lines(count):
 
 
 def wfn_edges():
-    """Texts about the greatest length, and such whose attributes stand in other ways than in `wfn`."""
+    """Texts about the greatest length, and texts whose attributes have another order than in `wfn`."""
     room = LONGEST - len(b'wfn:[product=""]')
     attributes = attributes_of(sample()[0])
     given = [it for it in attributes if not it.endswith(b"=ANY")]
@@ -677,8 +678,8 @@ def pair_edges():
 
 
 def uri_edges():
-    """URIs about the greatest length, each byte and each percent form after texts in each state,
-    and short ones made of such pieces as decide where a URI goes wrong."""
+    """URIs about the greatest length, each byte and each percent form after texts in each state, and short URIs made of
+    pieces at which a URI can fail."""
     room = LONGEST - len(uri_named(b""))
     lines = [uri_named(b"x" * (room + more)) for more in (-1, 0, 1, 2, LONGEST)]
     lines += [uri_named(it * (room // 3)) for it in (b"%2e", b"%01", b"%02")]

@@ -1,10 +1,11 @@
 #!/usr/bin/env python3
-"""What the program takes of memory: python3 bench/memory.py [PROGRAM]. PROGRAM is build/cpe if left out.
+"""Measures the memory of the program: python3 bench/memory.py [PROGRAM]. PROGRAM is build/cpe if left out.
 
-First names that come and go: what is kept is nothing, and the memory is to stay the same however many there were. Then rows of each
-kind of which no count is limited but by the weight, or that are dear for their weight: MiB, bytes for each unit of the weight, and
-what the full weight of 536,870,912 would take of them, or their greatest number where that comes first. The status is 1 where names
-that are gone are kept, or where the full weight of a kind would take more than `--most` GiB (left out: nothing is asked).
+First names are added and removed: nothing is kept, so the memory has to stay the same however many there were. Then
+rows of each kind that only the weight limits, or that need much memory for their weight. It prints MiB, bytes for each
+unit of the weight, and the memory of such rows at the full weight of 536,870,912, or at their greatest number if that
+is reached first. The status is 1 if removed names are kept, or if a kind would take more than `--most` GiB (without it,
+there is no limit).
 """
 import argparse
 import json

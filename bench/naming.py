@@ -1,9 +1,9 @@
 """How many packages get the right name first: python3 bench/naming.py [--all]
 
-Over 976 packages of Debian, PyPI and npm whose product of NVD is known by hand (tests/recipes/naming/), and a dictionary that has
-these products beside more that aren't theirs. What names the packages is the recipes' own code. It prints the count of all, by kind, of
-those that names.txt has and those that it doesn't have, and what the dictionary alone brings. With --all it prints the packages that
-aren't right, with what came first.
+It uses 976 packages of Debian, PyPI and npm whose product of NVD is known by hand (tests/recipes/naming/), and a
+dictionary with these products and others. The recipes' own code names the packages. It prints how many are right: in
+all, by kind, of those that names.txt has and hasn't, and by the dictionary alone. With --all it prints the packages
+that are wrong, with the first name of each.
 """
 import sys
 from pathlib import Path

@@ -1,9 +1,9 @@
 #!/usr/bin/env python3
-"""Measures what edits and verdicts take of `cpe watch`, `cpe evaluate` and `cpe drill`, by how much else there is, and two long
-sessions whose whole output is known.
+"""Measures what edits and verdicts take of `cpe watch`, `cpe evaluate` and `cpe drill`, by how much else there is, and
+two long sessions whose whole output is known.
 
-Prints a table, and says of each target whether it is met. All times are of the processor, user and system, so that what else runs on
-the machine adds little. README.md beside this file says how to read it.
+Prints a table, and says of each target whether it is met. All times are of the processor, user and system, so that what
+else runs on the machine adds little. README.md beside this file says how to read it.
 """
 import argparse
 import os
@@ -24,16 +24,17 @@ FEW, MANY = 8_000, 80_000
 DRILLED = (8_000, 80_000, 800_000)
 # Items and statements beside those that are near the edits.
 SMALL, LARGE = (10_000, 1_000), (1_000_000, 100_000)
-# Products with items of so many versions each, of which one in so many is known in part; and items whose product is a pattern.
+# How many products have items known in part, how many versions each has, and one in how many is known in part; and how
+# many items have a pattern as their product.
 PARTLY, VERSIONS, ONE_IN, PATTERNS = 1_000, 20, 10, 1_000
-# The names that are near: products, the facts of each, and how often an item of each comes and goes.
+# The names near facts: products, the facts of each, and how often an item of each is added and removed.
 PRODUCTS, FACTS, TIMES = 100, 5, 500
 EDITS = 50_000
 VERDICTS = 4_000
 STATEMENTS = 1_000
 # Statements that are loaded, before or after twice as many items.
 LOADED = 10_000
-# A question whose answer is like no other, after the lines that are timed: it tells their end.
+# A question with a unique answer, after the timed lines: its answer shows their end.
 LAST = make_lines.record(b"lookup", b"cpe:/a:near:last") + b"\n"
 LAST_ANSWER = b"lookup cpe:2.3:a:near:last" + b":*" * 8 + b" absent\n"
 
@@ -139,7 +140,7 @@ class Session:
 
 
 def best(rounds, once):
-    """The least of each figure that a run answers, over so many runs."""
+    """The least of each figure of a run, over this many runs."""
     return [min(it) for it in zip(*(once() for _ in range(rounds)), strict=True)]
 
 
@@ -189,8 +190,8 @@ def measure_long(program, rounds):
 
 
 def plain_block(number):
-    """Eight lines about one product: a statement of two facts and a check, its items, results, and what goes of the block that
-    stands half way to the first."""
+    """Eight lines about one product: a statement of two facts and a check, its items, results, and the removal of items
+    of the block half way to the first."""
     product, gone = b"p%d" % number, number // 2
     one, two = [fs(product, it) for it in (b"1.0", b"2.0")]
     facts = b",".join(b'{"fact":%s}' % make_lines.spelled(fs(product, it)) for it in (b"2.*", b"*"))
@@ -239,7 +240,7 @@ def measure_lines(program, rounds):
 
 
 def base_parts(items, statements):
-    """Items of a product each, and statements of one fact on every so many of them."""
+    """Items of a product each, and statements of one fact on some of them, at this distance."""
     each = items // statements
     return (
         text(item(fs(b"p%d" % it, b"1.0")) for it in range(items)),
@@ -306,7 +307,8 @@ def measure_untouching(program, rounds):
 
 
 def near_lines():
-    """Statements of facts that are near the items that come and go, and these edits: an item is covered by one fact of five."""
+    """Statements with facts near the items that are added and removed, and these edits: one fact of five covers an
+    item."""
     facts = [fs(b"near%d" % (it // FACTS), b"%d.*" % (it % FACTS)) for it in range(PRODUCTS * FACTS)]
     statements = text(put(1_000_000 + number, name) for number, name in enumerate(facts))
     names = [fs(b"near%d" % it, b"3.1") for it in range(PRODUCTS)]
@@ -350,7 +352,8 @@ def measure_table(program, rounds):
 
 
 def followed_lines(count):
-    """Items under names that are deprecated, each for one that a statement in mode follow asks for; and questions for these."""
+    """Items under names that are deprecated, each for one that a statement in mode follow asks for; and questions for
+    these."""
     for number in range(count):
         product = b"p%d" % number
         old, new = [fs(product, it) for it in (b"1.0", b"2.0")]
@@ -378,7 +381,8 @@ def measure_verdicts(program, rounds):
 
 
 def loaded(program, parts):
-    """The seconds of each part as it comes, and of each when it comes again, which is refused since it is there."""
+    """The seconds of each part when it is added first, and when it is added again, which is refused because it is
+    there."""
     with Session(program, "evaluate") as session:
         return [session.accepts(it) for it in parts] + [session.refuses(it, b"exists") for it in parts]
 
@@ -415,14 +419,14 @@ def measure_load(program, rounds):
 
 
 def versions_of(product, one_in):
-    """The names of the items of a product, of which one in so many is known in part; none where that is 0."""
+    """The names of the items of a product. One in this many is known in part; none if that is 0."""
     for number in range(VERSIONS):
         is_in_part = one_in and number % one_in == 3
         yield fs(product, b"%d.*" % number if is_in_part else b"%d.0" % number)
 
 
 def partly_parts(one_in):
-    """Items, statements of three facts on them, and items that go, every other of them."""
+    """Items, statements of three facts on them, and the removal of every other item."""
     names = [list(versions_of(b"p%d" % it, one_in)) for it in range(PARTLY)]
     statements = []
     for number in range(PARTLY):
@@ -449,7 +453,7 @@ def partly_known(program, one_in):
 
 
 def patterned(program, patterns):
-    """The microseconds of a statement of one fact beside so many items whose product is a pattern."""
+    """The microseconds of a statement of one fact beside this many items whose product is a pattern."""
     with Session(program, "watch") as session:
         session.accepts(base_lines(*SMALL) + text(item(fs(b"x%d*" % it, b"1.0")) for it in range(patterns)))
         lines = text(put(1_000_000 + it, fs(b"p%d" % it, b"1.0")) for it in range(LOADED))

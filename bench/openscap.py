@@ -1,10 +1,11 @@
 #!/usr/bin/env python3
-"""Measures `cpe evaluate` beside OpenSCAP (`oscap xccdf eval`) over the same statements and items, whole runs of both, and compares
-their verdicts.
+"""Measures `cpe evaluate` beside OpenSCAP (`oscap xccdf eval`) over the same statements and items, whole runs of both,
+and compares their verdicts.
 
-The statements are the platforms of the rules of a benchmark, and the items those of a CPE dictionary, each with a check of OVAL that
-holds: a rule is applicable exactly where its statement is TRUE. Prints the processor time of both, and says whether the target is met.
-Without `oscap` nothing is measured, which is said. README.md beside this file says how to read it.
+The statements are the platforms of the rules of a benchmark, and the items those of a CPE dictionary, each with a check
+of OVAL that holds: a rule is applicable exactly where its statement is TRUE. Prints the processor time of both, and
+says whether the target is met. Without `oscap` nothing is measured, which is said. README.md beside this file says how
+to read it.
 """
 import argparse
 import json
@@ -31,7 +32,8 @@ HEAD = '<?xml version="1.0" encoding="UTF-8"?>\n'
 
 
 def without_pattern(name):
-    """The fact with ANY in place of a version that ends with an asterisk: OpenSCAP doesn't match these as NIST IR 7696 does."""
+    """The fact with ANY in place of a version that ends with an asterisk: OpenSCAP doesn't match these as NIST IR 7696
+    does."""
     components = re.split(r"(?<!\\):", name)
     if components[5].endswith("*"):
         components[5] = "*"
@@ -69,7 +71,7 @@ def dictionary(names):
 
 
 def definitions(count):
-    """So many definitions of one test, which holds on this system."""
+    """This many definitions of one test, which holds on this system."""
     family = f"{OVAL}#independent"
     yield f'{HEAD}<oval_definitions xmlns="{OVAL}" xmlns:oval="{SCHEMAS}" xmlns:ind="{family}"><generator>'
     yield "<oval:schema_version>5.10</oval:schema_version><oval:timestamp>2024-01-01T00:00:00</oval:timestamp></generator><definitions>\n"

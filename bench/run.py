@@ -58,7 +58,7 @@ def is_older(path, *sources):
 
 
 def built_twins(names):
-    """These twins by name, compiled where their source is newer; none where there is no rustc."""
+    """These twins by name, compiled where their source is newer; none if there is no rustc."""
     if not shutil.which("rustc"):
         print("rustc is not on PATH: the twins are left out")
         return {}
@@ -104,7 +104,7 @@ def difference(ours, theirs, path):
 
 
 def check_twins(command, programs, paths):
-    """Ends this run where a twin doesn't answer as our program does: its times would tell nothing."""
+    """Ends this run if a twin answers otherwise than our program, because its times would mean nothing."""
     differ = False
     for name in (it for it in TWINS[command] if it in programs):
         for path in paths:
@@ -142,23 +142,23 @@ def waiting(pipe):
 
 
 def rest(child):
-    """Waits until the program has taken all that stands in its input, and is done with it."""
+    """Waits until the program has read and handled all its input."""
     while waiting(child.stdin) and child.poll() is None:
         time.sleep(0.001)
     time.sleep(0.05)
 
 
 def most_held(child):
-    """The kernel's mark of the most memory that this process held at once, in KiB, or None where there is none."""
+    """The kernel's mark of the most memory that this process held at once, in KiB, or None if there is none."""
     found = re.search(r"VmHWM:\s+(\d+) kB", pathlib.Path(f"/proc/{child.pid}/status").read_text())
     return int(found.group(1)) if found else None
 
 
 def peak(words, path):
-    """The most memory that the program held at once, in KiB, or None where the system doesn't tell.
+    """The most memory that the program held at once, in KiB, or None if the system doesn't report it.
 
-    It is asked when the program has taken all input and before it sees the end. (What wait4 tells
-    of a child begins with what this script holds.)
+    It is read when the program has handled all input and before it sees the end. (wait4 counts the memory of this
+    script too, because a child begins with it.)
     """
     child = subprocess.Popen(words, stdin=subprocess.PIPE, stdout=subprocess.DEVNULL)
     try:
@@ -208,7 +208,7 @@ def measure_rows(programs, counts, rounds):
 
 
 def measure_dictionary(programs, count, rounds):
-    """What a search over so many entries takes, and what an entry takes of memory."""
+    """The cost of a search over this many entries, and the memory of an entry."""
     empty, entries = pathlib.Path(os.devnull), made("entry", count)
     added, searched = [best_times(programs, it, rounds) for it in (entries, made("searched", count))]
     print(f"\n{RESOLVE}, {count:,} entries, best of {rounds}")
@@ -224,7 +224,7 @@ def measure_deprecations(programs, count, rounds):
     """What a line takes on average of deprecations and of the questions where they lead, and of entries and lookups."""
     behind = 2 * make_lines.deprecated_of(count)
     inputs = [made(mode, count) for mode in ("entry", "added", "deprecated")]
-    # (the inputs take turns too, since differences of their times are told)
+    # (the inputs take turns too, because differences of their times are reported)
     turns = [[best_times(programs, it, 1) for it in inputs] for _ in range(rounds)]
     kept, added, deprecated = [{name: min(it[name] for it in times) for name in programs} for times in zip(*turns, strict=True)]
     print(f"\n{RESOLVE}, microseconds a line of {behind:,} behind {count:,} entries, best of {rounds}")
@@ -244,7 +244,8 @@ def measure_verdicts(with_table, without, inputs, rounds):
 
 
 def measure_watched(programs, sizes, rounds):
-    """What a line takes by the number of lines of a session: the more there are, the more verdicts are looked at for each."""
+    """What a line takes by the number of lines of a session: the more there are, the more verdicts are looked at for
+    each."""
     print(f"\n{WATCH}, microseconds a line by the number of lines, best of {rounds}, the start of the program taken off")
     print(f"{'program':<14}{'lines':>10}{'mixed':>12}{'statements':>12}{'watched':>12}")
     starts = best_times(programs, pathlib.Path(os.devnull), rounds)
@@ -345,8 +346,8 @@ def vectors_of(*commands):
 
 
 def sizes_of(lines):
-    """How many lines the sessions have in which each edit is watched, the shortest first: 600, 1,200 and 2,400 where the
-    other inputs have 1,000,000."""
+    """How many lines the sessions have in which each edit is watched, the shortest first: 600, 1,200 and 2,400 where
+    the other inputs have 1,000,000."""
     return [max(8, lines * it // 1_000_000) for it in (600, 1_200, 2_400)]
 
 

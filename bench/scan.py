@@ -1,13 +1,14 @@
 #!/usr/bin/env python3
-"""Measures the whole way from feeds to verdicts, recipes/scan.py, over advisories of which most have ranges of versions.
+"""Measures the whole way from feeds to verdicts, recipes/scan.py, over advisories of which most have ranges of
+versions.
 
     python3 bench/scan.py PROGRAM [--advisories N] [--machines N] [--items N] [--rounds N]
 
 It makes a dictionary, advisories and a match feed in the form of NVD's API 2.0, and machines, from the names of
-official-names.txt, the same ones at every run, below build/bench/scan, and runs scan.py over them on two processors: reading,
-deciding each range for each machine, asking for verdicts, and the table, which is thrown away. It prints how many verdicts there
-are of each truth, the seconds of the best run, and the most memory that one of the processes held. Python 3 (standard library
-alone) and Linux.
+official-names.txt, the same ones at every run, below build/bench/scan, and runs scan.py over them on two processors:
+reading, deciding each range for each machine, asking for verdicts, and the table, which is thrown away. It prints how
+many verdicts there are of each truth, the seconds of the best run, and the most memory that one of the processes held.
+Python 3 (standard library alone) and Linux.
 """
 import argparse
 import json
@@ -23,7 +24,7 @@ HERE = pathlib.Path(__file__).resolve().parent
 SCAN = HERE.parent / "recipes" / "scan.py"
 BUILD = HERE.parent / "build" / "bench" / "scan"
 SEED = 2024
-# What the whole way may take, over so many advisories and machines of so many items, on so many processors.
+# The limits of time and memory for the whole way, with these numbers of advisories, machines, items and processors.
 MOST_SECONDS, ADVISORIES, MACHINES, ITEMS, PROCESSORS = 30, 10_000, 100, 300, 2
 
 RANGED, LISTED, PLATFORM, DEPRECATED, LETTERS = 0.8, 0.3, 0.1, 0.03, 0.05

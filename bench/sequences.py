@@ -1,14 +1,16 @@
 #!/usr/bin/env python3
-"""Compares scans from a store with scans without one, over feeds of NVD's size and drawn days: python3 bench/sequences.py PROGRAM
+"""Compares scans from a store with scans without one, over feeds of NVD's size and drawn days: python3
+bench/sequences.py PROGRAM
 
     [--share S] [--machines N] [--items N] [--of N] [--sequences N] [--first N] [--days N] [--keep]
 
-It makes feeds as full.py does (a tenth of NVD's size if the share is left out), and a store of them, once; --keep takes those that are
-there. A sequence is a number of days over a copy of that store. Each day has a window of advisories, of products or of lists that match,
-perhaps with a page that is there or an older one, and changed lists of machines. Some runs that add are killed, and begun again; so are
-some scans. Each day is scanned from the store, which takes what it can from the day before. The last day of each sequence, and some days
-before it, are scanned without a store too, and both must write the same bytes, with the same status. It prints what differs, and the
-status is 1 then. Python 3 (standard library alone) and Linux. A sequence of three days takes a minute of processor time at a tenth.
+It makes feeds as full.py does (a tenth of NVD's size if the share is left out), and a store of them, once; --keep takes
+those that are there. A sequence is a number of days over a copy of that store. Each day has a window of advisories, of
+products or of lists that match, perhaps with a page that is there or an older one, and changed lists of machines. Some
+runs that add are killed, and begun again; so are some scans. Each day is scanned from the store, which takes what it
+can from the day before. The last day of each sequence, and some days before it, are scanned without a store too, and
+both must write the same bytes, with the same status. It prints what differs, and the status is 1 then. Python 3
+(standard library alone) and Linux. A sequence of three days takes a minute of processor time at a tenth.
 """
 import argparse
 import json
@@ -120,7 +122,7 @@ class Sequence:
         self.pages = {kind: list(paths) for kind, paths in pages.items()}
 
     def run(self, recipe, *words, most=None):
-        """The status of a recipe, and what it writes; None if it was killed after so many seconds."""
+        """The status of a recipe, and its output; None if it was killed after this many seconds."""
         command = [sys.executable, str(full.RECIPES / f"{recipe}.py"), *words]
         with subprocess.Popen(command, stdout=subprocess.PIPE, stderr=subprocess.DEVNULL, env=environment(self.options), start_new_session=True) as process:
             try:

@@ -1,13 +1,15 @@
 #!/usr/bin/env python3
-"""Measures the service: lists that clients put at once, questions, a night's window of changed advisories, memory, and faults of clients.
+"""Measures the service: lists that clients put at once, questions, a night's window of changed advisories, memory, and
+faults of clients.
 
     python3 bench/service.py PROGRAM [--advisories N] [--machines N] [--items N] [--clients N] [--changed N] [--workers N]
 
-It makes feeds and machines as bench/scan.py does, gives them to a server in a fresh folder, and prints percentiles of the answers, the
-processor seconds of all its processes, and the most memory that they held together. Then it sends what no client should: a list of
-200 MB, as it is and packed, 10,000 levels of JSON, bodies that don't end, and 1,000 connections that ask nothing. It prints the answers,
-and how long a question took meanwhile at most. Other work on the machine makes answers slower, and processor seconds less so. Python 3.11
-with starlette and uvicorn (Debian's python3-starlette, python3-uvicorn), and Linux.
+It makes feeds and machines as bench/scan.py does, gives them to a server in a fresh folder, and prints percentiles of
+the answers, the processor seconds of all its processes, and the most memory that they held together. Then it sends what
+no client should: a list of 200 MB, as it is and packed, 10,000 levels of JSON, bodies that don't end, and 1,000
+connections that ask nothing. It prints the answers, and how long a question took meanwhile at most. Other work on the
+machine makes answers slower, and processor seconds less so. Python 3.11 with starlette and uvicorn (Debian's
+python3-starlette, python3-uvicorn), and Linux.
 """
 import argparse
 import concurrent.futures

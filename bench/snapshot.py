@@ -1,6 +1,6 @@
 #!/usr/bin/env python3
-"""Measures `cpe save` and `cpe load` beside reading the records of the same rows: their time, their memory, and the bytes of a
-snapshot.
+"""Measures `cpe save` and `cpe load` beside reading the records of the same rows: their time, their memory, and the
+bytes of a snapshot.
 
 Prints a table, and says of each target whether it is met. README.md beside this file says how to read it.
 """
@@ -13,8 +13,8 @@ import sys
 sys.dont_write_bytecode = True
 import run
 
-# The targets: `load` is so many times as fast as reading the records, in so much of its memory; `save` takes so much of the time of
-# `resolve`, and a snapshot so much of the records' bytes.
+# The targets: the speed of `load` compared with reading the records, and its memory compared with theirs; the time of
+# `save` compared with `resolve`, and the bytes of a snapshot compared with those of the records.
 LEAST_SPEED, MOST_MEMORY, MOST_OF_RESOLVE, MOST_BYTES = 3.0, 1.2, 1.1, 0.7
 
 
@@ -27,8 +27,9 @@ def snapshot_of(program, path):
 
 
 def peak(words, path):
-    """The most memory that the program held at once, in KiB. `load` holds most after its input has ended, so it is asked of the system
-    when the program has ended; what this script held when it began it, some 20 MB, is the least that is told."""
+    """The most memory that the program held at once, in KiB. `load` holds most after its input has ended, so the system
+    is asked after the program has ended. The memory of this script when it started the program, some 20 MB, is the
+    least that can be reported."""
     with path.open("rb") as source:
         child = subprocess.Popen(words, stdin=source, stdout=subprocess.DEVNULL)
         _, _, used = os.wait4(child.pid, 0)

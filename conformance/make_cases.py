@@ -2,7 +2,8 @@
 """Writes the cases of sources/ into cases/, a file for each report.
 
 An id never changes its meaning. So nothing is written if a case that is in cases/ is now missing, or would get another
-input or another report, section or kind. What is expected may be corrected; the version of the set then rises (README.md).
+input or another report, section or kind. What is expected may be corrected; the version of the set then rises
+(README.md).
 """
 
 import argparse

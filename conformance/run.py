@@ -2,7 +2,8 @@
 """Runs the conformance cases of CPE 2.3 by adapters, and prints where each implementation is right and wrong.
 
 An ADAPTER is a command, such as 'python3 mine.py'. It reads a case a line, {"id", "kind", "input"}, and writes a line
-{"id", "result"} for it, which it flushes before it reads the next. README.md beside this file has the kinds and results.
+{"id", "result"} for it, which it flushes before it reads the next. README.md beside this file has the kinds and
+results.
 
 Exit status, as pytest has it: 0 each case passed or isn't offered, 1 a case did not pass, 2 interrupted, 3 this program
 failed, 4 wrong words, 5 no case was chosen.
@@ -173,7 +174,7 @@ class Adapter:
         size = self._said.seek(0, os.SEEK_END)
         self._said.seek(max(0, size - 10_000))
         lines = self._said.read().decode(errors="replace").strip().splitlines() or [""]
-        # (Go's reason is above its stack)
+        # (Go writes the reason above its stack trace)
         last = next((it for it in lines if it.startswith(("panic: ", "fatal error: "))), lines[-1])
         return f"it ended with {how}: {last}".removesuffix(": ")
 

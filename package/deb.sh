@@ -1,6 +1,7 @@
 #!/bin/sh
-# Builds cpe_VERSION_ARCHITECTURE.deb in a folder, over build/cpe, and over the library where it is built:
-# sh package/deb.sh VERSION MAINTAINER FOLDER. It has what make install puts below PREFIX, and what Debian wants beside that.
+# Builds cpe_VERSION_ARCHITECTURE.deb in a folder, from build/cpe, and from the library if it is built: sh
+# package/deb.sh VERSION MAINTAINER FOLDER. It contains what make install installs below PREFIX, and the further files
+# that Debian requires.
 set -eu
 umask 022
 cd "$(dirname "$0")/.."
@@ -12,11 +13,11 @@ done
 room=$(mktemp -d build/package.XXXXXX)
 trap 'rm -rf "$room"' EXIT
 trap 'exit 130' HUP INT TERM
-# (a package has its folders with their modes, and mktemp closes its own to others)
+# (the package keeps the modes of its folders, and mktemp makes one that others can't read)
 root=$room/root
 mkdir "$root" "$root/DEBIAN"
 
-# puts TARGET DONE: what a target of the Makefile installs, whose prerequisite DONE is there.
+# puts TARGET DONE: what a target of the Makefile installs, whose prerequisite DONE is already made.
 puts() {
     MAKEFLAGS='' make -s -o "$2" "$1" DESTDIR="$root" PREFIX=/usr VERSION="$version" ZSH_COMPLETIONS=/usr/share/zsh/vendor-completions
 }
@@ -25,7 +26,7 @@ puts install program
 linked=$root/usr/bin/cpe
 if [ -f build/libcpe.a ] && [ -f build/libcpe.so ]; then
     puts install-library library
-    # (in Debian no library is executable, the loader's list is made anew for each, and each tells who has it)
+    # (Debian's rules: a library isn't executable, its installation triggers ldconfig, and it lists its package)
     chmod 644 "$root/usr/lib/libcpe.so.0"
     echo 'activate-noawait ldconfig' > "$root/DEBIAN/triggers"
     echo "libcpe 0 cpe (>= $version)" > "$root/DEBIAN/shlibs"
@@ -37,7 +38,7 @@ install -m 644 package/systemd/* "$root/usr/lib/systemd/system"
 install -m 644 LICENSE "$root/usr/share/doc/cpe/copyright"
 
 architecture=$(dpkg --print-architecture)
-# The C library has to be as new as the newest symbol that is asked of it.
+# The C library has to be as new as the newest symbol that is used.
 libc=$(grep -aoh 'GLIBC_[0-9.]*[0-9]' $linked | sed 's/GLIBC_//' | sort -V | tail -n 1)
 cat > "$root/DEBIAN/control" << END
 Package: cpe

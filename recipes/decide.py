@@ -6,7 +6,7 @@
 import sys
 
 sys.dont_write_bytecode = True  # (run.py says why)
-from cpe_recipes import decide, said
+from cpe_recipes import console, decide
 
 if __name__ == "__main__":
-    said.main(decide.run, "decide.py", sys.argv[1:])
+    console.main(decide.run, "decide.py", sys.argv[1:])

@@ -20,9 +20,17 @@ import sys
 import threading
 import uuid
 
-# What is asked after each line that may have no answer, so that the end of it is seen: this about an id that nobody has put. Under
-# `cover` it is a line that is no name, and is refused. Under the other words each line has one line for its answer.
-BARRIERS = {"resolve": "verdict", "evaluate": "verdict", "watch": "verdict", "explain": "verdict", "check": "verdict", "advise": "affected"}
+# What is asked after each line that may have no answer, so that the end of it is seen: this about an id that nobody has
+# put. Under `cover` it is a line that is no name, and is refused. Under the other words each line has one line for its
+# answer.
+BARRIERS = {
+    "resolve": "verdict",
+    "evaluate": "verdict",
+    "watch": "verdict",
+    "explain": "verdict",
+    "check": "verdict",
+    "advise": "affected",
+}
 COVER, SAVE = "cover", "save"
 WORDS = ("unbind", "bind", "compare", "convert", *BARRIERS, COVER, SAVE)
 NO_NAME = "-"
@@ -32,7 +40,7 @@ Answer = collections.namedtuple("Answer", "number refusal lines")
 
 
 class Client:
-    """A run of `cpe WORD..`. EOFError comes where it ends before it has answered."""
+    """A run of `cpe WORD..`. EOFError is raised if it ends before it has answered."""
 
     def __init__(self, *words, program=os.environ.get("CPE", "cpe")):
         if not words or words[0] not in WORDS:
@@ -52,7 +60,8 @@ class Client:
         return next(self.ask_all([line]))
 
     def ask_all(self, lines, ahead=1000):
-        """The answers to any number of lines, in their order. As many as `ahead` are sent before the first answer is read."""
+        """The answers to any number of lines, in their order. As many as `ahead` are sent before the first answer is
+        read."""
         if self.word == SAVE:
             raise ValueError("save answers no line; send them, and then end")
         self._forget()
@@ -70,8 +79,8 @@ class Client:
             self._sent.clear()
 
     def end(self):
-        """Ends the input. What is written at its end, such as the table of evaluate, and the status. Under `save` that is the
-        snapshot, as bytes."""
+        """Ends the input. What is written at its end, such as the table of evaluate, and the status. Under `save` that
+        is the snapshot, as bytes."""
         self._forget()
         self._waiting.put(None)
         rest, status = self._run.stdout.read(), self._run.wait()
@@ -126,8 +135,8 @@ class Client:
 
 
 def _bytes(text):
-    """A text as it is sent. Bytes that are no UTF-8 may stand in it, as Python reads them (surrogateescape). Of half a character, which
-    has no bytes, it sends some that are no UTF-8, so that cpe refuses its line."""
+    """A text as bytes for cpe. It may contain bytes that are no UTF-8, as Python reads them (surrogateescape). Half a
+    surrogate pair has no bytes; the bytes sent for it are no UTF-8, so that cpe refuses the line."""
     try:
         return text.encode(errors="surrogateescape")
     except UnicodeEncodeError:

@@ -6,7 +6,7 @@
 import sys
 
 sys.dont_write_bytecode = True  # (run.py says why)
-from cpe_recipes import report, said
+from cpe_recipes import console, report
 
 if __name__ == "__main__":
-    said.main(report.run, "report.py", sys.argv[1:])
+    console.main(report.run, "report.py", sys.argv[1:])

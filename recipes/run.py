@@ -6,8 +6,8 @@
 import importlib
 import sys
 
-from cpe_recipes import said
+from cpe_recipes import console
 
 if __name__ == "__main__":
     name = sys.argv[1]
-    said.main(importlib.import_module(f"cpe_recipes.{name.replace('-', '_')}").run, f"{name}.sh", sys.argv[2:])
+    console.main(importlib.import_module(f"cpe_recipes.{name.replace('-', '_')}").run, f"{name}.sh", sys.argv[2:])

@@ -6,7 +6,7 @@
 import sys
 
 sys.dont_write_bytecode = True  # (run.py says why)
-from cpe_recipes import said, scan
+from cpe_recipes import console, scan
 
 if __name__ == "__main__":
-    said.main(scan.run, "scan.py", sys.argv[1:])
+    console.main(scan.run, "scan.py", sys.argv[1:])

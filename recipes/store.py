@@ -6,7 +6,7 @@
 import sys
 
 sys.dont_write_bytecode = True  # (run.py says why)
-from cpe_recipes import said, store
+from cpe_recipes import console, store
 
 if __name__ == "__main__":
-    said.main(store.run, "store.py", sys.argv[1:])
+    console.main(store.run, "store.py", sys.argv[1:])

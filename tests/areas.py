@@ -6,7 +6,7 @@ usage: areas.py
 Ends with status 0 if all of this holds, and with 1 and the differences otherwise:
 - each area of the table below the map has a section, and each crate of crates.txt is in the list of exactly one;
 - each of these lists is in the order of crates.txt;
-- no area stands on itself through others;
+- no area uses itself through others;
 - between the areas there are the lines of LINES, which the map draws, and no others.
 """
 
@@ -16,7 +16,7 @@ import sys
 
 TOP = pathlib.Path(__file__).resolve().parent.parent
 PAGE = TOP / "docs" / "ARCHITECTURE.md"
-# What the map draws: an area, and those that it stands on without another one between. Change the drawing with it.
+# The lines of the map: an area, and those that it uses without another one between. Change the drawing with it.
 LINES = {
     "ground": set(),
     "names": {"ground"},
@@ -59,7 +59,7 @@ def areas(text: str) -> dict[str, list[str]]:
 
 
 def lines(uses: dict[str, list[str]], area_of: dict[str, str]) -> dict[str, set[str]]:
-    """The areas on which each one stands without another one between."""
+    """For each area those that it uses without another one between."""
     below: dict[str, set[str]] = {area: set() for area in area_of.values()}
     for crate, used in uses.items():
         here = area_of[crate]

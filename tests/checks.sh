@@ -1,6 +1,6 @@
-# What the checks of the built program from outside share; they source it. The first word of the command line is the program,
-# build/cpe if left out. A check whose tool or device is missing here is SKIPPED, says so in the last lines too, and counts as
-# no pass. Nothing is written but below build/.
+# Shared by the checks of the built program, which source this file. The first word of the command line is the program,
+# build/cpe if left out. If a tool or device of a check is missing, the check is SKIPPED; the last lines list it, and it
+# doesn't count as passed. Nothing is written outside build/.
 set -u
 
 program=${1:-build/cpe}
@@ -18,8 +18,8 @@ trap 'exit 130' HUP INT TERM
 
 has() { command -v "$1" > /dev/null 2>&1; }
 
-# A program that hangs is stopped, where the system can, after four minutes, which a busy machine doesn't take for what takes seconds, or
-# after so many seconds as `most` tells.
+# A program that hangs is stopped after four minutes, if the system can do that, or after $most seconds. A busy machine
+# needs less for what usually takes seconds.
 limited() { if has timeout; then timeout "${most:-240}" "$@"; else "$@"; fi; }
 
 pass() { passed=$((passed + 1)); echo "ok: $1"; }
@@ -31,7 +31,7 @@ skip() {
     echo "SKIPPED: $1: $2"
 }
 
-# needs WHAT TOOL..: whether all tools are here that the check of this name needs.
+# needs WHAT TOOL..: whether all tools of the check WHAT are installed; if not, the check is skipped.
 needs() {
     lacking=$1
     shift
@@ -40,8 +40,8 @@ needs() {
     done
 }
 
-# judge WHAT STATUS WANTED OUTPUT [SAID]: after a run that ended with STATUS and left its streams in room. What it writes to
-# standard error is SAID, or nothing where that is left out.
+# judge WHAT STATUS WANTED OUTPUT [SAID]: after a run that ended with STATUS and left its streams in $room. Its standard
+# error has to be SAID, or empty if SAID is left out.
 judge() {
     if [ "$2" != "$3" ]; then
         fail "$1" "status $2 in place of $3"
@@ -58,8 +58,9 @@ judge() {
     fi
 }
 
-# answers_sessions WHAT: of a text that comes in, the sessions, in lines that are indented by four spaces: what stands after a
-# dollar sign is run, and the lines below it are what it writes. An empty line between two of these is one of them.
+# answers_sessions WHAT: runs the sessions of a text on standard input, in lines that are indented by four spaces: the
+# text after a dollar sign is run, and the lines below it are its output. An empty line between two of these is one of
+# them.
 answers_sessions() {
     what=$1
     needs "$what" awk || return
@@ -81,7 +82,7 @@ answers_sessions() {
     judge "$what, $(cat "$room/count") of them" "$status" 0 "$room/wanted"
 }
 
-# end_of_checks NAME: the last lines, and the status, which is 0 where no check failed.
+# end_of_checks NAME: writes the last lines, and sets the status, which is 0 if no check failed.
 end_of_checks() {
     [ "$skipped" = 0 ] || printf '%s SKIPPED, which show nothing here:\n%s' "$(echo "$1" | tr '[:lower:]' '[:upper:]')" "$missing"
     echo "$1: $passed passed, $failed failed, $skipped skipped"

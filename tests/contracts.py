@@ -1,5 +1,6 @@
 #!/usr/bin/env python3
-"""docs/CONTRACTS.md: each public call of each crate, with the first sentence of its comment and the clauses of its contract.
+"""docs/CONTRACTS.md: each public call of each crate, with the first sentence of its comment and the clauses of its
+contract.
 
 usage: contracts.py [--write]
 
@@ -74,7 +75,8 @@ def is_whole(text: str) -> bool:
 
 
 def clauses_at(lines: list[str], place: int) -> tuple[list[tuple[str, str]], bool]:
-    """The clauses behind the head of a function, each with its kind and its name or text; and whether the body is empty."""
+    """The clauses behind the head of a function, each with its kind and its name or text; and whether the body is
+    empty."""
     clauses: list[tuple[str, str]] = []
     indent = len(lines[place]) - len(lines[place].lstrip())
     while place < len(lines):

@@ -1,11 +1,11 @@
 #!/usr/bin/env python3
-"""Whether crates.txt lists no edge that others give.
+"""Whether crates.txt lists no edge that other edges imply.
 
 usage: edges.py
 
-A crate lists the crates whose functions its code calls, and those of WORDS. The types, words and lemmas of crates further
-below come through one of these, by `pub use`. Each edge more is gone over by rt on each way that leads to it. Ends with
-status 0 if no edge can be left out, and with 1 and the edges that can otherwise.
+A crate lists the crates whose functions its code calls, and those of WORDS. It gets the types, words and lemmas of
+crates further below through one of these, by `pub use`. rt checks each edge again on each path that leads to it. Ends
+with status 0 if no edge can be left out, and with 1 and the edges that can otherwise.
 """
 
 import collections

@@ -1,14 +1,15 @@
 #!/usr/bin/env python3
 """Lets each read and each write of short sessions fail in turn: failing_calls.py PROGRAM [VECTOR ..].
 
-A session is a vector beside this file, such as bind-uri/lines: the name of its folder has the words, and where it has no input, its
-own name is the last word. SESSIONS are taken where none is named. First nothing fails, and bytes come and go in several ways: each run
-must end as the vector tells; where each read gives a byte, there are as many reads as bytes, and one that finds the end, or none under
-words that read nothing; and where each write takes a byte, as many writes as bytes. Then a run comes for each of these reads, which
-fails: it must end with status 3, and have written what the whole lines before are answered, and nothing that comes at the end of an
-input. And a run comes for each of these writes, which fails: it must end with status 4, and have written the bytes before. No further
-call may come after the one that failed, and standard error must be empty. The status is 0 where all is so. Without a C compiler, and
-where the program's calls are not those of the C library, all is SKIPPED.
+A session is a vector beside this file, such as bind-uri/lines. The name of its folder has the words; without an input
+its own name is the last word. Without VECTOR the SESSIONS are used. First nothing fails, and bytes are read and written
+in several ways. Each run must end as the vector says. If each read returns a byte, there are as many reads as bytes,
+and one that finds the end, or none under words that read nothing. If each write takes a byte, there are as many writes
+as bytes. Then each of these reads fails in a run of its own. That run must end with status 3, and must have written the
+answers to the whole lines before, and nothing that belongs to the end of an input. Then each of these writes fails in a
+run of its own. That run must end with status 4, and must have written the bytes before. No call may follow the one that
+failed, and standard error must be empty. The status is 0 if all of this holds. Without a C compiler, or if the
+program's calls are not those of the C library, all is SKIPPED.
 """
 import collections
 import concurrent.futures
@@ -44,15 +45,17 @@ SESSIONS = (
     "drill/16",
     "usage/wrong-words",
 )
-# How the first line begins that comes at the end of an input, under the words that have such lines; `save` and `load` have no others.
+# The beginning of the first line at the end of an input, under the words that have such lines; `save` and `load` have
+# no others.
 FIRST_AT_THE_END = {"evaluate": b"verdicts ", "explain": b'{"do":"proof",', "cover": b"cpe:", "save": b"", "load": b""}
 SOME_REFUSED, USAGE, READ_FAULT, WRITE_FAULT = 1, 2, 3, 4
 A_BYTE_A_READ = {"READ_MOST": "1"}
 A_BYTE_A_WRITE = {"WRITE_MOST": "1"}
-# Most sessions are longer than such a read, so that input is left when the first writes come.
+# Most sessions are longer than such a read, so that input is left at the first writes.
 SHORT_READS = {"READ_MOST": "64"}
 
-# A run: what it is called, what the shim is told, how it must end, and how many reads it must make, or writes, where that is asked.
+# A run: its name, the settings of the shim, its expected status and output, and the expected number of reads and writes,
+# if these are tested.
 Try = collections.namedtuple("Try", "what told status output reads writes", defaults=(None, None))
 
 
@@ -81,7 +84,7 @@ class Session:
         return (alone.status, alone.output) == (self.status, self.output) and not beside.reads + beside.writes
 
     def answers(self, count):
-        """What the lines are answered that so many bytes of the input are, and nothing that comes at the end of an input."""
+        """The answers to the lines in this many bytes of the input, without the lines at the end of an input."""
         with tempfile.TemporaryFile(dir=TOP / "build") as lines:
             lines.write(self.input[:count])
             lines.seek(0)
@@ -101,7 +104,7 @@ class Session:
         yield Try("one, two and 65,536 bytes a read, three a write", {"READ_MOST": "1 2 65536", "WRITE_MOST": "3"}, *ended)
 
     def broken_off(self, answers):
-        """Runs of which a call fails, the answers being those to the lines before so many bytes."""
+        """Runs in which a call fails; the answers are those to the lines before this many bytes."""
         for number in range(1, self.reads() + 1):
             said = answers[self.input.rfind(b"\n", 0, number - 1) + 1]
             yield Try(f"read {number} fails", {"FAIL_READ": str(number), **A_BYTE_A_READ}, READ_FAULT, said, reads=number)

@@ -1,8 +1,8 @@
 #!/usr/bin/env python3
 """Runs a program on the bytes of a file, after which a read fails: failing_read.py FILE PROGRAM WORD..
 
-Standard input is a pipe that holds all of the bytes, whose other end stays open, and at which no read waits: the one
-after them fails. Ends with status 77 where no pipe holds so many bytes.
+Standard input is a pipe that holds all of the bytes. Its other end stays open, and reads don't wait, so the read after
+the bytes fails. Ends with status 77 if no pipe can hold that many bytes.
 """
 import fcntl
 import os

@@ -1,11 +1,12 @@
 #!/bin/sh
-# rt ci, and after its lines what each crate took of the processors, so that growth is seen: sh tests/gate.sh [CRATE..].
-# Ends with the status of rt ci. If ps or awk is missing there are no times, and that is said. A crate of which all is kept from an
-# earlier gate takes no time, and has no row.
+# Runs rt ci, and then lists the processor time of each crate, so that growth is noticed: sh tests/gate.sh [CRATE..].
+# Ends with the status of rt ci. If ps or awk is missing there are no times, which is reported. A crate whose results
+# are all kept from an earlier gate takes no time, and has no row.
 set -u
 
-# Each second, a line for each run of the prover below this script: the time, its process, its crate, what it proves (the crate, the
-# crate with its tests, or the crate with a must-fail edit), and the processor seconds that it has taken.
+# Each second, a line for each run of the prover below this script: the time, its process, its crate, the kind of its
+# work (the crate, the crate with its tests, or the crate with a must-fail edit), and the processor seconds that it has
+# used.
 watch() {
     while sleep 1; do
         ps -eo pid=,ppid=,time=,args= | awk -v top="$$" -v now="$(date +%s)" '
@@ -30,8 +31,8 @@ watch() {
     done
 }
 
-# The last sight of each run, added up by crate; and the chain of crates, each of which waits for the proof of the one before, that
-# takes longest by the clock.
+# The last line of each run, added up by crate; and the slowest chain by the clock, in which each crate waits for the
+# proof of the one before.
 table() {
     awk '
         FILENAME == "crates.txt" {

@@ -1,13 +1,13 @@
 #!/bin/sh
-# Checks of the library for C, as programs in C, Python and Go call it: sh tests/library-checks.sh [PROGRAM]. What sessions answer is
-# compared with what the program writes. The status is 0 where no check failed.
+# Checks of the library for C, called by programs in C, Python and Go: sh tests/library-checks.sh [PROGRAM]. The answers
+# of sessions are compared with the program's output. The status is 0 if no check failed.
 . "$(dirname "$0")/checks.sh"
 
 # builds_library: builds the library, over its proved part, and the programs that call it, or skips all.
 builds_library() {
     needs 'the library for C' cc ld ar objcopy rt || return
-    # (rt lib would prove all crates once more where rt ci alone was run)
-    [ -f crates/cpe_c/out/libcpe_c.a ] || { skip 'the library for C' 'its proved part is not built: make library'; return 1; }
+    # (rt lib would prove all crates again if only rt ci was run)
+    [ -f crates/c_library/out/libc_library.a ] || { skip 'the library for C' 'its proved part is not built: make library'; return 1; }
     sh library/build.sh > "$room/build.out" 2>&1 || { fail 'the library for C' "$(tail -n 1 "$room/build.out")"; return 1; }
     for it in calls lines; do compiles "$it" || return; done
 }
@@ -20,7 +20,7 @@ compiles() {
         { fail "a C program that calls it: $it" "$(head -n 1 "$room/error")"; return 1; }
 }
 
-# calls_each: each call with each of its answers.
+# calls_each: makes each call, with each kind of its answers.
 calls_each() {
     : > "$room/none"
     limited "$room/calls" > "$room/out" 2> "$room/error"
@@ -30,7 +30,7 @@ calls_each() {
     judge 'each allocation of the library, refused in turn' $? 0 "$room/none"
 }
 
-# speaks_alike WHAT INPUT WORD..: the answers of a session, one after the other, are what the program writes.
+# speaks_alike WHAT INPUT WORD..: the answers of a session together are the program's output.
 speaks_alike() {
     what="a session of the library: $1"
     input=$2
@@ -51,7 +51,7 @@ speaks_vectors() {
         esac
         for vectors in "$folder"/*.in; do
             [ -f "$vectors" ] || continue
-            # The words are two where there is a space.
+            # A word with a space is two words.
             speaks_alike "$words, $(basename "$vectors" .in)" "$vectors" $words
         done
     done
@@ -63,7 +63,7 @@ speaks_examples() {
     speaks_alike 'the texts of names as URIs' examples/wfn.txt bind uri
 }
 
-# A million names: the real ones, over and over.
+# A million names: the official ones, repeated.
 speaks_million() {
     what='a session of the library: a million names'
     needs "$what" awk || return
@@ -104,8 +104,8 @@ speaks_in_python() {
     speaks_python '20,000 records under evaluate' "$room/records.txt" evaluate
 }
 
-# in_go COMMAND..: runs a command of Go that finds the static library, looks for nothing in the network, and writes below room alone.
-# It builds Go's own packages anew, which may take long.
+# in_go COMMAND..: runs a command of Go that finds the static library, uses no network, and writes only below $room.
+# It builds Go's own packages again, which may take long.
 in_go() {
     most=600
     limited env HOME="$room" TMPDIR="$room" GOENV=off GOCACHE="$room/go-cache" GOPATH="$room/go-path" GOPROXY=off GOTOOLCHAIN=local \

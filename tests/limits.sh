@@ -1,7 +1,7 @@
 #!/bin/sh
-# Tries the limits that no other check comes to, on the built program: sh tests/limits.sh [PROGRAM]. PROGRAM is build/cpe if left
-# out. It takes minutes, and memory: where less than 6 GB is free all is SKIPPED, which is said, and counts as no pass. No
-# input is stored anywhere. The status is 0 where no check failed.
+# Tries the limits that no other check reaches, on the built program: sh tests/limits.sh [PROGRAM]. PROGRAM is build/cpe
+# if left out. It takes minutes, and memory: if less than 6 GB is free, everything is SKIPPED, which is reported, and
+# doesn't count as passed. No input is stored anywhere. The status is 0 if no check failed.
 set -u
 
 program=${1:-build/cpe}
@@ -24,8 +24,8 @@ trap 'rm -rf "$room"' EXIT
 trap 'exit 130' HUP INT TERM
 failed=0
 
-# Records up to a limit, and the one after it; then what is still taken. Each maker prints the lines, or the answers to them,
-# made from numbers alone.
+# Records up to a limit, and the first one above it; then records that are still accepted. Each maker prints the lines,
+# or the answers to them, computed from numbers alone.
 entries() {
     awk -v answers="$1" '
         function record(text) { number++; if (!answers) print text }
@@ -43,7 +43,7 @@ entries() {
             look(most, "absent")
             add(7)
             answer("refused " number " exists")
-            # what is kept can be edited, and an item is no entry
+            # rows can still be edited, and an item is no entry
             record("{\"do\":\"deprecate\",\"name\":\"" name(0) "\",\"kind\":\"NAME_REMOVAL\",\"date\":\"2024-01-01\"}")
             look(0, "NAME_REMOVAL")
             record("{\"do\":\"item\",\"name\":\"" name(most) "\"}")
@@ -62,7 +62,7 @@ items() {
             for (n = 0; n < most; n++) item("item", n)
             item("item", most)
             answer("refused " number " full items")
-            # the last goes, and there is room again
+            # the last is removed, and there is room again
             item("drop-item", most - 1)
             item("item", most)
             item("item", most - 1)
@@ -86,7 +86,7 @@ facts() {
             put("last", 1000)
             put("one", 1)
             answer("refused " number " full facts")
-            # one without facts, and one in the room of another
+            # one without facts, and one in the room of a removed one
             record("{\"do\":\"statement\",\"id\":\"check\",\"test\":{\"op\":\"OR\",\"of\":[{\"check\":{\"system\":\"\",\"href\":\"\",\"id\":\"\"}}]}}")
             record("{\"do\":\"drop-statement\",\"id\":\"0\"}")
             put("more", 3000)
@@ -95,8 +95,8 @@ facts() {
         }' < /dev/null
 }
 
-# Statements of logical tests with one check each, which take the most memory for their weight, up to the full weight. A statement
-# weighs 64 and its id, and each of these logical tests 64.
+# Statements of logical tests with one check each, which take the most memory for their weight, up to the full weight. A
+# statement weighs 64 and its id, and each of these logical tests 64.
 logical_tests() {
     awk -v answers="$1" '
         function record(text) { number++; if (!answers) print text }
@@ -115,7 +115,7 @@ logical_tests() {
             }
             put("more", 700)
             answer("refused " number " full weight")
-            # what is dropped gives its room
+            # a removed row gives its room back
             record("{\"do\":\"drop-statement\",\"id\":\"10000\"}")
             put(10000, 700)
             put("more", 700)
@@ -123,8 +123,8 @@ logical_tests() {
         }' < /dev/null
 }
 
-# Entries with titles of 60,000 bytes; what weighs nothing more, one byte more, and what is left by a restore and a drop. Of all
-# that is taken the weight is added up here.
+# Entries with titles of 60,000 bytes; an edit without weight, one byte too many, and the room after a restore and a
+# removal. The weight of all accepted rows is added up here.
 weight() {
     awk -v answers="$1" '
         function record(text) { number++; if (!answers) print text }
@@ -177,10 +177,10 @@ weight() {
             record("{\"do\":\"amend\",\"name\":\"" name(1000) "\",\"kind\":\"ADDITIONAL_INFORMATION\",\"successors\":[\"" name(1001) \
                 "\",\"" name(1002) "\"],\"date\":\"2024-01-01\"}")
             full()
-            # other reasons come before the weight
+            # other reasons have precedence over the weight
             add("q", long)
             answer("refused " number " exists")
-            # a restore gives back what the successors weigh, and takes a note
+            # a restore gives back the weight of the successors, and needs that of a note
             record("{\"do\":\"restore\",\"name\":\"" name("q") "\",\"date\":\"2024-01-02\"}")
             left = named("p") + named(1001) - 42
             check(letters(left - 31), "TRUE")
@@ -189,7 +189,7 @@ weight() {
             check(letters(left - 32), "ERROR")
             check("", "TRUE")
             full()
-            # what is dropped weighs nothing any more
+            # removed rows weigh nothing any more
             record("{\"do\":\"drop-check\",\"system\":\"\",\"href\":\"\",\"id\":\"" letters(left - 32) "\"}")
             check("", "TRUE")
             check(letters(left - 63), "TRUE")
@@ -198,7 +198,7 @@ weight() {
         }' < /dev/null
 }
 
-# Items of advise; a question over the last of them, and an advisory, which has a limit of its own.
+# Items of advise; a question over the last of them, and an advisory, which have a limit of their own.
 advised_items() {
     awk -v answers="$1" '
         function record(text) { number++; if (!answers) print text }
@@ -214,7 +214,7 @@ advised_items() {
             record("{\"do\":\"advisory\",\"id\":\"a\",\"name\":\"cpe:/a:v:p9999\",\"start\":\"98\"}")
             record("{\"do\":\"affected\",\"id\":\"a\"}")
             answer("affected a 2\nitem cpe:2.3:a:v:p9999:98:*:*:*:*:*:*:*\nitem cpe:2.3:a:v:p9999:99:*:*:*:*:*:*:*")
-            # one goes, and there is room again
+            # one is removed, and there is room again
             item("drop-item", most - 2)
             item("item", most)
             item("item", most - 2)
@@ -248,8 +248,8 @@ advisories() {
         }' < /dev/null
 }
 
-# Items of advise with names of 60,000 bytes; what weighs nothing more, and one byte more, of an item and of an advisory. Of all that
-# is taken the weight is added up here.
+# Items of advise with names of 60,000 bytes; an edit without weight, and one byte too many, for an item and for an
+# advisory. The weight of all accepted rows is added up here.
 advised_weight() {
     awk -v answers="$1" '
         function record(text) { number++; if (!answers) print text }
@@ -286,7 +286,7 @@ advised_weight() {
             put("b", letters(rest - 255), letters(256))
             full()
             put("b", letters(rest - 256), letters(256))
-            # now nothing is left, for any kind of row; other reasons come before
+            # now nothing is left, for any kind of row; other reasons have precedence
             record("{\"do\":\"item\",\"name\":\"cpe:/\"}")
             full()
             record("{\"do\":\"advisory\",\"id\":\"c\",\"name\":\"cpe:/\"}")
@@ -295,7 +295,7 @@ advised_weight() {
             answer("refused " number " exists")
             put("b", letters(256), letters(256))
             answer("refused " number " exists")
-            # what is dropped weighs nothing any more
+            # removed rows weigh nothing any more
             record("{\"do\":\"drop-advisory\",\"id\":\"b\"}")
             item("y" letters(400 - weighs("")))
             full()
@@ -309,7 +309,7 @@ advised_weight() {
         }' < /dev/null
 }
 
-# The most memory that the program has had, in MiB, as long as it runs.
+# The most memory that the program has held, in MiB, read while it runs.
 watches() {
     while sleep 1; do
         awk '/^VmHWM:/ { print int($2 / 1024) }' "/proc/$(cat "$room/process")/status" > "$room/look" 2> /dev/null || break
@@ -323,7 +323,7 @@ tries() {
     mkfifo "$room/wanted"
     "$3" 1 > "$room/wanted" &
     "$3" '' | {
-        # (what runs in the background has no standard input but one that is named)
+        # (a process in the background has no standard input unless one is named)
         exec 3<&0
         "$program" "$2" <&3 3<&- &
         echo $! > "$room/process"
@@ -360,7 +360,8 @@ covered_names() {
         }' < /dev/null
 }
 
-# Names of 60,000 bytes; what weighs nothing more, and one byte more. Of all that is taken the weight is added up here.
+# Names of 60,000 bytes; an edit without weight, and one byte too many. The weight of all accepted rows is added up
+# here.
 covered_weight() {
     awk -v answers="$1" '
         function letters(count,   text) {

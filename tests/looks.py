@@ -1,12 +1,15 @@
 #!/usr/bin/env python3
-"""Whether kept names are compared by counted looks alone: TRUST 11 names each exception.
+"""Whether kept names are compared only by counted looks: TRUST 11 names each exception.
 
 usage: looks.py
 
-A kept name is one in a table (`name_index::NameTable`). `look` hands it out for a comparison, and counts a step. `name` and `get` hand it
-out for an answer, for its text or for its product alone. Ends with status 0 if all of this holds, and with 1 and the differences otherwise:
-- RELATING has each source that calls a relation of names or of values, of the crates that stand on the table and those below them;
-- in each source that looks at kept names, no function that calls a relation, or hands names to one that does, calls `name` or `get`;
+A kept name is one in a table (`name_index::NameTable`). `look` hands it out for a comparison, and counts a step. `name`
+and `get` hand it out for an answer, for its text or for its product alone. Ends with status 0 if all of this holds, and
+with 1 and the differences otherwise:
+- RELATING has each source that calls a relation of names or of values, of the crates above the table and those below
+  them;
+- in each source that looks at kept names, no function that calls a relation, or hands names to one that does, calls
+  `name` or `get`;
 - NAMING has each source that calls `name` or `get` of a table.
 """
 
@@ -19,30 +22,30 @@ CRATES = TOP / "crates"
 # The sources that call a relation, and whence they have the names: LOOK, or the reason why no step is counted.
 LOOK = "the table's `look`"
 RELATING = {
-    "cpe_ranges/src/advised.rt": "an advisory has its names itself",
-    "checked_certificates/src/relates.rt": "a certificate is tested by names that are lent to it",
+    "advise_ranges/src/advised.rt": "an advisory has its names itself",
+    "certificate_check/src/relates.rt": "a certificate is tested by names that are lent to it",
     "level_board/src/counting.rt": LOOK,
     "library_tests/src/names.rt": "a test",
     "name_index/src/near.rt": LOOK,
-    "name_lines/src/pairs.rt": "a line has both names",
+    "cpe_command/src/pairs.rt": "a line has both names",
     "names_in_order/src/growing.rt": LOOK,
     "product_orders/src/covered.rt": "products are compared, and no names",
-    "talks/src/pairs.rt": "a call has both names",
+    "c_calls/src/pairs.rt": "a call has both names",
     "target_index/src/counting.rt": LOOK,
     "target_index/src/meeting.rt": LOOK,
 }
 # The sources that call `name` or `get` of a table, and what for.
 NAMING = {
-    "cpe_inventory/src/slots.rt": "an answer by place",
-    "cpe_ranges/src/view.rt": "an answer by place",
-    "cpe_registry/src/ends.rt": "where an entry leads, by its number",
-    "cpe_registry/src/faults.rt": "an entry's fault, by its number",
-    "cpe_registry/src/items.rt": "an answer by place",
-    "cpe_registry/src/registry.rt": "an answer by place, and `name` of the registry",
+    "check_results/src/slots.rt": "an answer by place",
+    "advise_ranges/src/view.rt": "an answer by place",
+    "name_registry/src/ends.rt": "where an entry leads, by its number",
+    "name_registry/src/faults.rt": "an entry's fault, by its number",
+    "name_registry/src/items.rt": "an answer by place",
+    "name_registry/src/registry.rt": "an answer by place, and `name` of the registry",
     "cpe_engine/src/leading.rt": "an answer: the ends of a name",
     "engine_edits/src/edits.rt": "the weight of a row",
     "engine_edits/src/entries.rt": "the ends of an entry, by the plan of its change",
-    "entries_in_order/src/growing.rt": "an answer by place",
+    "cpe_dictionary/src/growing.rt": "an answer by place",
     "name_index/src/table.rt": "their definition",
     "names_in_order/src/growing.rt": "an answer by place",
     "target_index/src/parts.rt": "whether a name or its product has a special",

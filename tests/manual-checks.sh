@@ -1,11 +1,12 @@
 #!/bin/sh
-# Checks of the manual page and of the pages on crates: sh tests/manual-checks.sh [PROGRAM]. The manual page renders without a
-# warning, its lists are those of the code, and its examples write what it says. The pages on crates are what the sources say.
+# Checks of the manual page and of the pages on crates: sh tests/manual-checks.sh [PROGRAM]. The manual page renders
+# without a warning, its lists are those of the code, and its examples have the output in the page. The pages on crates
+# agree with the sources.
 . "$(dirname "$0")/checks.sh"
 
 page=docs/cpe.1
 
-# heads SECTION [SUBSECTION]: the bold words of each .TP there, one line each, sorted; what is slanted is left away.
+# heads SECTION [SUBSECTION]: the bold words of each .TP there, one line each, sorted; slanted words are left out.
 heads() {
     awk -v section="$1" -v part="${2-}" '
         /^\.SH / { at = substr($0, 5); part_at = "" }
@@ -22,8 +23,8 @@ heads() {
         $0 == ".TP" { is_head = 1 }' "$page" | sort
 }
 
-# codes FUNCTION FILE: the texts that a function of a specification gives, one line for each of its cases, sorted. A number or
-# a name after a text is left away.
+# codes FUNCTION FILE: the texts of a function in a specification, one line for each of its cases, sorted. A number or a
+# name after a text is left out.
 codes() {
     awk -v name="$1" '
         index($0, name " ") == 1 && / = / {
@@ -38,7 +39,7 @@ codes() {
         }' "$2" | sort
 }
 
-# are_one WHAT: whether the lists in room, of the code and of the page, have the same lines; and there are some.
+# are_one WHAT: whether the lists in $room, of the code and of the page, have the same lines, and at least one.
 are_one() {
     if [ ! -s "$room/code" ]; then
         fail "$1" 'no list was found in the code'
@@ -50,33 +51,33 @@ are_one() {
     fi
 }
 
-# The reasons, wherever a line is refused. In two of them words of a further list stand at the end or in the middle.
+# All reasons for which a line is refused. Two of them contain words of another list, at the end or in the middle.
 reasons_of_code() {
-    reasons=crates/cpe_replies/specs/Reasons.antt
-    sed -n 's/.*= Err (codes "\(.*\)").*/\1/p' crates/cpe_session/specs/Session.antt
-    codes name_reason_text crates/name_lines/specs/Names.antt
-    codes pair_reason_text crates/name_lines/specs/Pairs.antt
+    reasons=crates/line_replies/specs/Reasons.antt
+    sed -n 's/.*= Err (codes "\(.*\)").*/\1/p' crates/line_session/specs/Session.antt
+    codes name_reason_text crates/cpe_command/specs/Names.antt
+    codes pair_reason_text crates/cpe_command/specs/Pairs.antt
     codes record_fault_text "$reasons" | grep -v -e '^name' -e '^attribute'
     codes spot_text "$reasons" | sed 's/^/name /'
     codes spot_text "$reasons" | sed 's/^/attribute /'
     codes edit_fault_text "$reasons" | grep -v '^full'
     codes which_word "$reasons" | sed 's/^/full /'
-    codes reason_text crates/cpe_convert/specs/Convert.antt
-    reasons=crates/cpe_ranges/specs/Reasons.antt
+    codes convert_reason_text crates/convert_lines/specs/Convert.antt
+    reasons=crates/advise_ranges/specs/Reasons.antt
     codes read_fault_text "$reasons"
-    codes edit_fault_text "$reasons" | grep -v '^full'
-    codes which_word "$reasons" | sed 's/^/full /'
-    codes which_word crates/cpe_cover/specs/Reasons.antt | sed 's/^/full /'
+    codes advice_fault_text "$reasons" | grep -v '^full'
+    codes advice_which_word "$reasons" | sed 's/^/full /'
+    codes names_which_word crates/cover_lines/specs/Reasons.antt | sed 's/^/full /'
 }
 
 # The limits, as a word and a number.
 limits_of_code() {
-    cat crates/cpe_rows/src/limits.rt crates/cpe_ranges/src/limits.rt crates/cpe_cover/src/limits.rt |
+    cat crates/cpe_rows/src/limits.rt crates/advise_ranges/src/limits.rt crates/cover_lines/src/limits.rt |
         sed -n 's/^pub const MOST_\([A-Z_]*\): u[a-z0-9]* = \([0-9_]*\);$/\1 \2/p' |
         tr -d _ | sed 's/^LEVELS/depth/; s/^IDBYTES/id/' | tr '[:upper:]' '[:lower:]'
     sed -n 's/^pub const LONGEST: usize = \([0-9]*\);$/line \1/p' crates/cpe_io/src/line.rt
-    sed -n 's/^pub const MOST_BYTES: u64 = 1 << \([0-9]*\);$/\1/p' crates/cpe_session/src/session.rt | awk '{ n = 1; for (k = 0; k < $1; k++) n *= 2; printf "input %.0f\n", n }'
-    sed -n 's/^pub const MOST_LINES: u32 = \([0-9_]*\);$/N \1/p' crates/cpe_drill/src/line.rt | tr -d _
+    sed -n 's/^pub const MOST_BYTES: u64 = 1 << \([0-9]*\);$/\1/p' crates/line_session/src/session.rt | awk '{ n = 1; for (k = 0; k < $1; k++) n *= 2; printf "input %.0f\n", n }'
+    sed -n 's/^pub const MOST_LINES: u32 = \([0-9_]*\);$/N \1/p' crates/drill_lines/src/line.rt | tr -d _
 }
 
 limits_of_page() {
@@ -106,20 +107,20 @@ compares_lists() {
     heads RECORDS Kinds > "$room/page"
     are_one 'the kinds of records on the manual page are those of the code'
 
-    codes key_of crates/cpe_members/specs/Keys.antt > "$room/code"
+    codes key_of crates/record_members/specs/Keys.antt > "$room/code"
     heads RECORDS Members > "$room/page"
     are_one 'the members of records on the manual page are those of the code'
 
-    codes record_word crates/cpe_ranges/specs/Reading.antt > "$room/code"
+    codes advice_word crates/advise_ranges/specs/Reading.antt > "$room/code"
     heads 'RECORDS OF ADVISE' Kinds > "$room/page"
     are_one 'the kinds of records of advise on the manual page are those of the code'
 
-    codes key_of crates/cpe_ranges/specs/Reading.antt > "$room/code"
+    codes advice_key_of crates/advise_ranges/specs/Reading.antt > "$room/code"
     heads 'RECORDS OF ADVISE' Members > "$room/page"
     are_one 'the members of records of advise on the manual page are those of the code'
 
     for kind in kind_word note_kind_word mode_word operator_word truth_word; do
-        codes "$kind" crates/cpe_members/specs/Words.antt
+        codes "$kind" crates/record_members/specs/Words.antt
     done | sort > "$room/code"
     while read -r word; do
         sed -n '/^\.SS Members/,/^\.SH /p' "$page" | grep -qE "^\.[BIR]+ $word( |\$)" || continue
@@ -134,14 +135,14 @@ compares_lists() {
     are_one 'the commands of the synopsis are those of the usage line'
 
     {
-        sed -n 's/^    [A-Z][A-Za-z]* = \([0-9]*\),$/\1/p' crates/cpe_session/src/status.rt
+        sed -n 's/^    [A-Z][A-Za-z]* = \([0-9]*\),$/\1/p' crates/line_session/src/status.rt
         sed -n 's/^const NO_WORDS: u8 = \([0-9]*\);$/\1/p' crates/cpe/src/main.rt
     } | sort > "$room/code"
     heads 'EXIT STATUS' > "$room/page"
     are_one 'the statuses of the manual page are those of the code'
 }
 
-# renders WHAT TOOL WORD..: without a word about it, and with something to read.
+# renders WHAT TOOL WORD..: a page renders without a warning, and isn't empty.
 renders() {
     what="the manual page renders without a warning: $1"
     shift
@@ -153,7 +154,7 @@ renders() {
 }
 
 renders_page() {
-    # (where the system leaves manuals out, man may be a script that only says so)
+    # (if the system has no manuals, man may be a script that only says so)
     if has man && man --version > /dev/null 2>&1; then
         renders 'man' man --warnings -E UTF-8 -l "$page"
         grep -q 'refused 2 name 12' "$room/rendered" || fail 'the manual page renders: man' 'an example is missing'
@@ -167,7 +168,7 @@ renders_page() {
     judge "$what" $? 0 /dev/null
 }
 
-# (the program that is installed is the one in build/, which is up to date or else no concern of this check)
+# (the installed program is the one in build/; whether that is up to date doesn't matter here)
 installs_page() {
     what='make install puts the manual page where man finds it'
     needs "$what" make install || return
@@ -179,7 +180,7 @@ installs_page() {
     cmp -s "$page" "$room/installed/usr/share/man/man1/cpe.1" || fail "$what" 'it is not there'
 }
 
-# As sessions of a text: indented, and with each escape as the byte for which it stands.
+# Like sessions of a text: indented, and with each escape replaced by its byte.
 examples() {
     awk '
         /^\.SH / { is_section = $0 == ".SH EXAMPLES" }
@@ -190,15 +191,15 @@ examples() {
             gsub(/\\\(aq/, "\047")
             gsub(/\\-/, "-")
             gsub(/\\&/, "")
-            # (an escape that is not known here stays, and its session fails)
+            # (an unknown escape stays unchanged, and its session fails)
             gsub(/\\e/, "\\")
             print "    " $0
         }' "$page"
 }
 
-# docs/CITATIONS.md and docs/CONTRACTS.md are what the sources say. docs/ARCHITECTURE.md has each crate in one area, and the lines of its
-# map are right. No line of a document is too long, no cell of a table, and each link has its target. Kept names are compared by counted
-# looks, except where docs/TRUST.md says so.
+# docs/CITATIONS.md and docs/CONTRACTS.md agree with the sources. docs/ARCHITECTURE.md has each crate in one area, and
+# the lines of its map are right. No line of a document and no cell of a table is too long, and each link has its
+# target. Kept names are compared by counted looks, except as docs/TRUST.md says.
 compares_documents() {
     for it in citations contracts areas edges documents looks; do
         needs "documents and sources: tests/$it.py" python3 || continue

@@ -1,13 +1,13 @@
 #!/bin/sh
-# Checks of the package for Debian, unpacked in a fresh folder, and of the completions: sh tests/package-checks.sh [PROGRAM]. The
-# package is made over build/cpe, and nothing is built for it.
+# Checks of the package for Debian, unpacked in a fresh folder, and of the completions: sh tests/package-checks.sh
+# [PROGRAM]. The package is made over build/cpe, and nothing is built for it.
 . "$(dirname "$0")/checks.sh"
 
 version=$(sed -n 's/^VERSION = //p' Makefile)
 here=$PWD
 fresh=$room/fresh
 
-# unpacks: makes the package as make deb does, and unpacks it, or skips all of it.
+# unpacks: makes the package as make deb does, and unpacks it, or skips all checks of it.
 unpacks() {
     what='the package for Debian'
     needs "$what" dpkg dpkg-deb make install gzip md5sum find sort tail awk || return
@@ -22,7 +22,7 @@ unpacks() {
 
 has_library() { [ -f build/libcpe.a ] && [ -f build/libcpe.so ]; }
 
-# The files that it is to have.
+# The files that it has to contain.
 wanted_files() {
     echo usr/bin/cpe
     echo usr/share/bash-completion/completions/cpe
@@ -57,7 +57,7 @@ has_files() {
     judge 'its checksums are those of its files' $? 0 /dev/null
 }
 
-# Folders and files can be read by all and written by root alone, to whom they belong, and the program alone is executable.
+# Folders and files belong to root, all can read them, root alone can write them, and only the program is executable.
 has_modes() {
     dpkg-deb -c "$package" | awk '
         { wanted = "-rw-r--r--" }
@@ -68,7 +68,7 @@ has_modes() {
     judge 'its files have the right modes, and belong to root' 0 0 /dev/null
 }
 
-# What dpkg reads of it.
+# The fields that dpkg reads from it.
 has_fields() {
     {
         echo 'Package: cpe'
@@ -89,7 +89,7 @@ has_fields() {
 # sessions_of PAGE HEADING: the sessions in a part of a page.
 sessions_of() { awk -v wanted="$2" '/^#+ / { is_part = $0 == wanted } is_part' "$here/$1"; }
 
-# The first examples of the pages, where nothing but the package is.
+# The first examples of the pages, with nothing but the package.
 answers_unpacked() {
     mkdir -p "$room/try/build"
     ln -s "$fresh/usr/share/cpe/recipes" "$room/try/recipes"
@@ -104,11 +104,11 @@ answers_unpacked() {
     cd "$here" || exit 2
 }
 
-# The units of the service are of systemd's form, and shut off what the service doesn't need.
+# The units of the service are valid for systemd, and restrict the service to what it needs.
 has_units() {
     what='the units of the service'
     needs "$what" systemd-analyze || return
-    # (what they run isn't there, and nothing is enabled)
+    # (the commands of the units don't exist here, and nothing is enabled)
     mkdir "$room/units"
     for it in "$fresh"/usr/lib/systemd/system/*; do sed 's|^ExecStart=[^ ]*|ExecStart=/bin/true|' "$it" > "$room/units/$(basename "$it")"; done
     limited systemd-analyze verify --man=no --recursive-errors=no "$room"/units/* > "$room/out" 2>&1
@@ -121,7 +121,8 @@ has_units() {
     done
 }
 
-# What the units run serves with the user, the files and the system calls that they leave it. (systemd needn't run for that.)
+# The commands of the units work with the user, the files and the system calls that the units allow. (This doesn't need
+# a running systemd.)
 runs_units() {
     what='what the units run'
     needs "$what" systemd-analyze unshare mount findmnt || return
@@ -140,7 +141,7 @@ runs_units() {
     [ "$status" = 0 ] || tail -n 5 "$room/said"
 }
 
-# The service, where nothing but the package is, begins with the samples and has their verdicts.
+# The service, with nothing but the package, begins with the samples and has their verdicts.
 serves_unpacked() {
     what='the service of the package'
     needs "$what" curl || return
@@ -165,7 +166,7 @@ serves_unpacked() {
     judge "$what begins with the samples, and has their verdicts" 0 0 "$room/wanted"
 }
 
-# The library is linked with as cpe.pc says, but that it isn't where it will be.
+# A program can be linked with the library as cpe.pc says, except that the library isn't in its final place here.
 links_unpacked() {
     what='the library of the package'
     has_library || { skip "$what" 'it is not built: make library'; return; }
@@ -176,7 +177,7 @@ links_unpacked() {
     status=$?
     echo "$version" > "$room/wanted"
     judge "$what tells its version" "$status" 0 "$room/wanted"
-    # (pkg-config leaves folders out in which the compiler looks anyway)
+    # (pkg-config omits folders in which the compiler looks anyway)
     cc tests/library/lines.c $(PKG_CONFIG_ALLOW_SYSTEM_CFLAGS=1 PKG_CONFIG_ALLOW_SYSTEM_LIBS=1 pkg-config --cflags --libs cpe) -o "$room/lines" \
         2> "$room/error" || { fail "$what" "$(head -n 1 "$room/error")"; return; }
     limited "$fresh/usr/bin/cpe" unbind < examples/mixed.txt > "$room/wanted"
@@ -184,7 +185,7 @@ links_unpacked() {
     judge "$what answers a program in C" $? 1 "$room/wanted"
 }
 
-# completes SHELL WANTED WORD..: what the shell offers for the last of these words, with a space between them.
+# completes SHELL WANTED WORD..: the words that the shell offers for the last of these words, with a space between them.
 completes() {
     shell=$1
     echo "$2" > "$room/wanted"
@@ -197,7 +198,7 @@ completes() {
     judge "$what" "$status" 0 "$room/wanted"
 }
 
-# (that files are to be offered is printed)
+# (prints whether files would be offered)
 offers_bash() {
     limited bash --norc -c '
         compopt() { echo "$*"; }
@@ -208,7 +209,7 @@ offers_bash() {
         printf "%s\n" "${COMPREPLY[@]}"' bash "$@"
 }
 
-# (here what zsh offers by itself is printed: of a list what fits, without what is said of each)
+# (zsh's own functions are replaced by printing: of a list the words that fit, without their descriptions)
 offers_zsh() {
     limited zsh -f -c '
         _describe() {

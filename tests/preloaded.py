@@ -1,4 +1,5 @@
-"""Runs a program with fail_calls.c loaded before the C library, which lets calls of the program fail, and counts them."""
+"""Runs a program with fail_calls.c loaded before the C library, which lets calls of the program fail, and counts
+them."""
 import collections
 import os
 import pathlib
@@ -22,7 +23,8 @@ def compiled(room):
 
 
 def run(words, shim, lines, told):
-    """How a run over these lines ends, of which the shim is told this. What it says on standard error stands in the output."""
+    """The status and output of a run over these lines, with these settings of the shim. Standard error is part of the
+    output."""
     source, end = os.pipe()
     with open(source, "rb") as counts:
         environment = {"LD_PRELOAD": shim, "TELL": str(end), **told}
@@ -31,6 +33,6 @@ def run(words, shim, lines, told):
         finally:
             os.close(end)
         output, _ = child.communicate(timeout=LONGEST)
-        # (none come where the program isn't linked with the C library as it runs, or where it is killed)
+        # (there are none if the program isn't dynamically linked with the C library, or is killed)
         calls = (counts.read().split() + [b"0"] * 4)[:4]
     return Ended(child.returncode, output, *map(int, calls))

@@ -1,11 +1,13 @@
-"""Makes and tests certificates by itself, and tries what `cpe explain` and `cpe check` make of the same records.
+"""Makes and tests certificates by itself, and compares them with those of `cpe explain` and `cpe check` on the same
+records.
 
     python3 tests/proofs.py PROGRAM [--changes N]
 
-Some rows are kept here as records say, by a second reading of NIST IR 7697 and 7698 that knows simple names alone: each attribute is ANY
-or a plain text, and those of an item may have patterns too. `explain` has to write the certificates that are made here, and `check` to say of each that it holds. Then one token of a
-good certificate is changed, N times (1,000): `check` may say `holds` only where the changed one is good by the test that stands here, and
-has to say so there. The status is 0 where nothing failed.
+It keeps some rows as records state them, by a second implementation of NIST IR 7697 and 7698 for simple names: each
+attribute is ANY or a plain text, and those of an item may have patterns too. `explain` has to write the certificates
+that are made here, and `check` has to accept each of them. Then one token of a good certificate is changed, N times
+(1,000). If `check` says `holds`, the changed certificate has to be good by the test in this file, and if it is good,
+`check` has to say so. The status is 0 if nothing failed.
 """
 
 import argparse
@@ -96,7 +98,7 @@ class Rows:
                         yield item, end, other
 
     def first_fit(self, mode, fact):
-        """With the truth that it makes; what is covered comes before what may be."""
+        """The first child with the truth that it makes; a covered item is before one that may be covered."""
         for truth, relates in (('TRUE', covers), ('UNKNOWN', may_cover)):
             fit = next(self.fits(mode, fact, relates), None)
             if fit is not None:
@@ -194,7 +196,8 @@ def has_form(given, depth=1):
 
 
 def says_of(rows, text):
-    """What `check` has to say: `holds`, `fails`, `absent`, or None where it is refused or the test here doesn't tell which."""
+    """What `check` has to answer: `holds`, `fails`, `absent`, or None if it refuses the line or the test here doesn't
+    know."""
     try:
         proof = json.loads(text)
     except ValueError:

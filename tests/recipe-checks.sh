@@ -1,13 +1,13 @@
 #!/bin/sh
-# Checks of the short recipes, each over its sample, over bad feeds, and where a worker dies: sh tests/recipe-checks.sh [PROGRAM].
-# (tests/scan-checks.sh has the whole way, and the unit tests.)
+# Checks of the short recipes: on their samples, on bad feeds, and with workers that die: sh tests/recipe-checks.sh
+# [PROGRAM]. (tests/scan-checks.sh has the whole way, and the unit tests.)
 . "$(dirname "$0")/checks.sh"
 
 CPE=$program
 export CPE
 samples=recipes/samples
 
-# recipe WHAT STATUS OUTPUT SAID COMMAND..: what a command writes, and what it says on standard error.
+# recipe WHAT STATUS OUTPUT SAID COMMAND..: the output of a command, and its messages on standard error.
 recipe() {
     what=$1 wanted_status=$2 wanted=$3 said=$4
     shift 4
@@ -15,7 +15,7 @@ recipe() {
     judge "$what" $? "$wanted_status" "$wanted" "$said"
 }
 
-# converts NAME SAMPLE: a recipe on its sample, in which there are odd records.
+# converts NAME SAMPLE: a recipe on its sample, which has odd records too.
 converts() {
     needs "the recipe $1 on $2" python3 || return
     recipe "the recipe $1 on $2" 1 "$samples/$2.jsonl" "$samples/$2.said" sh "recipes/$1.sh" "$samples/$2.json"
@@ -26,7 +26,7 @@ converts() {
     judge "the records of the recipe $1 on $2 are accepted" "$status" 0 /dev/null
 }
 
-# says WHAT STATUS LINE NAME FILE..: a recipe over feeds of which none gives a record, with the beginning of the only line that it says.
+# says WHAT STATUS LINE NAME FILE..: a recipe over feeds without a record; LINE is the beginning of its only message.
 says() {
     what=$1 wanted_status=$2 front=$3 name=$4
     shift 4
@@ -40,8 +40,8 @@ says() {
     fi
 }
 
-# refuses_feeds NAME SAMPLE EMPTY STATUS SAID: bad feeds, alone and beside a good one. EMPTY is a right feed with nothing in it,
-# for which the status and the beginning of what is said are these.
+# refuses_feeds NAME SAMPLE EMPTY STATUS SAID: bad feeds, alone and beside a good one. EMPTY is a good feed without
+# records; STATUS and SAID are the status and the beginning of the message for it.
 refuses_feeds() {
     needs "bad feeds: $1" python3 wc || return
     : > "$room/no-bytes.json"
@@ -103,7 +103,7 @@ compares_runs() {
     recipe "$what" 1 "$room/wanted" "$room/wanted.said" sh recipes/changes.sh "$samples/machines.out" "$room/after.out"
 }
 
-# What is shown beside the verdicts, over the samples of ranges.
+# The output beside the verdicts, over the samples of ranges.
 lists_items() {
     needs 'what is shown beside the verdicts' python3 grep || return
     makes_ranges
@@ -119,9 +119,9 @@ lists_items() {
     judge 'advisories of the products of a machine' "$status" 0 "$samples/products.out" "$samples/products.said"
 }
 
-# A program in room that is cpe, but once it reads the beginning of its input and then kills what runs it, a worker, and once itself.
-# (The same piece may be the one that is hit twice, and a third time it would be given up.) What a fleet asks before its workers
-# begin has no statements, and is left in peace.
+# A program in $room that is cpe, except that it once reads the beginning of its input and then kills the worker that
+# started it, and once kills itself. (Both may hit the same piece, and a third death would give it up.) Runs of a fleet
+# before its workers start have no statements, and aren't killed.
 killing() {
     rm -rf "$room/killed."*
     {
@@ -151,12 +151,12 @@ END
     chmod +x "$room/killing"
 }
 
-# killed WHAT: whether both deaths took place.
+# killed WHAT: whether both deaths happened.
 killed() {
     if ! [ -d "$room/killed.above" ] || ! [ -d "$room/killed.itself" ]; then fail "$1" 'nothing was killed'; fi
 }
 
-# The words without state: order, numbers of refused lines and statuses are those of one run.
+# The commands without state: the order, the numbers of refused lines and the statuses are those of one run.
 goes_over_lines() {
     what='the words without state over GNU parallel'
     needs "$what" parallel python3 || return
@@ -186,12 +186,12 @@ makes_ranges() {
     sh recipes/advisories.sh --ranges "$room/ranges" "$of/advisories.json" >> "$room/ranged" 2> /dev/null
 }
 
-# items NAME..: records of these items. (A name stands in them as a text of JSON.)
+# items NAME..: records of these items. (A name in them is a text of JSON.)
 items() {
     for item in "$@"; do printf '%s\n' "$item"; done | sed 's/[\"]/\\&/g; s/.*/{"do":"item","name":"&"}/'
 }
 
-# What is decided of them, and what cpe evaluate says of each machine with that.
+# The results of their ranges, and the verdicts of cpe evaluate for each machine with these.
 evaluates_ranges() {
     makes_ranges
     python3 -B recipes/decide.py --ranges "$room/ranges" --records "$room/ranged" --machines "$room/ranged.txt" \
@@ -207,7 +207,7 @@ evaluates_ranges() {
         } | limited "$program" evaluate | sed -n "s/^verdict /$machine /p"
     done < "$room/ranged.txt" > "$room/ranged.out"
     echo "machines $(grep -c . "$room/ranged.txt")" >> "$room/ranged.out"
-    # (a fleet asks for redislabs:redis under the name that the product has now, and then knows less)
+    # (a fleet also uses the present name of redislabs:redis, and then is less sure)
     sed 's/^desk-1 CVE-2024-98003 FALSE/desk-1 CVE-2024-98003 UNKNOWN/' "$room/ranged.out" > "$room/changed.out"
     mv "$room/changed.out" "$room/ranged.out"
     redis='cpe:2.3:a:redislabs:redis:6.2.5:*:*:*:*:*:*:*'
@@ -239,19 +239,20 @@ checks_fleet() {
     judge "$what" 0 0 "$samples/machines.out"
 }
 
-# fleet WHAT COMMAND..: the machines of the sample, once quietly, and once where workers are killed; and those of the ranges.
+# fleet WHAT COMMAND..: the machines of the sample, once undisturbed, and once with workers that are killed; and those
+# of the ranges.
 fleet() {
     fleet=$1
     shift
-    # (to a fleet, unlike cpe evaluate, the one machine may have Debian, since its list has no operating system, and the other the suite
-    # for desktops, since its list doesn't say which it has)
+    # (a fleet, unlike cpe evaluate, considers what lists don't name: the one machine may have Debian, because its list
+    # has no operating system, and the other may have the suite for desktops)
     sed -e 's/^desk-1 CVE-2024-99005 TRUE/desk-1 CVE-2024-99005 UNKNOWN/' -e 's/^odd CVE-2024-99007 FALSE/odd CVE-2024-99007 UNKNOWN/' \
         "$samples/machines.out" > "$room/fleet.out"
     recipe "$fleet" 1 "$room/fleet.out" "$samples/machines.said" "$@" "$room/records" "$samples/machines.txt"
     killing
     limited env CPE="$room/killing" "$@" "$room/records" "$samples/machines.txt" > "$room/out" 2> "$room/said" < /dev/null
     status=$?
-    # (an engine may say on its own that a worker is gone)
+    # (an engine may report by itself that a worker has ended)
     grep '^left out ' "$room/said" > "$room/error"
     judge "$fleet: workers that are killed lose nothing" "$status" 1 "$room/fleet.out" "$samples/machines.said"
     killed "$fleet"
@@ -279,7 +280,7 @@ goes_over_a_fleet() {
     fi
 }
 
-# What is nearly a snapshot is refused, or is another one; tests/snapshots.py tells which.
+# What is nearly a snapshot is refused, or is another snapshot; tests/snapshots.py says which.
 reads_snapshots() {
     what='snapshots, and bytes that are nearly one'
     needs "$what" python3 || return
@@ -289,14 +290,14 @@ reads_snapshots() {
     judge "$what" "$status" 0 /dev/null
 }
 
-# (what is shown of more machines needs what was made above it)
+# (the pages of more machines need those made above)
 answers_readme() {
     what="the sessions of the recipes' README"
     needs "$what" python3 || return
     if needs "$what, of more machines" parallel; then
         answers_sessions "$what" < recipes/README.md
     else
-        # (not by a pipe, in which a failure would be counted by a shell of its own)
+        # (not in a pipe, where a subshell would count the failure)
         sed '/^## More than one machine/,$d' recipes/README.md > "$room/sessions"
         answers_sessions "$what" < "$room/sessions"
     fi

@@ -1,14 +1,15 @@
 #!/usr/bin/env python3
 """Refuses each allocation of short sessions in turn: refused-memory.py [PROGRAM [TESTS]].
 
-PROGRAM is build/cpe if left out, and TESTS the program of the tests in crates/engine_tests, as the gate leaves it. A session is a
-command on one of the vectors beside this file. The allocations of a whole run are counted, and then it is run once for each of them,
-which is refused alone, and once where all after it are refused too; each with its input as reads give it, and in single bytes, where
-every answer is written before the next line is read. A run must end with status 5 and a prefix of the output, in whole lines; or with
-status 7 and no output, where the words of the command line find no memory; or, where the program does without what it was refused, as
-the whole run ended. Standard error must be empty. Of TESTS, the test of an engine that goes on must pass whichever allocation is
-refused alone. The status is 0 where all is so. Without a C compiler all is SKIPPED, and without TESTS that test, which is said, and
-counts as no pass.
+PROGRAM is build/cpe if left out, and TESTS the program of the tests in crates/engine_tests, as the gate builds it. A
+session is a command on one of the vectors beside this file. The allocations of a whole run are counted. Then there are
+two runs for each of them: one in which it alone is refused, and one in which all after it are refused too. In each of
+these the input is read as usual, or in single bytes; then every answer must be written before the next line is read. A
+run must end with status 5 and a prefix of the output, in whole lines; or with status 7 and no output, if the words of
+the command line find no memory; or as the whole run, if the program can do without the memory. Standard error must be
+empty. In TESTS, the test of an engine that continues must pass whichever allocation is refused alone. The status is 0
+if all of this holds. Without a C compiler all is SKIPPED, and without TESTS that test; this is reported, and doesn't
+count as passed.
 """
 import collections
 import concurrent.futures
@@ -37,7 +38,7 @@ SESSIONS = (
     "cover/bindings-and-letter-case",
 )
 # The test of an engine that gets each record once more for which it found no memory.
-GOES_ON = "again::an_engine_goes_on_after_memory_ran_out"
+GOES_ON = "again::an_engine_continues_after_memory_ran_out"
 SOME_REFUSED, MEMORY, NO_WORDS = 1, 5, 7
 READS = {"as they come": {}, "in single bytes": {"READ_MOST": "1"}}
 MODES = {"alone": {}, "and all behind it": {"REFUSE_ON": "1"}}

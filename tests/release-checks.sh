@@ -1,13 +1,13 @@
 #!/bin/sh
-# Checks of release/release.sh, in a small tree of its own with a release of this program: sh tests/release-checks.sh [PROGRAM].
-# The status is 0 if no check failed. What the gate built is compared with the real release by make test.
+# Checks of release/release.sh, in a small tree of its own with a release of this program: sh tests/release-checks.sh
+# [PROGRAM]. The status is 0 if no check failed. What the gate built is compared with the real release by make test.
 . "$(dirname "$0")/checks.sh"
 
 tree=$room/tree
 tools=$room/tools
 source_file=crates/cpe/src/main.rt
 
-# says WHAT STATUS WANTED TEXT: after a run that left its streams in room. This text is in one of them.
+# says WHAT STATUS WANTED TEXT: after a run that left its streams in $room; one of them has this text.
 says() {
     if [ "$2" != "$3" ]; then
         fail "$1" "status $2 in place of $3: $(head -n 1 "$room/error")"
@@ -29,7 +29,8 @@ gate() {
 
 commit() { git -C "$tree" add -A && git -C "$tree" -c user.name=cpe -c user.email=cpe@localhost commit -qm "$1"; }
 
-# plants: a tree with the sources of the program and no release, and an rt that proves nothing and says that it was called.
+# plants: makes a tree with the sources of the program and no release, and an rt that proves nothing and prints that it
+# was called.
 plants() {
     mkdir -p "$tree/release" "$tree/crates/cpe" "$tree/crates/low/specs" "$tools"
     cp Makefile .gitignore "$tree"
@@ -46,7 +47,7 @@ plants() {
     git -C "$tree" init -q && commit 'The sources.'
 }
 
-# Each reason for which there is no release of what the gate built.
+# Each reason why the gate's program can't be released.
 refuses_to_make() {
     release make 1.2.3
     says 'no release is made if the gate built nothing' $? 1 'the gate has not built the program from these sources'

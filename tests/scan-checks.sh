@@ -1,6 +1,7 @@
 #!/bin/sh
-# Checks of scan.py, and of the modules of all recipes: their unit tests, the samples of ranges against their truths, the same by
-# the short recipes, the page of report.py, feeds that must not look like an all-clear, and full disks: sh tests/scan-checks.sh [PROGRAM].
+# Checks of scan.py, and of the modules of all recipes: sh tests/scan-checks.sh [PROGRAM]. These are the unit tests, the
+# samples of ranges against their truths, the same by the short recipes, the page of report.py, feeds that must not look
+# like an all-clear, and full disks.
 . "$(dirname "$0")/checks.sh"
 
 CPE=$program
@@ -31,7 +32,7 @@ runs_unit_tests() {
     done
 }
 
-# The orders of versions against the tools whose orders they are, those that are here. (Python's modules are Debian's.)
+# The orders of versions against the tools with these orders, if they are installed. (Python's modules are Debian's.)
 compares_orders() {
     python=python3
     if /usr/bin/python3 -c 'import sys; sys.exit(sys.version_info < (3, 11))' 2> /dev/null; then python=/usr/bin/python3; fi
@@ -46,7 +47,7 @@ compares_orders() {
     done < "$room/tried"
 }
 
-# What the vendors mean, by hand, beside what comes out: no affected pair FALSE, no other one TRUE, few UNKNOWN.
+# The vendors' answers, by hand, beside the verdicts: no affected pair is FALSE, no other one TRUE, and few are UNKNOWN.
 counts_truths() {
     what='ranges of versions against their truths'
     # shellcheck disable=SC2046 # a word each
@@ -57,7 +58,7 @@ counts_truths() {
     judge "$what" "$status" 0 "$ranges/truths.out" "$ranges/table.said"
 }
 
-# The same where versions are those of packages, of which lists tell the kind, or don't.
+# The same for versions of packages, with and without their kinds in the lists.
 counts_orders() {
     what='versions of packages against their truths'
     orders=recipes/samples/orders
@@ -72,7 +73,7 @@ counts_orders() {
     judge 'the table of versions of packages' $? 0 "$orders/table.out" "$orders/table.said"
 }
 
-# What lists and dictionaries don't say, by hand, beside what comes out; and that less is UNKNOWN where a word says so.
+# What lists and dictionaries leave open, by hand, beside the verdicts; and fewer are UNKNOWN if an option decides it.
 counts_doubts() {
     set -- --dictionary "$doubts/dictionary.json" --advisories "$doubts/advisories.json" --lists "$doubts"/*-?.txt "$doubts"/*-db.txt "$doubts/box-1.cdx.json"
     what="what a list doesn't say against its truths"
@@ -87,8 +88,8 @@ counts_doubts() {
     judge "the same with --strict and --hardware none" $? 0 "$doubts/strict.out" "$doubts/table.said"
 }
 
-# The same of the lists of tools: all names of a component are read, wherever a tool writes them, and what has a package URL alone
-# (trivy-1, trivy-2) gets the names of names.txt.
+# The same for the lists of tools: all names of a component are read, wherever a tool writes them, and a component with
+# only a package URL (trivy-1, trivy-2) gets the names of names.txt.
 reads_lists() {
     of=recipes/samples/lists
     set -- --dictionary "$of/dictionary.json" --advisories "$of/advisories.json" --lists
@@ -116,7 +117,8 @@ reads_lists() {
     judge 'no inventory of package URLs that no table names' "$status" 2 /dev/null "$room/wanted.said"
 }
 
-# Lists that have no CPE names: package URLs alone, what package managers write, and locks, each against what is there by hand.
+# Lists without CPE names: only package URLs, output of package managers, and locks, each against a list of their
+# packages by hand.
 reads_package_lists() {
     of=recipes/samples/lists
     lists=$(for list in "$of"/packages/*.json "$of"/packages/*.txt; do case $list in */truths.txt) ;; *) echo "$list" ;; esac; done)
@@ -166,7 +168,7 @@ goes_step_by_step() {
     done
     limited python3 recipes/decide.py --ranges "$room/ranges" --records "$room/records" --matches "$ranges/matches.json" \
         --machines "$room/machines" > "$room/decided" 2> "$room/said"
-    # (the one item that is asked for under another name too, scan.py alone does)
+    # (only scan.py also finds the one item by its other name)
     while read -r machine items; do
         {
             cat "$room/records"
@@ -196,7 +198,7 @@ refuses() {
     fi
 }
 
-# A feed that isn't there must not look like an all-clear, wherever it stands. (The unit tests have more that is wrong with them.)
+# A missing feed must not look like an all-clear, wherever it is missing. (The unit tests have more faults.)
 refuses_feeds() {
     needs 'feeds that are no feeds' wc || return
     : > "$room/empty.json"
@@ -218,7 +220,7 @@ refuses_feeds() {
     CPE=$program
 }
 
-# What is written to a disk that is full, or is not written at all.
+# Output on a full disk is written whole, or not at all.
 minds_disks() {
     set -- --lists "$ranges/app-1.txt"
     if [ -c /dev/full ]; then
@@ -242,8 +244,8 @@ minds_disks() {
     judge 'a table without room for temporary files' $? 0 "$room/wanted"
 }
 
-# Feeds of several pages, in any order, one of them missing, and the same advisories in two files; and what changed where an advisory
-# isn't analysed any more, or isn't in the feeds.
+# Feeds of several pages, in any order, and with one of them missing; the same advisories in two files; and the changes
+# if an advisory isn't analysed any more, or isn't in the feeds.
 reads_pages() {
     pages=recipes/samples/pages
     year=$pages/nvdcve-2.0-2024.json modified=$pages/nvdcve-2.0-modified.json
@@ -304,10 +306,11 @@ reads_machines() {
     judge 'files that begin with a hyphen, and packed ones' $? 0 "$room/wanted"
 }
 
-# Known exploited vulnerabilities, EPSS and gates over the samples, the status before all; and what each form has of the same.
+# Known exploited vulnerabilities, EPSS and gates over the samples: above all the status, and then the same in each
+# form.
 fits_gates() {
     threats=recipes/samples/threats
-    # gated WORD..: a scan of two machines, with a line of accepted advisories that is none, so that something is left out.
+    # gated WORD..: a scan of two machines, with a wrong line of accepted advisories, so that something is left out.
     gated() {
         scans --suppress "$ranges/suppress.txt" --lists "$ranges/web-1.cdx.json" "$ranges/legacy-1.txt" \
             --time 2024-05-01T12:00:00Z "$@" 2> "$room/error" > "$room/out"
@@ -346,7 +349,7 @@ fits_gates() {
     fi
 }
 
-# The page of report.py over the samples, and as it stands in a browser, where there is one.
+# The page of report.py over the samples, and in a browser, if there is one.
 shows_pages() {
     scans --json --why --suppress "$ranges/suppress.txt" --lists "$ranges/web-1.cdx.json" "$ranges/app-1.txt" \
         > "$room/scan.json" 2> "$room/error"

@@ -1,6 +1,6 @@
 #!/bin/sh
-# Checks of the service: its verdicts are those of scan.py over samples and drawn fleets, bad requests are refused by name, and what was
-# accepted outlives processes that are killed and disks that are full: sh tests/service-checks.sh [PROGRAM]. By hand CPE_FLEETS and
+# Checks of the service: its verdicts are those of scan.py over samples and drawn fleets; bad requests are refused by
+# name; and accepted data survives killed processes and full disks: sh tests/service-checks.sh [PROGRAM]. CPE_FLEETS and
 # CPE_KILLS draw more: CPE_FLEETS=200 CPE_KILLS=200 sh tests/service-checks.sh build/cpe
 . "$(dirname "$0")/checks.sh"
 

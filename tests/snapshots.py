@@ -1,12 +1,12 @@
-"""Reads snapshots by themselves, and tries what `cpe load` makes of bytes that are nearly one.
+"""Reads snapshots by itself, and compares that with `cpe load`, on bytes that are nearly a snapshot.
 
     python3 tests/snapshots.py PROGRAM [--all]
 
-A small snapshot of each kind of row is cut at each byte, made longer, and changed at each byte: to four other values, or with
---all to each of the 255 others, which takes minutes. With --all an input that is longer than any snapshot comes too: it has to
-be refused, and read to its end. What `load` has to say of it is told by the recipe that reads snapshots,
-which knows their form alone: rows that it reads are written as records, and `save` has to make the same bytes of these. The
-status is 0 where nothing failed.
+A small snapshot of each kind of row is cut at each byte, made longer, and changed at each byte: to four other values,
+or with --all to each of the 255 others, which takes minutes. With --all there is also an input that is longer than any
+snapshot: it has to be refused, and read to its end. The recipe that reads snapshots says what `load` has to answer, by
+the form of the bytes alone. Rows that it reads are written as records, and `save` has to make the same bytes from
+these. The status is 0 if nothing failed.
 """
 
 import argparse
@@ -19,14 +19,14 @@ sys.dont_write_bytecode = True
 
 RECIPES = pathlib.Path(__file__).resolve().parents[1] / 'recipes'
 sys.path.insert(0, str(RECIPES))
+from cpe_recipes.console import Messages  # noqa: E402
 from cpe_recipes.from_snapshot import NotSnapshot, read, records  # noqa: E402
-from cpe_recipes.said import Said  # noqa: E402
 
 
-class Heard(Said):
+class Heard(Messages):
     """What a recipe leaves out, kept to itself."""
 
-    def left_out(self, id, reason):
+    def leave_out(self, id, reason):
         self.left += 1
 
 
@@ -58,7 +58,7 @@ def is_right(program, data):
     heard = Heard()
     lines = list(records(rows, heard))
     if heard.left:
-        # such rows can't be told as records: at least the counts are those of the rows
+        # these rows can't be written as records, so at least their counts are compared
         return refused or (status == 0 and out.decode('utf-8').startswith(head_of(rows)))
     of_records, bytes_of_records = saved(program, lines)
     if of_records == 0 and bytes_of_records == data:

@@ -1,10 +1,10 @@
 #!/usr/bin/env python3
 """How much stack the program needs on the worst inputs known: stack.py [PROGRAM].
 
-PROGRAM is build/cpe if left out. Each word runs on inputs that are nested as deep as they may be, and one level deeper, and on long
-chains: first with the usual stack, then with less and less (`ulimit -s`). For each word the least stack is printed, in KiB, with which
-it writes the same and ends with the same status. The status is 0 if no word needs more than MOST. Where the system bounds no stack, all
-is SKIPPED, which is said, and counts as no pass.
+PROGRAM is build/cpe if left out. Each word runs on inputs that are nested as deep as they may be, and one level deeper,
+and on long chains: first with the usual stack, then with less and less (`ulimit -s`). For each word the least stack is
+printed, in KiB, with which it writes the same and ends with the same status. The status is 0 if no word needs more than
+MOST. Where the system bounds no stack, all is SKIPPED, which is said, and counts as no pass.
 """
 
 import dataclasses
@@ -34,7 +34,7 @@ class Case:
     given: bytes
 
     def run(self, program: str, stack: int | None) -> tuple[int, bytes]:
-        """Its status and output, with a stack of so many KiB."""
+        """Its status and output, with a stack of this many KiB."""
 
         def bound() -> None:
             if stack is not None:
@@ -50,7 +50,7 @@ def lines(records: Iterable[object]) -> bytes:
 
 
 def nested(depth: int, leaf: dict) -> dict:
-    """A test of so many levels, each of which has a leaf beside the next level."""
+    """A test of this many levels, each of which has a leaf beside the next level."""
     test: dict = {"op": "OR", "of": [leaf]}
     for level in range(1, depth):
         test = {"op": ("AND", "OR")[level % 2], "negate": level % 3 == 0, "of": [test, leaf]}
@@ -58,7 +58,7 @@ def nested(depth: int, leaf: dict) -> dict:
 
 
 def why(depth: int) -> dict:
-    """A certificate of so many levels, which is none for a statement here, but is read to its end."""
+    """A certificate of this many levels, which fits no statement here, but is read to its end."""
     made: dict = {"truth": "TRUE", "of": [{"truth": "TRUE", "fact": ["cpe:/a:v:p"], "item": ["cpe:/a:v:p:1"]}]}
     for _ in range(1, depth):
         made = {"truth": "TRUE", "of": [made, None]}

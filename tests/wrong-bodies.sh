@@ -1,6 +1,7 @@
 #!/bin/sh
-# Tries the wrong bodies in wrong-bodies/CRATE/, each of which takes too long for the gate: sh tests/wrong-bodies.sh [CRATE..].
-# The prover must refuse each. Ends with the status of rt ci, which runs on a copy and takes what the gate proved before.
+# Tries the wrong bodies in wrong-bodies/CRATE/, each of which takes too long for the gate: sh tests/wrong-bodies.sh
+# [CRATE..]. The prover must refuse each of them. Ends with the status of rt ci, which runs on a copy, with the gate's
+# proofs.
 set -eu
 
 top=$(cd "$(dirname "$0")/.." && pwd)

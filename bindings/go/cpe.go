@@ -32,7 +32,7 @@ import (
 	"unsafe"
 )
 
-// Why a call is not done, beside Refused.
+// Why a call fails, beside Refused.
 var (
 	ErrMemory    = errors.New("cpe: memory ran out")
 	ErrNoCommand = errors.New("cpe: the words name no command that answers lines")
@@ -44,8 +44,8 @@ var (
 
 var faults = map[C.int]error{C.CPE_MEMORY: ErrMemory, C.CPE_NO_COMMAND: ErrNoCommand, C.CPE_NOT_A_LINE: ErrNotALine, C.CPE_OVER: ErrOver}
 
-// Refused is the error where no name has a text. Place is where it goes wrong, of a formatted string or a URI, in bytes from 0;
-// Target tells whether it is the second of two texts.
+// Refused is the error if no name has a text. Place is where a formatted string or a URI fails, in bytes from 0; Target is
+// true for the second of two texts.
 type Refused struct {
 	Place  int
 	Target bool
@@ -59,7 +59,7 @@ func (refused *Refused) Error() string {
 	return fmt.Sprintf("cpe: no name has the %stext: it goes wrong at byte %d", which, refused.Place)
 }
 
-// judge is the error that a code means; nil where the call was done.
+// judge is the error that a code means; nil if the call succeeded.
 func judge(code C.int, number C.size_t) error {
 	if code == C.CPE_DONE {
 		return nil
@@ -83,7 +83,7 @@ func roomOf(room []byte) (*C.char, C.size_t) {
 	return (*C.char)(unsafe.Pointer(&room[0])), C.size_t(len(room))
 }
 
-// otherForm makes room for the text, and once more where that is too small.
+// otherForm makes room for the text, and again if that is too small.
 func otherForm(form C.form, text string) (string, error) {
 	from, length := bytesOf(text)
 	var number C.size_t
@@ -131,7 +131,7 @@ type Relations struct {
 	Whole, Part, Vendor, Product, Version, Update, Edition, Language, SwEdition, TargetSw, TargetHw, Other Relation
 }
 
-// Relate tells how two names relate, formatted strings or URIs; or the error is a *Refused.
+// Relate returns how two names relate, formatted strings or URIs; or the error is a *Refused.
 func Relate(source, target string) (Relations, error) {
 	from, fromLength := bytesOf(source)
 	to, toLength := bytesOf(target)
@@ -142,7 +142,7 @@ func Relate(source, target string) (Relations, error) {
 	return found, judge(code, number)
 }
 
-// Covers tells whether the first name covers the second; or the error is a *Refused.
+// Covers returns whether the first name covers the second; or the error is a *Refused.
 func Covers(source, target string) (bool, error) {
 	from, fromLength := bytesOf(source)
 	to, toLength := bytesOf(target)
@@ -153,7 +153,7 @@ func Covers(source, target string) (bool, error) {
 }
 
 // Session is a session of a command, whose lines are given one by one. It answers for each line what the program would write for
-// it, and at the end what stands at the end; one after the other they are the program's output.
+// it, and End returns the last ones; one after the other they are the program's output.
 //
 // It belongs to the goroutine that opened it, which has a thread for itself until it closes the session
 // (runtime.LockOSThread). In another goroutine each call answers ErrElsewhere.
@@ -222,7 +222,8 @@ func (session *Session) Line(line string) (string, error) {
 	return session.answer(C.cpe_session_line(session.session, text, length, out, size, &session.number))
 }
 
-// End ends the session: what stands at the end, and the exit status of the program, 0, or 1 where a line was refused.
+// End ends the session. It returns the lines at the end of the output, and the program's exit status: 0, or 1 if a line was
+// refused.
 func (session *Session) End() (string, int, error) {
 	if err := session.usable(); err != nil {
 		return "", 0, err
@@ -232,7 +233,7 @@ func (session *Session) End() (string, int, error) {
 	return answer, int(session.status), err
 }
 
-// Close lets the session go, and its goroutine share its thread again. To close it once more does nothing.
+// Close frees the session, and lets its goroutine share its thread again. A second call does nothing.
 func (session *Session) Close() error {
 	err := session.usable()
 	if err == nil {

@@ -31,7 +31,7 @@ func answers(t *testing.T, call func(string) (string, error), given, wanted stri
 	}
 }
 
-// isRefused tries the error where no name has a text.
+// isRefused tries the error if no name has a text.
 func isRefused(t *testing.T, err error, place int, target bool) {
 	t.Helper()
 	var refused *Refused
@@ -183,7 +183,7 @@ func TestManyGoroutines(t *testing.T) {
 	}
 }
 
-// A thread ends with a goroutine that still has it. So threads come again where sessions were closed, or not opened.
+// A thread ends with a goroutine that still has it. So threads are used again if sessions were closed, or not opened.
 func TestThreadsAreGivenBack(t *testing.T) {
 	threads := map[interface{}]bool{}
 	for round := 0; round < 200; round++ {
@@ -204,7 +204,7 @@ func TestThreadsAreGivenBack(t *testing.T) {
 	}
 }
 
-// What no call here comes to.
+// What no call here reaches.
 func TestCodes(t *testing.T) {
 	is(t, judge(4, 0), ErrMemory)
 	is(t, judge(8, 0), ErrMisuse)

@@ -9,7 +9,8 @@
         print(session.end().decode(), end="")
     print(session.status)
 
-Texts are bytes, or str that is put into UTF-8. The library is CPE_LIBRARY of the environment, or that which the system finds.
+Texts are bytes, or str that is put into UTF-8. The library is CPE_LIBRARY of the environment, or that which the system
+finds.
 """
 
 import ctypes
@@ -26,8 +27,8 @@ ATTRIBUTES = ("part", "vendor", "product", "version", "update", "edition", "lang
 
 
 class Refused(ValueError):
-    """No name has the text. `place` is where it goes wrong, of a formatted string or a URI; `target` tells whether it is the second
-    of two texts."""
+    """No name has the text. `place` is where a formatted string or a URI fails; `target` is True for the second of two
+    texts."""
 
     def __init__(self, place: int, target: bool = False) -> None:
         super().__init__(f"no name has the {'second ' if target else ''}text: it goes wrong at byte {place}")
@@ -129,7 +130,8 @@ def covers(source: Text, target: Text) -> bool:
 
 
 class Session:
-    """A session of a command, as `Session("watch")` or `Session("bind", "fs")`. It is used in the thread that made it."""
+    """A session of a command, as `Session("watch")` or `Session("bind", "fs")`. It is used in the thread that made
+    it."""
 
     def __init__(self, word: str, second: Optional[str] = None) -> None:
         self.status: Optional[int] = None
@@ -144,7 +146,8 @@ class Session:
         return self._answer(code, number)
 
     def end(self) -> bytes:
-        """What stands at the end. `status` is the exit status of the program then."""
+        """Ends the session, and returns the lines at the end of its output. `status` is then the exit status of the
+        program."""
         number, status = ctypes.c_size_t(), ctypes.c_int()
         code = _library.cpe_session_end(self._session, self._room, len(self._room), ctypes.byref(number), ctypes.byref(status))
         answer = self._answer(code, number)
@@ -152,7 +155,7 @@ class Session:
         return answer
 
     def close(self) -> None:
-        """Lets the session go."""
+        """Frees the session."""
         session, self._session = self._session, ctypes.c_void_p()
         _library.cpe_session_close(session)
 

@@ -1,10 +1,10 @@
 #!/usr/bin/env python3
 """Answers cases by OpenSCAP's library (libopenscap25 in Debian): names in both bindings, and applicability.
 
-A statement goes the way of `oscap xccdf eval`: it is read as XML, and each fact is looked up in a dictionary of the items,
-each of which has a check that holds. OpenSCAP knows two truths, so a statement with a check that is neither is not offered.
-Its header says that names match as in CPE 2.1. So facts and items go to it as URIs, and what CPE 2.1 doesn't have is not
-offered: specials, NA, a part that is ANY, and the attributes that CPE 2.3 packs into the edition.
+A statement is evaluated as by `oscap xccdf eval`: it is read as XML, and each fact is looked up in a dictionary of the
+items, each of which has a check that holds. OpenSCAP knows two truths, so a statement with a check that is neither is
+not offered. Its header says that names match as in CPE 2.1. So it gets facts and items as URIs, and what CPE 2.1
+doesn't have is not offered: specials, NA, a part that is ANY, and the attributes that CPE 2.3 packs into the edition.
 """
 
 import contextlib

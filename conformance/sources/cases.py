@@ -18,7 +18,7 @@ DIGITS = "0123456789"
 QUOTED_IN_TEXTS = "!\"#$%&'()*+,/:;<=>?@[\\]^`{|}~"
 QUOTED_IN_NAMES = QUOTED_IN_TEXTS + ".-"
 
-# In a text that is refused, where it goes wrong.
+# Marks, in a refused text, where it fails.
 CARET = "\N{CARET}"
 
 
@@ -33,7 +33,7 @@ class Case:
 
 @dataclass(frozen=True)
 class Group:
-    """Cases of one section and kind. Their numbers go on in their order, so new ones are added at the end."""
+    """Cases of one section and kind. They are numbered in their order, so add new ones at the end."""
 
     report: str
     id: str
@@ -76,7 +76,7 @@ def read(text: str, values: Json, why: str) -> Case:
 
 
 def refused(marked: str, why: str) -> Case:
-    """A text that no name has. The caret is where it goes wrong."""
+    """A text that no name has. The caret marks where it fails."""
     before, caret, rest = marked.partition(CARET)
     assert caret, marked
     return Case({"text": before + rest}, {"refused": True, "place": len(before.encode())}, why)

@@ -123,7 +123,7 @@ SPECIALS = [
     (r"*\:*", "specials around a quoted colon"),
 ]
 
-# Components that go wrong; the caret is where.
+# Components that are refused; the caret marks where.
 MISPLACED_SPECIALS = [
     ("a*‸b", "an asterisk in the middle"),
     ("a?‸b", "a question mark in the middle"),
@@ -212,7 +212,8 @@ def written_words() -> Iterator[Case]:
 
 
 def refused_characters() -> Iterator[Case]:
-    """Bare characters that the grammar wants quoted. A bare colon begins the next component, and specials have cases of their own."""
+    """Bare characters that the grammar wants quoted. A bare colon begins the next component, and specials have cases of
+    their own."""
     for it in QUOTED_IN_TEXTS:
         if it not in ":*?\\":
             yield refused(fs(product=f"a‸{it}b"), f"a bare {it} in the middle")

@@ -92,7 +92,8 @@ MATCHES = [
     (r"a\\*", r"a\\b", "SUPERSET", "a special after a quoted backslash"),
     (r"a\\*", "ab", "DISJOINT", "the quoted backslash before a special must be there"),
 ]
-# What docs/PROFILE.md fills: fewer characters than marks, each way to split a target, and quoted characters as one each.
+# What docs/PROFILE.md fills: fewer characters than marks, each way to split a target, and quoted characters as one
+# each.
 OWN_MATCHES = [
     ("8.*", "8.", "SUPERSET", "an asterisk at the end matches nothing"),
     ("*ssl", "ssl", "SUPERSET", "an asterisk at the beginning matches nothing"),

@@ -46,7 +46,8 @@ def joined(op: str, truths: tuple[str, ...], negate: bool = False) -> str:
 
 
 def is_of_profile(truths: tuple[str, ...]) -> bool:
-    """Whether docs/PROFILE.md gives these truths their place: if there is an UNKNOWN, or an ERROR beside another truth."""
+    """Whether docs/PROFILE.md gives these truths their place: if there is an UNKNOWN, or an ERROR beside another
+    truth."""
     return "UNKNOWN" in truths or ("ERROR" in truths and len(set(truths)) > 1)
 
 

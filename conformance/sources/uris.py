@@ -121,7 +121,8 @@ MISPLACED_SPECIALS = [
     ("a%01%0‸2", "a question mark and an asterisk after a text"),
     ("a%01%01‸b", "two question marks in the middle"),
 ]
-# Percent forms of no character that a URI encodes: controls, letters, digits, the underscore, DEL, and bytes above ASCII.
+# Percent forms of no character that a URI encodes: controls, letters, digits, the underscore, DEL, and bytes above
+# ASCII.
 NO_FORMS = [
     "%0‸0",
     "%0‸3",

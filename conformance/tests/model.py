@@ -1,8 +1,8 @@
 #!/usr/bin/env python3
 """CPE 2.3 in Python alone, as an adapter: written from the reports and docs/PROFILE.md, without a look at cpe's code.
 
-It answers all cases right. wrong.py beside it changes one rule at a time, to test that the cases of this rule fail, and no
-others. It is small and slow, and gives no places.
+It answers all cases right. wrong.py beside it changes one rule at a time, to test that the cases of this rule fail, and
+no others. It is small and slow, and gives no places.
 """
 
 import json
@@ -18,7 +18,8 @@ Value = str | bool | None
 LETTERS = "A-Za-z0-9_"
 QUOTED = r"""!"#$%&'()*+,/:;<=>?@\[\\\]^`{|}~"""
 LEAD = TRAIL = r"(\?+|\*?)"
-# A text of a name, of a formatted string, and of a component of a URI: what is before its body, its body, and what is after it.
+# A text of a name, of a formatted string, and of a component of a URI: what is before its body, its body, and what is
+# after it.
 TEXT_OF_NAME = re.compile(rf"{LEAD}((?:[{LETTERS}]|\\[{QUOTED}.-])+){TRAIL}")
 TEXT_OF_FS = re.compile(rf"{LEAD}((?:[{LETTERS}.-]|\\[{QUOTED}])+){TRAIL}")
 FORM = "%(?:2[1-9a-f]|3[a-f]|40|5[b-e]|60|7[b-e])"

@@ -1,8 +1,8 @@
 #!/usr/bin/env python3
 """Changes each operator, text and number of model.py alone, and prints the changes that no case notices.
 
-This takes half a minute, and is run by hand after cases were changed. What it prints has to be equal to the model: `x` added
-where it is no character that is read, or what only `__main__` uses.
+This takes half a minute, and is run by hand after cases were changed. What it prints has to be equal to the model: `x`
+added where it is no character that is read, or what only `__main__` uses.
 """
 
 import ast

@@ -1,4 +1,5 @@
-"""Tests of the cases: their form and ids, and that each character and each cell of a table has cases that it alone decides."""
+"""Tests of the cases: their form and ids, and that each character and each cell of a table has cases that it alone
+decides."""
 
 import itertools
 import json

@@ -10,20 +10,20 @@ holds with a vulnerable product on the machine.
   is marked as vulnerable, the statement also asks for one of its vulnerable products.
 - A match with a range of versions becomes an AND of two children. One is the product in any version; the other is a
   check with the key NVD, cpeMatch and the id of the match. If a machine has the product, the statement is UNKNOWN until
-  a record `check` says whether the version is in the range. The ranges are written into a file of their own, for
-  decide.py.
+  a record `check` says whether the product's version is in the range. The ranges are written into a file of their own,
+  for decide.py.
 - An advisory without configurations isn't analysed yet, and has no statement. A remark counts such advisories
-  (unanalysed.py).
-- If there are several records of an advisory, the record that was modified last is used (latest.py). If two records
-  have the same time and differ, what only the second has is UNKNOWN, and reported.
+  (advisory_states.py).
+- If there are several records of an advisory, the record that was modified last is used (latest_records.py). If two
+  records have the same time and differ, what only the second has is UNKNOWN, and reported.
 - What can't be read in an advisory, such as a bad name or bound, becomes a check that stays UNKNOWN, and is reported.
   The rest of the advisory is kept.
 - An advisory with more names than a record can have becomes several statements, with ids such as CVE-..#2. One of these
   statements is TRUE if the whole advisory would be TRUE. The tables join the statements by their ids.
 
---ranges names the file for the ranges. --details names the file for scores and titles, which affected.sh reads. What is
-left out is reported, and the status is 1. A feed without any vulnerability is refused. A feed with missing pages is
-refused too; with --partial the missing pages are only reported. --large accepts pages that unpack to any size
+--ranges names the file for the ranges. --details names the file for scores and titles, which affected.sh reads. If
+something is left out, it is reported, and the status is 1. A feed without any vulnerability is refused, and so is a
+feed with missing pages. With --partial missing pages are only reported. --large accepts pages that unpack to any size
 (unpack.py).
 """
 from __future__ import annotations
@@ -32,14 +32,14 @@ import re
 from collections.abc import Callable, Iterable, Iterator, Mapping, Sequence
 from dataclasses import dataclass, field
 
-from . import cve5, latest, whole
-from .feeds import FormFault, Json, Page, Placed, Source, member, members, record_text, text_at
+from . import completeness, cve5, latest_records
+from .advisory_states import States, id_of
+from .arguments import ONE, read_arguments
+from .console import Fatal, Messages, NoMessages, Output, shorten, write_file
+from .feeds import FormFault, Json, Page, PlacedRecord, Source, member, members, record_text, text_at
 from .portions import MOST
 from .program import Candidate, Program, candidate_at, refusals
-from .said import Fatal, Mute, Output, Said, quoted, write_file
 from .scores import score_of
-from .unanalysed import States, id_of
-from .words import ONE, read_words
 
 USAGE = "advisories.sh [--ranges FILE] [--details FILE] [--partial] [--large] [FILE..]"
 KINDS = ("vulnerabilities",)
@@ -103,7 +103,10 @@ class Range:
 
     def words(self) -> str:
         """The bounds in words."""
-        bounds = ((self.start, ("from", "behind")[self.start_excluded]), (self.end, ("to", "before")[self.end_excluded]))
+        bounds = (
+            (self.start, ("from", "behind")[self.start_excluded]),
+            (self.end, ("to", "before")[self.end_excluded]),
+        )
         return ", ".join(f"{word} {bound}" for bound, word in bounds if bound is not None)
 
 
@@ -125,7 +128,7 @@ class Match:
         return Match(text_at(match, "matchCriteriaId"), criteria, _flag(match, "vulnerable"), given, doubt)
 
     def text(self) -> str:
-        """The match in words, which is the id of its check where it has no id."""
+        """The match in words; this is the id of its check, if the match has no id."""
         bounds = ", ".join(f"{word} {bound}" for word, bound in self.bounds.items())
         return " ".join(part for part in (self.criteria or "a match without a name", bounds, self.doubt) if part)
 
@@ -138,7 +141,9 @@ class Match:
         return None
 
     def range(self, key: str) -> Range:
-        start, end = self.bounds.get("from", self.bounds.get("behind")), self.bounds.get("to", self.bounds.get("before"))
+        start, end = self.bounds.get("from", self.bounds.get("behind")), self.bounds.get(
+            "to", self.bounds.get("before")
+        )
         return Range(key, self.criteria or "", start, end, "behind" in self.bounds, "before" in self.bounds)
 
 
@@ -153,7 +158,7 @@ class Node:
 
     @staticmethod
     def of(node: Json, depth: int = 0) -> Node:
-        """The node; FormFault where it isn't of the published form."""
+        """The node; FormFault if it isn't of the published form."""
         if depth > MOST_NODES_DEEP:
             raise FormFault("nodes that are nested too deep")
         children = [Node.of(child, depth + 1) for child in members(node, "children")]
@@ -178,7 +183,7 @@ class Configuration:
 
     @staticmethod
     def of(configuration: Json) -> Configuration:
-        """The configuration; FormFault where it isn't of the published form."""
+        """The configuration; FormFault if it isn't of the published form."""
         nodes = [Node.of(node) for node in _filled(configuration, "nodes", "a configuration without nodes")]
         return Configuration(_operator(configuration), _flag(configuration, "negate"), nodes)
 
@@ -219,8 +224,8 @@ def _filled(value: Json, key: str, reason: str) -> list[Json]:
 
 @dataclass
 class Advisories:
-    """What becomes of advisories: candidates of statements, the ranges that checks stand for, what the checks stand for that
-    stay UNKNOWN, and what people want to know of each advisory."""
+    """The result for some advisories: candidates of statements, the ranges of their checks, the reasons of checks that
+    stay UNKNOWN, and the details of each advisory."""
 
     candidates: list[Candidate] = field(default_factory=list)
     ranges: dict[str, Range] = field(default_factory=dict)
@@ -229,19 +234,19 @@ class Advisories:
     states: States = field(default_factory=States)
     empty_pages: list[str] = field(default_factory=list)
 
-    def tell_empty_pages(self, said: Said) -> None:
+    def report_empty_pages(self, messages: Messages) -> None:
         for page in self.empty_pages:
-            said.remark(f"{page}: no vulnerabilities in it")
+            messages.remark(f"{page}: no vulnerabilities in it")
 
 
-class Differing(Exception):
+class RangeConflict(Exception):
     """Two advisories have other ranges under the same id of a match."""
 
 
 @dataclass(frozen=True, slots=True)
-class Made:
-    """What an advisory became before: its id, the records of its statements, its ranges and its details. It may be on a page in place of
-    its record."""
+class ConvertedAdvisory:
+    """What an advisory became before: its id, the records of its statements, its ranges and its details. It may be on a
+    page in place of its record."""
 
     id: str
     records: tuple[str, ...]
@@ -250,29 +255,32 @@ class Made:
 
 
 def convert_one(record: Json) -> Advisories:
-    """What an advisory of which all names are names becomes. Nothing is said of it."""
-    converter = _Converter({}, Mute(), is_decided=True)
-    converter.take([Placed(str(record["cve"]["id"]), record, Source(CALLED, ""), 0)])
+    """The statements of an advisory whose names all are valid. Nothing is reported."""
+    converter = _Converter({}, NoMessages(), is_decided=True)
+    converter.take([PlacedRecord(str(record["cve"]["id"]), record, Source(CALLED, ""), 0)])
     return converter.found
 
 
 def convert(
-    feed: Iterable[Page], program: Program, said: Said, is_decided: bool, states: States | None = None
+    feed: Iterable[Page], program: Program, messages: Messages, is_decided: bool, states: States | None = None
 ) -> Advisories:
-    """The advisories of these pages, and beside these states those that have no verdict. Where ranges aren't decided after this, each
-    is remarked. Fatal where none is there. Differing where one that was made before has another range than another one."""
+    """The statements of the advisories on these pages; advisories without a verdict are added to `states`. Ranges that
+    won't be decided (`is_decided`) are remarked. Fatal if there is no advisory. RangeConflict if a cached range differs
+    from another one with its id."""
     found = list(feed)
     empty_pages = [page.name for page in found if not page.records]
     if len(empty_pages) == len(found) > 0:
         raise Fatal("; ".join(f"{page}: no vulnerabilities in it" for page in empty_pages))
     states = states or States()
-    of_ids: dict[str, list[Placed]] = {}
-    for page in states.sort(latest.advisories(found, said)):
+    of_ids: dict[str, list[PlacedRecord]] = {}
+    for page in states.sort(latest_records.advisories(found, messages)):
         for placed in page.each(CALLED, _id_of):
             of_ids.setdefault(placed.id, []).append(placed)
     states.drop(of_ids)
-    states.tell(said)
-    converter = _Converter(_bad_names((one.record for of_id in of_ids.values() for one in of_id), program), said, is_decided)
+    states.report(messages)
+    converter = _Converter(
+        _bad_names((one.record for of_id in of_ids.values() for one in of_id), program), messages, is_decided
+    )
     converter.found.states, converter.found.empty_pages = states, empty_pages
     for of_id in of_ids.values():
         converter.take(of_id)
@@ -281,7 +289,7 @@ def convert(
 
 def _id_of(record: Json) -> str | None:
     # (pages of the same name may have two at the same place)
-    return record.id if isinstance(record, Made) else text_at(member(record, "cve"), "id")
+    return record.id if isinstance(record, ConvertedAdvisory) else text_at(member(record, "cve"), "id")
 
 
 def ids_in_order(pages: Iterable[Page]) -> list[str]:
@@ -319,19 +327,19 @@ def _all_matches(vulnerability: Json) -> Iterator[Json]:
 class _Converter:
     """Makes statements of vulnerabilities, one after the other."""
 
-    def __init__(self, bad_names: Mapping[str, str], said: Said, is_decided: bool) -> None:
-        self._bad_names, self._said, self._is_decided = bad_names, said, is_decided
+    def __init__(self, bad_names: Mapping[str, str], messages: Messages, is_decided: bool) -> None:
+        self._bad_names, self._messages, self._is_decided = bad_names, messages, is_decided
         self._matches: dict[str, Match] = {}
         # (the ids of the matches of what was made before)
         self._made: set[str] = set()
-        self._at: Placed
+        self._at: PlacedRecord
         self.found = Advisories()
 
-    def take(self, of_id: Sequence[Placed]) -> None:
+    def take(self, of_id: Sequence[PlacedRecord]) -> None:
         """Takes an advisory, and those of the same id of which isn't known whether they are later."""
         first, *others = of_id
-        if isinstance(first.record, Made):
-            self._take_made(first, first.record)
+        if isinstance(first.record, ConvertedAdvisory):
+            self._take_converted(first, first.record)
             return
         tests = self._tests(first)
         for other in others:
@@ -348,33 +356,33 @@ class _Converter:
             self.found.candidates.extend(self._statements(first.id, tests))
             self.found.details[first.id] = details(first.id, first.record["cve"])
             if any(score_of(score) is None for _, _, score, _ in _metrics(first.record["cve"])):
-                self._said.remark("a score that is none is left out", first.id)
+                self._messages.remark("a score that is none is left out", first.id)
 
-    def _take_made(self, placed: Placed, made: Made) -> None:
+    def _take_converted(self, placed: PlacedRecord, made: ConvertedAdvisory) -> None:
         self.found.candidates.extend(candidate_at(placed, made.id, record) for record in made.records)
         self.found.details[made.id] = made.details
         for one in made.ranges:
             # (it has the ids of its own matches, whoever has these too)
             if self.found.ranges.setdefault(one.key, one) != one or one.key in self.found.stand_ins:
-                raise Differing
+                raise RangeConflict
             self._made.add(one.key)
 
     def _put_range(self, one: Range) -> None:
         if one.key in self._made and self.found.ranges[one.key] != one:
-            raise Differing
+            raise RangeConflict
         self.found.ranges[one.key] = one
 
     def _put_stand_in(self, key: str, what: str) -> None:
         if key in self._made:
-            raise Differing
+            raise RangeConflict
         self.found.stand_ins[key] = what
 
     def _leave_out(self, id: str, reason: str) -> None:
         # (among the candidates, so that it is said in its place between what cpe refuses)
         self.found.candidates.append(candidate_at(self._at, id, reason=reason))
 
-    def _tests(self, placed: Placed) -> list[Test]:
-        """A test for each configuration with a vulnerable product; none where it isn't of the published form."""
+    def _tests(self, placed: PlacedRecord) -> list[Test]:
+        """A test for each configuration with a vulnerable product; none if the record isn't of the published form."""
         self._at = placed
         try:
             cve = member(placed.record, "cve")
@@ -408,7 +416,7 @@ class _Converter:
 
     def _stand_in(self, id: str, what: str, key: str) -> None:
         self._put_stand_in(key, what)
-        self._leave_out(id, f"{what}: the check {quoted(key)} is in its place")
+        self._leave_out(id, f"{what}: the check {shorten(key)} is in its place")
 
     def _configuration(self, id: str, configuration: Configuration) -> Test:
         test = _logic(configuration, [self._node(id, node) for node in configuration.nodes])
@@ -422,39 +430,44 @@ class _Converter:
         return _logic(node, [*matches, *(self._node(id, child) for child in node.children)])
 
     def _match(self, id: str, match: Match, is_told: bool = False) -> Test:
-        """The test of a match: its name, with a check where it has bounds; a check alone where the name is none."""
+        """The test of a match: its name, with a check if it has bounds; only a check if the name is invalid."""
         bad = "no name" if match.criteria is None else self._bad_names.get(match.criteria)
         if not bad and not match.bounds and not match.doubt:
             return {"fact": match.criteria}
         key = self._key(match)
         if not is_told:
-            self._tell(id, match, key, bad)
+            self._report(id, match, key, bad)
         return _check(MATCH, key) if bad else {"op": "AND", "of": [{"fact": match.criteria}, _check(MATCH, key)]}
 
     def _key(self, match: Match) -> str:
-        """The id of its check, which no other match has, and which can stand in a line with tabs. (One with a space is of another kind
-        of check, as asked.py has them.)"""
-        if match.id and match.id.isprintable() and " " not in match.id and _same(self._matches.setdefault(match.id, match), match):
+        """The id of a match's check. No other match has it, and it fits into a line with tabs. (An id with a space is
+        of another kind of check: see statement_rewriter.py.)"""
+        if (
+            match.id
+            and match.id.isprintable()
+            and " " not in match.id
+            and _same(self._matches.setdefault(match.id, match), match)
+        ):
             return match.id
         text = match.text()
         return f"match {text}" if text.startswith(("not ", "part ")) else text
 
-    def _tell(self, id: str, match: Match, key: str, bad: str | None) -> None:
+    def _report(self, id: str, match: Match, key: str, bad: str | None) -> None:
         fault = match.fault()
         if match.doubt and not bad:
             # (it was read, and is UNKNOWN since it says so)
-            self._put_stand_in(key, f"{quoted(match.criteria)}: {match.doubt}")
+            self._put_stand_in(key, f"{shorten(match.criteria)}: {match.doubt}")
         elif bad or fault:
-            self._stand_in(id, f"{bad or fault}: {quoted(match.text())}", key)
+            self._stand_in(id, f"{bad or fault}: {shorten(match.text())}", key)
         else:
             self._put_range(match.range(key))
             if not self._is_decided:
                 bounds = match.range(key).words()
-                what = f"versions of {quoted(match.criteria)} {quoted(bounds)}"
-                self._said.remark(f"{what}: the check {quoted(key)} is in their place", id)
+                what = f"versions of {shorten(match.criteria)} {shorten(bounds)}"
+                self._messages.remark(f"{what}: the check {shorten(key)} is in their place", id)
 
     def _statements(self, id: str, tests: list[Test]) -> Iterator[Candidate]:
-        """A statement, or several where it has more names than a line has room for."""
+        """A statement, or several if it has more names than fit into a line."""
         made: list[str] = []
         whole = {"op": "OR", "of": tests}
         record = record_text(_statement(id, whole))
@@ -480,7 +493,8 @@ def _statement(id: str, test: Test) -> dict[str, Json]:
 
 
 def _room(id: str) -> int:
-    """How many bytes the test of a statement may have, with room for the number of a part, and for what it is asked with."""
+    """How many bytes the test of a statement may have, with room for the number of a part, and for what it is asked
+    with."""
     return MOST_BYTES - _ROOM_TO_ASK - len(record_text(_statement(f"{id}#1000000", {})).encode())
 
 
@@ -494,8 +508,8 @@ def _logic(logic: Node | Configuration, children: list[Test]) -> Test:
 
 
 def parts(test: Test, most: int) -> list[Test]:
-    """Tests of at most so many bytes, of which one is TRUE exactly where this one is. What can't be taken apart is longer, and
-    so is the test itself where it would be more than MOST_PARTS."""
+    """Splits a test into tests of at most this many bytes. The test is TRUE exactly if one of them is TRUE. A part that
+    can't be split is longer. A test that needs more than MOST_PARTS parts stays whole."""
     done: list[Test] = []
     left = [test]
     while left:
@@ -511,11 +525,7 @@ def parts(test: Test, most: int) -> list[Test]:
 
 
 def _halves(test: Test) -> list[Test]:
-    """Two tests whose OR is this one, about as long each; none where there are no such.
-
-    An OR is cut between its children, a negated AND as the OR of what it negates, and an AND has its longest child that can be
-    cut, in halves, beside all others.
-    """
+    """Two tests of about the same length whose OR is this one; None if there are none."""
     if "op" not in test:
         return []
     is_negated, children = test.get("negate", False), test["of"]
@@ -540,7 +550,7 @@ def base_id(id: str) -> str:
 
 
 def details(id: str, cve: Json) -> dict[str, Json]:
-    """What people want to know of an advisory; what the feed doesn't tell, or tells in another form, is missing."""
+    """The title, score and so on of an advisory; a member that the feed lacks, or has in another form, is missing."""
     published = _found(lambda: text_at(cve, "published"))
     known = {"id": id, "title": _title(cve), **_score(cve), "published": published, "url": _url(id, cve)}
     return {key: value for key, value in known.items() if value is not None}
@@ -555,7 +565,9 @@ def _found(ask: Callable[[], Json]) -> Json:
 
 def _title(cve: Json) -> str | None:
     """The description in English, or else the first, in one line."""
-    texts = _found(lambda: [(text_at(one, "lang"), text_at(one, "value")) for one in members(cve, "descriptions")]) or []
+    texts = (
+        _found(lambda: [(text_at(one, "lang"), text_at(one, "value")) for one in members(cve, "descriptions")]) or []
+    )
     for lang, value in [pair for pair in texts if pair[0] == "en"] + texts:
         if value and value.strip():
             return " ".join(value.split())
@@ -572,7 +584,8 @@ def _score(cve: Json) -> dict[str, Json]:
 
 
 def _metrics(cve: Json) -> Iterator[tuple[bool, int, Json, Json]]:
-    """Of each metric whether it is of another source than NVD, the place of its version of CVSS, its score and severity."""
+    """Of each metric whether it is of another source than NVD, the place of its version of CVSS, its score and
+    severity."""
     metrics = _found(lambda: member(cve, "metrics")) or {}
     for place, version in enumerate(SCORES):
         if isinstance(metrics, dict) and version not in metrics:
@@ -592,19 +605,21 @@ def _url(id: str, cve: Json) -> str | None:
 
 
 def run(words: Sequence[str]) -> int:
-    read = read_words(words, {"--ranges": ONE, "--details": ONE, **whole.OPTIONS}, USAGE)
-    said, output, program = Said(), Output(), Program()
-    feed = whole.pages(read.files, said, KINDS, reading=whole.Reading.of(read))
-    found = convert(feed, program, said, read.has("--ranges"))
-    found.tell_empty_pages(said)
-    records = program.accepted_statements(found.candidates, said)
+    arguments = read_arguments(words, {"--ranges": ONE, "--details": ONE, **completeness.OPTIONS}, USAGE)
+    messages, output, program = Messages(), Output(), Program()
+    feed = completeness.pages(arguments.files, messages, KINDS, reading=completeness.ReadingPolicy.of(arguments))
+    found = convert(feed, program, messages, arguments.has("--ranges"))
+    found.report_empty_pages(messages)
+    records = program.accept_statements(found.candidates, messages)
     if len(records) > MOST.statements:
-        said.remark(f"{len(records):,} statements are more than cpe takes at once, {MOST.statements:,}; products.sh cuts them, scan.py asks in portions")
+        messages.remark(
+            f"{len(records):,} statements are more than cpe takes at once, {MOST.statements:,}; products.sh cuts them, scan.py asks in portions"
+        )
     output.lines(records)
-    ranges, details_to = read.one("--ranges"), read.one("--details")
+    ranges, details_to = arguments.one("--ranges"), arguments.one("--details")
     if ranges is not None:
         write_file(ranges, [record_text(one.record()) for one in found.ranges.values()])
     if details_to is not None:
         write_file(details_to, [record_text(one) for one in found.details.values()])
     output.end()
-    return said.status()
+    return messages.status()

@@ -1,14 +1,15 @@
-"""Which products of a dictionary a package may be: those whose name is that of the package, in the forms that it may have there.
+"""Which products of a dictionary a package may be: the products that have the package's name, in one of its forms.
 
-A package's own name, the name of its source package and the last parts of its path are looked for as they are, without what says only
-of which language it is (`python3-`, `node-`, `golang-github-`..), and without the vendor before it (`acme-agent`). Only if none of these
-is in the dictionary come looser forms: without a version behind the name (tomcat9), without `lib` before it, and without what says which
-part of a source it is (`-dev`, `-common`..). What separates words makes no difference: NVD writes some names with `_`, some with `-`, and
-others with none.
+First the package's own name, the name of its source package and the last parts of its path are looked up. Two parts of
+a name are removed before: one that only names the language (`python3-`, `node-`, `golang-github-`..), and the vendor at
+the beginning (`acme-agent`). If the dictionary has none of these names, looser forms are looked up. They have no
+version at the end (tomcat9), no `lib` at the beginning, and no word for a part of the source package (`-dev`,
+`-common`..). Separators between words are ignored: NVD writes some names with `_`, some with `-`, and others without
+one.
 
-What a package is written for (`target_sw`) leaves out the products that are written for something else alone: a module of npm is no
-plugin of WordPress. The others come in this order: first those of which an entry has a version of the package's line, then by the
-form that found them, those that are written for what the package is, and those with more entries.
+A product that is written for something else alone (`target_sw`) is left out: a module of npm is no plugin of WordPress.
+The remaining products are ordered. First are those with an entry of the package's own version line. Then the form that
+found them decides, then whether they are written for the package's language, then how many entries they have.
 """
 from __future__ import annotations
 
@@ -19,20 +20,34 @@ from dataclasses import dataclass
 from . import names
 from .names_table import Product
 from .package_urls import PackageUrl
-from .product_index import Front, Listed, ProductIndex, front_of, squeezed
+from .product_index import Front, IndexedProduct, ProductIndex, front_of, squeeze
 from .readings import DISTRIBUTIONS, readings
 
 # What NVD writes as target_sw of packages of a kind.
 TARGETS = {"pypi": "python", "npm": "node.js", "gem": "ruby", "golang": "go", "cargo": "rust"}
 # Fronts by which distributions say of which language a package is, and its target_sw; NVD has none for some.
 _FRONTS = (
-    ("python3-", "python"), ("python2-", "python"), ("python-", "python"), ("py3-", "python"), ("pypy3-", "python"),
-    ("node-", "node.js"), ("nodejs-", "node.js"), ("npm-", "node.js"), ("libjs-", "node.js"),
-    ("ruby-", "ruby"), ("rubygem-", "ruby"), ("rubygems-", "ruby"),
-    ("golang-", "go"), ("rust-", "rust"), ("librust-", "rust"), ("perl-", ""), ("php-", ""), ("r-cran-", ""),
+    ("python3-", "python"),
+    ("python2-", "python"),
+    ("python-", "python"),
+    ("py3-", "python"),
+    ("pypy3-", "python"),
+    ("node-", "node.js"),
+    ("nodejs-", "node.js"),
+    ("npm-", "node.js"),
+    ("libjs-", "node.js"),
+    ("ruby-", "ruby"),
+    ("rubygem-", "ruby"),
+    ("rubygems-", "ruby"),
+    ("golang-", "go"),
+    ("rust-", "rust"),
+    ("librust-", "rust"),
+    ("perl-", ""),
+    ("php-", ""),
+    ("r-cran-", ""),
 )
 _SAYS_GO = frozenset({"go", "golang"})
-# What is between such a front and the name of a module of Go.
+# The separator between such a prefix and the name of a Go module.
 _HOSTS = re.compile(r"^(?:github|gitlab|gopkg|golang|google|k8s|bitbucket|go)-(?:com-|org-|in-)?")
 # Other things that a product may be written for alone, which is then none of a distribution's packages.
 _ELSEWHERE = frozenset(
@@ -58,8 +73,8 @@ class Candidate:
 
 @dataclass(frozen=True)
 class Forms:
-    """The names under which a package may be in a dictionary: as they are, and looser ones; and those of which the name begins with
-    the vendor, as of acme-agent, each with that."""
+    """The names under which a package may be in a dictionary: as they are, and looser ones; and those of which the name
+    begins with the vendor, as of acme-agent, each with that."""
 
     near: tuple[str, ...]
     loose: tuple[str, ...]
@@ -84,7 +99,7 @@ def _owned(text: str) -> Iterator[tuple[str, str]]:
     """The vendors and the products that a name may be made of."""
     for place in (place for place, one in enumerate(text) if one in "-_" and 0 < place < len(text) - 1):
         for name in _spelled([text[place + 1 :]]):
-            yield names.spelled(text[:place]), name
+            yield names.quote(text[:place]), name
 
 
 def _near(purl: PackageUrl) -> Iterator[str]:
@@ -103,17 +118,17 @@ def _near(purl: PackageUrl) -> Iterator[str]:
 
 
 def _front_of(text: str) -> tuple[str, str]:
-    """What says of which language a package of a distribution is, and its target_sw; empty where nothing does."""
+    """The prefix of a distribution's package that names its language, and its target_sw; empty if there is none."""
     return next((one for one in _FRONTS if text.startswith(one[0])), ("", ""))
 
 
 def _without_front(text: str) -> Iterator[str]:
-    """The name without what says of which language it is, where something does; of a module of Go all that it may be."""
+    """The name without the part that names the language; for a Go module, all names that it may have."""
     front, _ = _front_of(text)
     rest = text[len(front) :]
     if front == "golang-":
         parts = _HOSTS.sub("", rest.removesuffix("-dev"), count=1).split("-")
-        # (who wrote it and its name come after the host, and neither says where it ends: prometheus-client-golang)
+        # (the host is followed by the author and the name, without a mark between them: prometheus-client-golang)
         found = ("-".join(parts[place:]) for place in range(min(1, len(parts) - 1), len(parts)))
         yield from (one for one in found if one not in _SAYS_GO)
     elif front:
@@ -142,16 +157,18 @@ def _cut(pattern: re.Pattern[str], text: str) -> str:
 
 def _spelled(texts: Iterable[str]) -> Iterator[str]:
     """The texts as components."""
-    return iter(dict.fromkeys(names.spelled(text) for text in texts if text != names.NA))
+    return iter(dict.fromkeys(names.quote(text) for text in texts if text != names.NA))
 
 
 def target_of(purl: PackageUrl) -> str:
-    """What NVD writes as target_sw of such a package; empty where it isn't known."""
+    """The target_sw that NVD writes for such a package; empty if it isn't known."""
     own = purl.package
     if own.type == "maven" and ("jenkins-ci.plugins" in own.namespace or "jenkins.plugins" in own.namespace):
         return "jenkins"
     if own.type == "composer":
-        return {"wpackagist-plugin": "wordpress", "wpackagist-theme": "wordpress", "drupal": "drupal"}.get(own.namespace, "")
+        return {"wpackagist-plugin": "wordpress", "wpackagist-theme": "wordpress", "drupal": "drupal"}.get(
+            own.namespace, ""
+        )
     if own.type in DISTRIBUTIONS:
         return _front_of(own.name)[1]
     return TARGETS.get(own.type, "")
@@ -166,8 +183,8 @@ def _others_of(purl: PackageUrl) -> frozenset[str]:
     return _ELSEWHERE | _OF_LANGUAGES
 
 
-def _is_for(listed: Listed, others: frozenset[str], target: str) -> bool:
-    """Whether a product may be what is written for this."""
+def _is_for(listed: IndexedProduct, others: frozenset[str], target: str) -> bool:
+    """Whether a product may be written for this target."""
     said = listed.targets - {names.ANY, names.NA}
     return said < listed.targets or target in listed.targets or not said <= others
 
@@ -177,18 +194,28 @@ def candidates_of(purl: PackageUrl, index: ProductIndex) -> list[Candidate]:
     target, kind, forms, others = target_of(purl), purl.package.type, forms_of(purl), _others_of(purl)
     front = line_of(purl.version, kind)
     source_front = line_of(purl.source_version, kind) if purl.source_version else front
-    source = squeezed(names.spelled(purl.source.name)) if purl.source else ""
-    near = [[*map(index.of, forms.near), *(_of_vendor(index, *pair) for pair in forms.owned)], [*map(index.of, forms.loose)]]
+    source = squeeze(names.quote(purl.source.name)) if purl.source else ""
+    near = [
+        [*map(index.of, forms.near), *(_of_vendor(index, *pair) for pair in forms.owned)],
+        [*map(index.of, forms.loose)],
+    ]
     for tier in near:
         found: dict[Product, tuple[_Rank, Candidate]] = {}
         for place, products in enumerate(tier):
             for listed in products:
                 if listed.product in found or not _is_for(listed, others, target):
                     continue
-                is_source = squeezed(listed.product.name) == source
+                is_source = squeeze(listed.product.name) == source
                 is_of_line = listed.has_line_of(source_front if is_source else front)
                 version = purl.source_version if is_source and purl.source_version else purl.version
-                rank = (not is_of_line, place, target not in listed.targets, -_nearness(listed, purl), -listed.count, listed.product.vendor)
+                rank = (
+                    not is_of_line,
+                    place,
+                    target not in listed.targets,
+                    -_nearness(listed, purl),
+                    -listed.count,
+                    listed.product.vendor,
+                )
                 found[listed.product] = rank, Candidate(listed.product, version)
         if found:
             return [candidate for _, candidate in sorted(found.values(), key=lambda one: one[0])]
@@ -199,18 +226,23 @@ def candidates_of(purl: PackageUrl, index: ProductIndex) -> list[Candidate]:
 _Rank = tuple[bool, int, bool, int, int, str]
 
 
-def _of_vendor(index: ProductIndex, vendor: str, name: str) -> list[Listed]:
+def _of_vendor(index: ProductIndex, vendor: str, name: str) -> list[IndexedProduct]:
     """The products of this name and vendor."""
     return [listed for listed in index.of(name) if listed.product.vendor == vendor]
 
 
-def _nearness(listed: Listed, purl: PackageUrl) -> int:
+def _nearness(listed: IndexedProduct, purl: PackageUrl) -> int:
     """How near a vendor is to a package: its namespace names it, or its product is called as it is."""
     vendor = listed.product.vendor
     segments = set(re.split(r"[./@_-]+", purl.package.namespace)) if purl.package.type not in DISTRIBUTIONS else set()
     if vendor in segments or vendor.removesuffix("_project") in segments or vendor.removesuffix("project") in segments:
         return 2
-    return 1 if vendor.removesuffix("_project") == listed.product.name or vendor.removesuffix("project") == listed.product.name else 0
+    return (
+        1
+        if vendor.removesuffix("_project") == listed.product.name
+        or vendor.removesuffix("project") == listed.product.name
+        else 0
+    )
 
 
 def line_of(version: str, kind: str) -> Front:

@@ -16,32 +16,35 @@ import shutil
 import subprocess
 from collections.abc import Iterator
 
+from .arguments import ONE, read_arguments
+from .console import Fatal, Messages, Output, describe_fault
 from .feeds import text_lines, whole
 from .program import Program, refusals
-from .said import Fatal, Output, Said, why
-from .words import ONE, read_words
 
 USAGE = "chain-graph.sh [--svg FILE] RECORDS NAME..."
 
 
 def run(words: list[str]) -> int:
-    asked = read_words(words, {"--svg": ONE}, USAGE)
-    if len(asked.files) < 2:
+    arguments = read_arguments(words, {"--svg": ONE}, USAGE)
+    if len(arguments.files) < 2:
         raise Fatal(f"usage: {USAGE}")
-    records = text_lines(whole(asked.files[0]).decode(errors="replace"))
-    program, said, output = Program(), Said(), Output()
-    steps = steps_of(program, records, asked.files[1:], said)
-    lines = list(graph(steps, successors_of(program, records, [name for name, state in steps.items() if state != "active"])))
-    svg = asked.one("--svg")
+    records = text_lines(whole(arguments.files[0]).decode(errors="replace"))
+    program, messages, output = Program(), Messages(), Output()
+    steps = steps_of(program, records, arguments.files[1:], messages)
+    lines = list(
+        graph(steps, successors_of(program, records, [name for name, state in steps.items() if state != "active"]))
+    )
+    svg = arguments.one("--svg")
     if svg is not None:
         draw(lines, svg)
     output.lines(lines)
     output.end()
-    return said.status()
+    return messages.status()
 
 
-def steps_of(program: Program, records: list[str], names: list[str], said: Said) -> dict[str, str]:
-    """The names to which paths lead, and of each whether it is `active`, the kind of its deprecation, or nothing where it is no entry."""
+def steps_of(program: Program, records: list[str], names: list[str], messages: Messages) -> dict[str, str]:
+    """The names to which paths lead, and of each whether it is `active`, the kind of its deprecation, or nothing if
+    it is no entry."""
     questions = [json.dumps({"do": "chain", "name": name}) for name in names]
     lines = program.run(["resolve"], [*records, *questions])
     refused = refusals(lines)
@@ -49,7 +52,7 @@ def steps_of(program: Program, records: list[str], names: list[str], said: Said)
         if number in refused:
             raise Fatal(f"{name} is no name: {refused[number]}")
     for number, reason in refused.items():
-        said.left_out(f"line {number}", reason)
+        messages.leave_out(f"line {number}", reason)
     steps: dict[str, str] = {}
     for line in lines[first_answer(lines, len(names)) :]:
         word, *rest = line.split(" ")
@@ -61,7 +64,7 @@ def steps_of(program: Program, records: list[str], names: list[str], said: Said)
 
 
 def first_answer(lines: list[str], count: int) -> int:
-    """The place of the first of the last so many answers to chains."""
+    """The place of the first line of the last `count` answers to chains."""
     chains = [place for place, line in enumerate(lines) if line.startswith("chain ")]
     return chains[-count]
 
@@ -86,14 +89,14 @@ def graph(steps: dict[str, str], successors: dict[str, tuple[str, list[str]]]) -
     yield "  node [shape=box];"
     for name, state in steps.items():
         look = {"active": ", peripheries=2", "": ", peripheries=2", "NAME_REMOVAL": ", style=dashed"}.get(state, "")
-        yield f"  n{numbers[name]} [label={quoted(name)}{look}];"
+        yield f"  n{numbers[name]} [label={quote(name)}{look}];"
     for name, (kind, following) in successors.items():
         for successor in following:
-            yield f"  n{numbers[name]} -> n{numbers[successor]} [label={quoted(kind)}];"
+            yield f"  n{numbers[name]} -> n{numbers[successor]} [label={quote(kind)}];"
     yield "}"
 
 
-def quoted(text: str) -> str:
+def quote(text: str) -> str:
     """A text as DOT quotes it."""
     return '"' + text.replace("\\", "\\\\").replace('"', '\\"') + '"'
 
@@ -102,8 +105,10 @@ def draw(lines: list[str], path: str) -> None:
     if shutil.which("dot") is None:
         raise Fatal("there is no dot, which draws graphs")
     try:
-        subprocess.run(["dot", "-Tsvg", "-o", path], input="\n".join(lines).encode(), check=True, stdout=subprocess.DEVNULL)
+        subprocess.run(
+            ["dot", "-Tsvg", "-o", path], input="\n".join(lines).encode(), check=True, stdout=subprocess.DEVNULL
+        )
     except OSError as fault:
-        raise Fatal(f"dot can not be run: {why(fault)}") from fault
+        raise Fatal(f"dot can not be run: {describe_fault(fault)}") from fault
     except subprocess.CalledProcessError as fault:
         raise Fatal(f"dot ended with status {fault.returncode}") from fault

@@ -3,17 +3,17 @@ fleet, or from `scan.py --json`.
 
 The recipe writes a line for each verdict that differs between the files, unless it is FALSE or missing in both:
 
-    new MACHINE ID BEFORE AFTER         it was FALSE, or wasn't there
-    gone MACHINE ID BEFORE AFTER        it is FALSE now, or isn't there any more
+    new MACHINE ID BEFORE AFTER         it was FALSE, or missing
+    gone MACHINE ID BEFORE AFTER        it is FALSE now, or missing
     changed MACHINE ID BEFORE AFTER     it is another one
 
 In these lines BEFORE and AFTER are verdicts, or `none` if there is no verdict. If AFTER is `none`, the line ends with a
-reason. The machine may be missing, or have no items. The advisory may not be analysed, or may be rejected, left out, or
+reason. Either the machine is missing, or has no items. Or the advisory isn't analysed, is rejected, left out, or
 missing from the feeds. Or pages of the dictionary or the match feed are missing, so that a FALSE could be another
 verdict. If a user settled AFTER, the line ends with the user's reason.
 
-A change to `none` doesn't show that the machine was mended. So the status is 1, with a report, if a machine has no
-items any more. The same holds if an advisory was left out or isn't in the feeds. An advisory that isn't analysed or is
+A change to `none` doesn't show that the machine was mended. So the status is 1, with a report, if a machine no longer
+has items. The same holds if an advisory was left out or isn't in the feeds. An advisory that isn't analysed or is
 rejected doesn't cause status 1. Lines for verdicts of a single inventory have no MACHINE. If one of the two files is
 cut off, the status is 2, and nothing is written.
 """
@@ -21,35 +21,36 @@ from __future__ import annotations
 
 from collections.abc import Iterator
 
+from .arguments import read_arguments
+from .console import Fatal, Messages, Output, escape
 from .feeds import name_of
-from .said import Fatal, Output, Said, shown
 from .verdicts import Machine, Verdicts, read_verdicts
-from .words import read_words
 
 USAGE = "changes.sh BEFORE AFTER"
 
 
 def run(words: list[str]) -> int:
-    paths = read_words(words, {}, USAGE).files
+    paths = read_arguments(words, {}, USAGE).files
     if len(paths) != 2:
         raise Fatal(f"usage: {USAGE}")
-    said, output = Said(), Output()
-    output.lines(list(between(*paths, said)))
-    output.end(shown)
-    return said.status()
+    messages, output = Messages(), Output()
+    output.lines(list(between(*paths, messages)))
+    output.end(escape)
+    return messages.status()
 
 
-def between(before_path: str, after_path: str, said: Said) -> Iterator[str]:
+def between(before_path: str, after_path: str, messages: Messages) -> Iterator[str]:
     """The lines of the changes from the one file to the other."""
     before, after = read_verdicts(before_path), read_verdicts(after_path)
     if before.has_machines != after.has_machines:
         bare, other = (before_path, after_path) if after.has_machines else (after_path, before_path)
         raise Fatal(f"{name_of(other)} has machines, and {name_of(bare)} has none")
-    return changes(before, after, said)
+    return changes(before, after, messages)
 
 
-def changes(before: Verdicts, after: Verdicts, said: Said) -> Iterator[str]:
-    """The lines of the changes, in the order of the machines and advisories of before, and then of those that are new."""
+def changes(before: Verdicts, after: Verdicts, messages: Messages) -> Iterator[str]:
+    """The lines of the changes, in the order of the machines and advisories of before, and then of those that are
+    new."""
     olds = {machine.name: machine for machine in before.machines}
     news = {machine.name: machine for machine in after.machines}
     lost: dict[str, str] = {}
@@ -57,9 +58,9 @@ def changes(before: Verdicts, after: Verdicts, said: Said) -> Iterator[str]:
         old, new = olds.get(name, Machine(name)), news.get(name)
         where = "" if name is None else f"{name} "
         if new is None:
-            said.remark(f"{name} is no machine any more")
+            messages.remark(f"{name} is no machine any more")
         elif not new.has_items:
-            said.left_out(name or "", "no items")
+            messages.leave_out(name or "", "no items")
         for id in {**old.shown, **(new.shown if new else {})}:
             then, (now, why) = old.truth(id), _now(id, new, after)
             if then == now:
@@ -68,7 +69,7 @@ def changes(before: Verdicts, after: Verdicts, said: Said) -> Iterator[str]:
                 lost[id] = why
             yield f"{_word(id, old, new)} {where}{id} {then or 'none'} {now or 'none'}{why and ' '}{why}"
     for id, why in lost.items():
-        said.left_out(id, why)
+        messages.leave_out(id, why)
 
 
 def _now(id: str, machine: Machine | None, after: Verdicts) -> tuple[str | None, str]:

@@ -1,17 +1,18 @@
-"""What a machine has: components, each with all names that its list gives for it, and what the list says of the platform.
+"""What a machine has: components, each with all names that its list gives for it, and what the list says of the
+platform.
 
 A component is one thing of which a list may give several names. Which of them is the right one isn't known, so they are
 alternatives: the component makes a verdict TRUE if one of them does, and FALSE only if all of them do.
 
-A machine is a line of text, in one of two forms. The plain one is its name, and after it the names of its items, with spaces
-between them. Where that can't say all that is known, the line is an object of JSON, which begins with `{`:
+A machine is a line of text, in one of two forms. The plain one is its name, and after it the names of its items, with
+spaces between them. Where that can't say all that is known, the line is an object of JSON, which begins with `{`:
 
     {"machine":"web-1","platform":{"id":"debian 12","names":["cpe:2.3:o:.."]},"components":["cpe:2.3:a:..",
      {"id":"openssl","names":["cpe:2.3:a:..","cpe:2.3:a:.."],"kind":"deb","purl":"pkg:deb/debian/openssl@3.0.11-1"}]}
 
-(here in two lines). A component with nothing but one name may be that text. `platform` is missing where the list says nothing of
-it; it has no names where the list says which operating system it is, and gives no name for it. In a plain line a platform is the
-first name.
+(here in two lines). A component with nothing but one name may be that text. `platform` is missing where the list says
+nothing of it; it has no names where the list says which operating system it is, and gives no name for it. In a plain
+line a platform is the first name.
 """
 from __future__ import annotations
 
@@ -27,8 +28,8 @@ _COMPONENT = {"id", "names", "kind", "purl"}
 
 
 @dataclass(frozen=True, slots=True)
-class Supposed:
-    """A name that a component perhaps has, and in words why that isn't sure."""
+class SupposedName:
+    """A name that a component perhaps has, and the reason why that isn't sure."""
 
     name: str
     why: str
@@ -36,27 +37,27 @@ class Supposed:
 
 @dataclass(frozen=True, slots=True)
 class Component:
-    """A component: its id in its list, all names that the list gives for it, each once and in order, what it comes from, and
-    its package URL.
+    """A component: its id in its list, all names that the list gives for it, each once and in order, its kind, and its
+    package URL.
 
-    `kind` is the type of its package URL, or what the list says in place of it: deb, rpm, apk, pypi, npm, golang, maven and so
-    on. It is empty where the list doesn't say it, as the id, the names and the package URL are where there are none.
+    `kind` is the type of its package URL, or the word of the list in place of it: deb, rpm, apk, pypi, npm, golang,
+    maven and so on. It is empty if the list doesn't have it. So are the id, the names and the package URL.
 
-    The names that it perhaps has, by its package URL, are `supposed`; naming.py puts them, and no list has them.
+    `supposed` are names that it perhaps has, by its package URL; package_names.py adds them, and no list has them.
     """
 
     id: str = ""
     names: tuple[str, ...] = ()
     kind: str = ""
     purl: str = ""
-    supposed: tuple[Supposed, ...] = ()
+    supposed: tuple[SupposedName, ...] = ()
 
-    def called(self) -> str:
+    def label(self) -> str:
         """How it is called in words: by its id, its first name or its package URL."""
         return self.id or (self.names[0] if self.names else self.purl)
 
     def is_name_alone(self) -> bool:
-        """Whether nothing but one name is known of it (and its id, which says where it stands)."""
+        """Whether one name is all that is known of it, except its id, which says where it is in its list."""
         return len(self.names) == 1 and not self.kind and not self.purl
 
 
@@ -64,8 +65,8 @@ class Component:
 class Machine:
     """A machine: its name, its components in the order of its list, and what the list says of its operating system.
 
-    `platform` is None where the list says nothing; it is without names where the list names no name of part `o` for it. A name
-    that is given in place of a component is one that has this name alone.
+    `platform` is None if the list says nothing; it is without names if the list names no name of part `o` for it.
+    A name that is given in place of a component is one that has this name alone.
     """
 
     name: str
@@ -78,11 +79,11 @@ class Machine:
 
     @property
     def items(self) -> list[str]:
-        """All names, those of the platform first, as they were written."""
+        """All names, first those of the platform, as they were written."""
         return [name for component in self.all() for name in component.names]
 
     def all(self) -> Iterator[Component]:
-        """The platform, where it is known, and the components."""
+        """The platform, if it is known, and the components."""
         if self.platform is not None:
             yield self.platform
         yield from self.components
@@ -92,7 +93,8 @@ class Machine:
         return [*self.items, *(one.name for component in self.components for one in component.supposed)]
 
     def own_items(self) -> list[str]:
-        """The names by which a machine has items at all. Beside components, of which none may have a name, a platform is none."""
+        """The names by which a machine has items at all. Beside components, of which none may have a name, a platform
+        is none."""
         return [name for component in self.components for name in component.names] if self.components else self.items
 
     def own_names(self) -> list[str]:
@@ -100,8 +102,8 @@ class Machine:
         return [*self.own_items(), *(one.name for component in self.components for one in component.supposed)]
 
     def add(self, other: Machine) -> None:
-        """Adds what another list says of the same machine. Where both say which platform it is, the first stands, and the other
-        one is a component."""
+        """Adds the components that another list has for the same machine. If both name a platform, the first remains,
+        and the other becomes a component."""
         if self.platform is None:
             self.platform = other.platform
             self.components.extend(other.components)
@@ -116,12 +118,14 @@ class Machine:
         record: dict[str, Json] = {"machine": self.name}
         if self.platform is not None:
             record["platform"] = _record(self.platform)
-        record["components"] = [one.names[0] if one.is_name_alone() and not one.id else _record(one) for one in self.components]
+        record["components"] = [
+            one.names[0] if one.is_name_alone() and not one.id else _record(one) for one in self.components
+        ]
         return record_text(record)
 
 
 def machine_of(value: Json) -> Machine:
-    """The machine of an object of JSON. FormFault where it is none; its words say why."""
+    """The machine of an object of JSON. FormFault if it is none; its words say why."""
     _needs(isinstance(value, dict), "it is no object")
     _knows(value, _MACHINE, "the machine")
     name, has = value.get("machine"), value.get("components", [])
@@ -137,7 +141,10 @@ def _component(value: Json, where: str) -> Component:
     _needs(isinstance(value, dict), f"{where} is neither an object nor a name")
     _knows(value, _COMPONENT, where)
     names = value.get("names", [])
-    _needs(isinstance(names, list) and all(isinstance(name, str) for name in names), f"the names of {where} are no list of texts")
+    _needs(
+        isinstance(names, list) and all(isinstance(name, str) for name in names),
+        f"the names of {where} are no list of texts",
+    )
     texts = [value.get(key, "") for key in ("id", "kind", "purl")]
     _needs(all(isinstance(text, str) for text in texts), f"id, kind and purl of {where} are no texts")
     id, kind, purl = texts

@@ -1,12 +1,13 @@
 """Which products an advisory concerns, read from its record alone, without `cpe` and without a statement.
 
-That is known only if all in the advisory is plain: its names are spelled as `cpe` writes them, in any letter case behind their parts,
-with a plain vendor and product; its bounds are ranges; and nothing of it will be reported. Then it is FALSE on each machine that has
-none of these products. Any other advisory is one that may concern every machine.
+That is known only if all in the advisory is plain: its names are spelled as `cpe` writes them, in any letter case
+behind their parts, with a plain vendor and product; its bounds are ranges; and nothing of it will be reported. Then it
+is FALSE on each machine that has none of these products. Any other advisory is one that may concern every machine.
 
-A configuration of which all vulnerable names are of applications is FALSE without one of these. If one is of an operating system, of
-firmware or of hardware, a list may be silent of it (asked.py). Then the configuration may be UNKNOWN by any other of its names, so it
-concerns the products of all. If something is negated beside such a name, no product is needed, and it may concern every machine.
+A configuration of which all vulnerable names are of applications is FALSE without one of these. If one is of an
+operating system, of firmware or of hardware, a list may be silent of it (statement_rewriter.py). Then the configuration
+may be UNKNOWN by any other of its names, so it concerns the products of all. If something is negated beside such a
+name, no product is needed, and it may concern every machine.
 """
 from __future__ import annotations
 
@@ -26,27 +27,30 @@ from .scores import score_of
 _TEXT = r"(?:[a-z0-9._\-]|\\[!\"#$%&'()+,/:;<=>@\[\]^`{|}~])+"
 _PLAIN = rf"(?!-:){_TEXT}"
 _ANY = rf"(?:\*|{_TEXT})"
-_NAME = re.compile(rf"cpe:2\.3:([aho]):({_PLAIN}):({_PLAIN}):{_ANY}:{_ANY}:{_ANY}:(?:[*-]|[a-z]{{2,3}}):{_ANY}:{_ANY}:{_ANY}:{_ANY}")
+_NAME = re.compile(
+    rf"cpe:2\.3:([aho]):({_PLAIN}):({_PLAIN}):{_ANY}:{_ANY}:{_ANY}:(?:[*-]|[a-z]{{2,3}}):{_ANY}:{_ANY}:{_ANY}:{_ANY}"
+)
 _FRONTS = tuple(f"{names.PREFIX}{part}:" for part in "aho")
 _FRONT = re.compile(rf"cpe:2\.3:[aho]:({_PLAIN}):({_PLAIN}):")
 _COMPONENT = re.compile(_PLAIN)
 # (a number behind # is that of a part of an advisory)
 _ID = re.compile(r"[!-\"$-~]{1,64}")
 _BOUNDS_OF_A_KIND = (("versionStartIncluding", "versionStartExcluding"), ("versionEndIncluding", "versionEndExcluding"))
-# Longer logic may have to be taken apart, or be UNKNOWN as it is asked, so that it fits in a line. Beside its name and its id a match has
-# so many bytes there, and so many more where the check of a part may be beside it; and so many has a node.
+# A longer test may have to be split, or replaced by a check without a result, so that it fits into a line. The further
+# numbers are the bytes of a match beside its name and its id, of the check of a part beside it, and of a node.
 _MOST_BYTES, _BESIDE, _OF_PART, _OF_NODE = 60_000, 100, 100, 200
 
 
 def plain_name(name: str) -> tuple[str, Product] | None:
-    """The part and the product of a name that is spelled as cpe writes it, or in other letter case behind its part; None of any other."""
+    """The part and the product of a name that is spelled as cpe writes it, or in other letter case behind its part;
+    None of any other."""
     # (the front of a formatted string has small letters)
     found = _NAME.fullmatch(name.lower()) if name.isascii() and name.startswith(_FRONTS) else None
     return (found[1], (found[2], found[3])) if found else None
 
 
 def plain_product(name: str) -> Product | None:
-    """The product of a name, if that is plain, whatever comes behind it."""
+    """The product of a name, if the product is plain; the rest of the name may be anything."""
     found = _FRONT.match(name.lower()) if name.isascii() and name.startswith(_FRONTS) else None
     return (found[1], found[2]) if found else None
 
@@ -56,7 +60,9 @@ def open_product(name: str) -> Product:
     parts = names.components(name.lower()) if name.isascii() and name.startswith(_FRONTS) else []
     if len(parts) <= names.PRODUCT:
         return OPEN, OPEN
-    vendor, product = (one if one != names.NA and _COMPONENT.fullmatch(one) else OPEN for one in parts[names.VENDOR : names.VERSION])
+    vendor, product = (
+        one if one != names.NA and _COMPONENT.fullmatch(one) else OPEN for one in parts[names.VENDOR : names.VERSION]
+    )
     return vendor, product
 
 
@@ -70,9 +76,9 @@ Named = frozenset[tuple[str, Product]]
 
 @dataclass(frozen=True, slots=True)
 class Concern:
-    """What a plain advisory concerns: products without which it is FALSE. `parts` are the parts of the names for which its statement
-    asks, such as `o` for operating systems, and `named` are its matches that have bounds, with their products. `beside` are the products
-    of its other names."""
+    """What a plain advisory concerns: products without which it is FALSE. `parts` are the parts of the names for which
+    its statement asks, such as `o` for operating systems, and `named` are its matches that have bounds, with their
+    products. `beside` are the products of its other names."""
 
     products: frozenset[Product]
     parts: frozenset[str]
@@ -85,7 +91,8 @@ class Concern:
         return {key for key, _ in self.named}
 
     def meets(self, wanted: Collection[Product], listing: Collection[str] = ()) -> bool:
-        """Whether it may concern items of these products (keys of near_products.py), or has one of the matches that list some."""
+        """Whether it may concern items of these products (keys of near_products.py), or has one of the matches that
+        list some."""
         if any(key in wanted for product in self.products for key in keys_of(product)):
             return True
         return bool(listing) and any(key in listing for key, _ in self.named)
@@ -97,7 +104,7 @@ class Concern:
 
 def concern_of(record: Json) -> Concern | None:
     """What the advisory of a record concerns; None if not all in it is plain."""
-    reading = _Reading()
+    reading = _ConcernReader()
     try:
         cve = record["cve"]
         _needs(isinstance(cve.get("id"), str) and _ID.fullmatch(cve["id"]) is not None)
@@ -111,7 +118,8 @@ def concern_of(record: Json) -> Concern | None:
 
 
 def named_of(record: Json) -> Named:
-    """The matches of any advisory that have bounds, wherever in it they are, by their ids, with the products of their names."""
+    """The matches of any advisory that have bounds, wherever in it they are, by their ids, with the products of their
+    names."""
     found = set()
     for match in _all_matches(record):
         key, criteria = match.get("matchCriteriaId"), match.get("criteria")
@@ -121,7 +129,7 @@ def named_of(record: Json) -> Named:
 
 
 def ranges_of(record: Json) -> frozenset[tuple[str, Product, int]]:
-    """The same matches, each with a number that stands for its name and its bounds."""
+    """The same matches, each with a number that represents its name and its bounds."""
     found = set()
     for match in _all_matches(record):
         key, criteria = match.get("matchCriteriaId"), match.get("criteria")
@@ -133,12 +141,15 @@ def ranges_of(record: Json) -> frozenset[tuple[str, Product, int]]:
 
 
 def products_named(record: Json) -> set[Product | None]:
-    """The products of all names of the matches of any advisory, wherever in it they are; None for a name that isn't plain."""
-    return {plain_product(one) if isinstance(one := match.get("criteria"), str) else None for match in _all_matches(record)}
+    """The products of all names of the matches of any advisory, wherever in it they are; None for a name that isn't
+    plain."""
+    return {
+        plain_product(one) if isinstance(one := match.get("criteria"), str) else None for match in _all_matches(record)
+    }
 
 
 def _all_matches(record: Json) -> Iterator[dict[str, Json]]:
-    """The matches of what is of the published form in the record of an advisory."""
+    """The matches of the parts of an advisory's record that are of the published form."""
     cve = record.get("cve") if isinstance(record, dict) else None
     configurations = cve.get("configurations") if isinstance(cve, dict) else None
     nodes = [(node, 0) for one in _dicts(configurations) for node in _dicts(one.get("nodes"))]
@@ -180,7 +191,7 @@ class _Node(NamedTuple):
         return _OF_NODE + sum(match.bytes + _OF_PART * self.is_and for match in self.matches)
 
 
-class _Reading:
+class _ConcernReader:
     """What is read of the configurations of an advisory."""
 
     def __init__(self) -> None:
@@ -196,8 +207,8 @@ class _Reading:
         _needs(self._bytes <= _MOST_BYTES)
 
     def _configuration(self, configuration: Json) -> None:
-        """Reads a configuration. What is negated in it becomes a check, so only the other names are facts of its statement. If its
-        logic could hold without a vulnerable product, the vulnerable ones are facts beside it."""
+        """Reads a configuration. What is negated in it becomes a check, so only the other names are facts of its
+        statement. If its logic could hold without a vulnerable product, the vulnerable ones are facts beside it."""
         is_and, is_negated = _logic(configuration)
         nodes = [self._node(node) for node in _filled(configuration["nodes"])]
         matches = [match for node in nodes for match in node.matches]
@@ -235,15 +246,18 @@ class _Reading:
         part, product = found
         if bounds and _is_key(key):
             self.named.add((key, product))
-        # (the id of a check is that of its match, or its name with its bounds; a quoted letter has a backslash more in a line)
+        # (the id of a check is that of its match, or its name with its bounds; a quoted letter has a backslash more in
+        # a line)
         size = _BESIDE + len(criteria) + criteria.count("\\")
         if bounds:
-            size += max(4 * len(key or ""), 2 * (len(criteria) + sum(len(bound) + len(" behind, ") for bound in bounds)))
+            size += max(
+                4 * len(key or ""), 2 * (len(criteria) + sum(len(bound) + len(" behind, ") for bound in bounds))
+            )
         return _Match(part, product, is_vulnerable, size)
 
 
 def _copies(nodes: list[_Node], is_needed: bool) -> int:
-    """How often each name of a configuration is in its statement at most, as that is asked (asked.py)."""
+    """How often each name of a configuration is in its rewritten statement at most (statement_rewriter.py)."""
     if not is_needed:
         return 2 if {match.part for node in nodes for match in node.matches} == {"a"} else 4
     of_nodes = [{match.part for match in node.matches} for node in nodes if not node.is_negated]

@@ -1,12 +1,14 @@
-"""CVE records of format 5 (cvelistV5), as advisories of NVD's form: what a record says itself of the names that it concerns.
+"""CVE records of format 5 (cvelistV5), as advisories of NVD's form: a record's own statement of the names that it
+concerns.
 
-- `cpeApplicability` of a container (`cna`, or one of `adp`) is in the form of NVD's configurations, and is taken as it stands.
-- Where a container has none, each of its `affected` with `cpes` is a configuration. A version that is affected is the product from it
-  to it, and a range the product in its bounds, where its `versionType` states an order. Where none is stated (`custom`, `git`, or
-  nothing), where an entry has `changes`, stands behind one of another status, or is for some platforms alone, the product is asked
-  for, and what it says of its versions stays UNKNOWN. So does what a record leaves open: versions that it doesn't list, unless its
-  `defaultStatus` is `unaffected`.
-- An `affected` without `cpes` has no name to ask for: a record of only such is not analysed.
+- `cpeApplicability` of a container (`cna`, or one of `adp`) has the form of NVD's configurations, and is used
+  unchanged.
+- If a container has none, each of its `affected` with `cpes` becomes a configuration. An affected version becomes the
+  product with this version as both bounds. A range becomes the product with its bounds, if its `versionType` names an
+  order. In all other cases the product is asked for, and its versions stay UNKNOWN. These are: no order is named
+  (`custom`, `git`, or nothing), the entry has `changes`, it follows an entry of another status, or it is for some
+  platforms only. The versions that a record doesn't list stay UNKNOWN too, unless its `defaultStatus` is `unaffected`.
+- An `affected` without `cpes` has no name to ask for. A record with nothing else counts as not analysed.
 
 All containers are joined by OR.
 """
@@ -23,7 +25,12 @@ DOUBT = "doubt"
 # Types of versions whose order is stated by a specification.
 _ORDERED = ("semver", "maven", "python", "rpm", "deb", "npm", "gem", "apk", "nuget")
 _ALL, _BEGINNING, _NO_VERSION = ("*", "all"), ("0", "*"), ("n/a", "unspecified", "-", "unknown", "")
-_METRICS = {"cvssV4_0": "cvssMetricV40", "cvssV3_1": "cvssMetricV31", "cvssV3_0": "cvssMetricV30", "cvssV2_0": "cvssMetricV2"}
+_METRICS = {
+    "cvssV4_0": "cvssMetricV40",
+    "cvssV3_1": "cvssMetricV31",
+    "cvssV3_0": "cvssMetricV30",
+    "cvssV2_0": "cvssMetricV2",
+}
 # What is read as a version, and not as words about some, such as `<2.0`, `1.x` or `1.0-1.5`.
 _PLAIN = re.compile(r"[0-9A-Za-z][0-9A-Za-z._+~:-]{0,255}")
 _SOME = re.compile(r"(^|[._-])[xX]($|[._-])|^v?\d+(\.\d+)+-v?\d+(\.\d+)+$")
@@ -61,15 +68,23 @@ def vulnerability(record: Json) -> Json:
 
 def _details(cna: Json, containers: list[Json]) -> dict[str, Json]:
     """What people want to know of it, in NVD's form."""
-    texts = [one for one in cna.get("descriptions") or () if isinstance(one, dict)] if _is_list(cna.get("descriptions")) else []
+    texts = (
+        [one for one in cna.get("descriptions") or () if isinstance(one, dict)]
+        if _is_list(cna.get("descriptions"))
+        else []
+    )
     described = [{"lang": str(one.get("lang")).split("-")[0], "value": one.get("value")} for one in texts]
-    title = [{"lang": "en", "value": cna["title"]}] if isinstance(cna.get("title"), str) and cna["title"].strip() else []
+    title = (
+        [{"lang": "en", "value": cna["title"]}] if isinstance(cna.get("title"), str) and cna["title"].strip() else []
+    )
     metrics: dict[str, list[Json]] = {}
     for number, container in enumerate(containers):
         for metric in container["metrics"] if _is_list(container.get("metrics")) else ():
             for name, called in _METRICS.items():
                 if isinstance(metric, dict) and name in metric:
-                    metrics.setdefault(called, []).append({"type": "Secondary" if number else "Primary", "cvssData": metric[name]})
+                    metrics.setdefault(called, []).append(
+                        {"type": "Secondary" if number else "Primary", "cvssData": metric[name]}
+                    )
     return {"descriptions": [*title, *described], "metrics": metrics, "references": cna.get("references") or []}
 
 
@@ -91,7 +106,8 @@ def _configurations(container: Json) -> list[Json]:
 
 
 def _matches(affected: Json) -> Iterator[Json]:
-    """The matches of what is affected: those that are decided, and of each name that stays open beside them one with the reasons."""
+    """The matches of what is affected: those that are decided, and of each name that stays open beside them one with
+    the reasons."""
     platforms = ", ".join(str(one) for one in members(affected, "platforms"))
     for name in dict.fromkeys(_texts(members(affected, "cpes"))):
         doubts: dict[str, None] = {}
@@ -113,11 +129,14 @@ def _texts(values: list[Json]) -> list[str]:
 
 
 def _versions(affected: Json, name: str) -> Iterator[tuple[Mapping[str, str], str]]:
-    """Which versions of this name are affected: bounds of NVD's form, or why that isn't known."""
+    """The affected versions of this name: bounds of NVD's form, or why they aren't known."""
     default, entries = text_at(affected, "defaultStatus") or "unknown", members(affected, "versions")
     own = _own_version(name)
     if own:
-        is_listed = any(_is_single(one) and text_at(one, "version") == own and text_at(one, "status") == "affected" for one in entries)
+        is_listed = any(
+            _is_single(one) and text_at(one, "version") == own and text_at(one, "status") == "affected"
+            for one in entries
+        )
         is_sure = is_listed or default == "affected" and not entries
         yield {}, "" if is_sure else "the record doesn't say which of its versions are affected"
         return
@@ -142,7 +161,7 @@ def _is_single(entry: Json) -> bool:
 
 
 def _bounds(entry: Json) -> tuple[Mapping[str, str], str]:
-    """The bounds of a version or range that is affected, or why there are none that can be asked for."""
+    """The bounds of an affected version or range, or why there are none that can be asked for."""
     version, type = text_at(entry, "version") or "", text_at(entry, "versionType") or ""
     before, to = text_at(entry, "lessThan"), text_at(entry, "lessThanOrEqual")
     if members(entry, "changes"):
@@ -169,7 +188,7 @@ def _is_version(text: str) -> bool:
 
 
 def _own_version(name: str) -> str:
-    """The version that a name has itself; empty where it is any."""
+    """The version in the name itself; empty if it is ANY."""
     found = _VERSION_OF.match(name) or _VERSION_OF_URI.match(name)
     version = found[1] if found else None
     return "" if version in (None, "", "*") else re.sub(r"\\(.)", r"\1", version or "")

@@ -8,13 +8,14 @@ and `deprecate`, all entries first.
   its repetitions are not reported. If there are several records of a product, the record with the latest `lastModified`
   is used.
 - The successors of a deprecated product are those of its own `deprecatedBy`, and the products that say that they
-  deprecate it. The API doesn't say the kind of a deprecation. The recipe writes NAME_REMOVAL if there is no successor,
-  NAME_CORRECTION for one successor, and ADDITIONAL_INFORMATION for several. The API doesn't say the date either, so the
-  recipe writes the date of the product's last change.
-- A match string itself, with its range of versions, is no name of a dictionary. So only its matches are read.
+  deprecate this product. The API doesn't say the kind of a deprecation. The recipe writes NAME_REMOVAL if there is no
+  successor, NAME_CORRECTION for one successor, and ADDITIONAL_INFORMATION for several. Nor does the API say the date,
+  so the recipe writes the date of the product's last change.
+- A match string itself, with its range of versions, is no name of a dictionary. So only the names that it matches are
+  read.
 
-What is left out is reported, and the status is 1. A feed without any record is refused. A feed with missing pages is
-refused too; with --partial the missing pages are only reported. --large accepts pages that unpack to any size
+If something is left out, it is reported, and the status is 1. A feed without any record is refused, and so is a feed
+with missing pages. With --partial missing pages are only reported. --large accepts pages that unpack to any size
 (unpack.py).
 """
 from __future__ import annotations
@@ -22,12 +23,12 @@ from __future__ import annotations
 from collections.abc import Iterable, Iterator, Sequence
 from dataclasses import dataclass, field
 
-from . import whole
-from .feeds import FormFault, Json, Page, Placed, member, members, printable, quoted_text, record_text, text_at
-from .latest import time_of, told
+from . import completeness
+from .arguments import read_arguments
+from .console import Fatal, Messages, Output, shorten
+from .feeds import FormFault, Json, Page, PlacedRecord, member, members, printable, quoted_text, record_text, text_at
+from .latest_records import describe_older, time_of
 from .program import Candidate, Program, candidate_at
-from .said import Fatal, Output, Said, quoted
-from .words import read_words
 
 USAGE = "dictionary.sh [--partial] [--large] [FILE..]"
 NO_FORM = "not of the published form"
@@ -35,22 +36,22 @@ KINDS = ("products", "matchStrings")
 
 
 def run(words: list[str]) -> int:
-    read = read_words(words, whole.OPTIONS, USAGE)
-    said, output, program = Said(), Output(), Program()
-    candidates = candidates_of(read.files, said, reading=whole.Reading.of(read))
-    output.lines(program.accepted(candidates, said, unsaid="exists"))
+    arguments = read_arguments(words, completeness.OPTIONS, USAGE)
+    messages, output, program = Messages(), Output(), Program()
+    candidates = candidates_of(arguments.files, messages, reading=completeness.ReadingPolicy.of(arguments))
+    output.lines(program.accept(candidates, messages, unsaid="exists"))
     output.end()
-    return said.status()
+    return messages.status()
 
 
 def candidates_of(
-    paths: Sequence[str], said: Said, strict: bool = False, reading: whole.Reading | None = None
+    paths: Sequence[str], messages: Messages, strict: bool = False, reading: completeness.ReadingPolicy | None = None
 ) -> Iterator[Candidate]:
     """What the records of these feeds become: first the entries, and then the deprecations."""
-    yield from candidates_in(whole.pages(paths, said, KINDS, strict, reading), said)
+    yield from candidates_in(completeness.pages(paths, messages, KINDS, strict, reading), messages)
 
 
-def candidates_in(pages: Iterable[Page], said: Said) -> Iterator[Candidate]:
+def candidates_in(pages: Iterable[Page], messages: Messages) -> Iterator[Candidate]:
     """The same of pages."""
     products = Products()
     empty, is_empty = [], True
@@ -64,18 +65,19 @@ def candidates_in(pages: Iterable[Page], said: Said) -> Iterator[Candidate]:
     if is_empty:
         raise Fatal("; ".join(empty))
     for text in empty:
-        said.remark(text)
+        messages.remark(text)
     if products.older:
-        said.remark(told(len(products.older), "product", "products"))
+        messages.remark(describe_older(len(products.older), "product", "products"))
     yield from (one for one in products.candidates if one is not None)
     yield from products.deprecations().candidates()
 
 
 @dataclass(frozen=True, slots=True)
 class Change:
-    """What a product tells of deprecations: whether it is deprecated itself, since when, by which names, and which names by it."""
+    """What a product's record says about deprecations: whether it is deprecated itself, since when, by which names, and
+    which names it replaces."""
 
-    placed: Placed = field(compare=False)
+    placed: PlacedRecord = field(compare=False)
     name: Json
     is_old: bool
     date: Json
@@ -84,17 +86,19 @@ class Change:
 
 
 class Products:
-    """The entries in their order, and what they tell of deprecations, of each name by those that were modified last."""
+    """The entries in their order, and what their records say about deprecations. Of each name the records that were
+    modified last count."""
 
     def __init__(self) -> None:
         self.candidates: list[Candidate | None] = []
         self.older: set[str] = set()
         self._changes: dict[int, Change] = {}
-        # (of each name when it was modified, and the places of those that count, of which more than one tell the same time)
+        # (of each name when it was modified, and the places of the records that count; several if their times are
+        # equal)
         self._places: dict[str, tuple[Json, tuple[int, ...]]] = {}
 
     def put(self, name: Json, modified: Json, entry: Candidate, change: Change | None) -> None:
-        """Puts a product of this name, or passes it over where a later one is there."""
+        """Adds a product of this name, unless a later one is there."""
         # (one without a name is said, and is no other's)
         known = self._places.get(name) if isinstance(name, str) else None
         if known is not None and modified != known[0]:
@@ -116,12 +120,12 @@ class Products:
             self._changes[place] = change
 
     def deprecations(self) -> Deprecations:
-        """What they tell together."""
+        """The deprecations that follow from all of them."""
         return deprecations_of(self._changes[place] for place in sorted(self._changes))
 
 
 def deprecations_of(changes: Iterable[Change]) -> Deprecations:
-    """What these changes tell together, which are in the order of their products."""
+    """The deprecations that follow from these changes, which are in the order of their products."""
     found = Deprecations()
     for change in changes:
         if change.is_old:
@@ -134,36 +138,36 @@ def deprecations_of(changes: Iterable[Change]) -> Deprecations:
 
 
 @dataclass
-class Old:
-    """A deprecated product: where it stands, or who tells of it, the date that stands for that of its deprecation, and whether it was
-    there."""
+class OldProduct:
+    """A deprecated product: its own record, or the record that mentions it, the date of the deprecation, and whether
+    its own record is there."""
 
-    placed: Placed
+    placed: PlacedRecord
     date: Json = None
     is_here: bool = False
     successors: dict[str, Json] = field(default_factory=dict)
 
 
 class Deprecations:
-    """The deprecated products, and those that are only said to be deprecated, in the order in which they came."""
+    """The deprecated products, and those that only other records call deprecated, in the order of the feeds."""
 
     def __init__(self) -> None:
-        self._old: dict[str, Old] = {}
+        self._old: dict[str, OldProduct] = {}
         self._names: dict[str, Json] = {}
-        # (who is said to be deprecated before it comes itself stands where it came)
+        # (a product that is mentioned before its own record keeps the earlier place)
         self._here: dict[str, None] = {}
 
-    def _of(self, placed: Placed, name: Json) -> Old:
+    def _of(self, placed: PlacedRecord, name: Json) -> OldProduct:
         key = record_text(name)
         self._names.setdefault(key, name)
-        return self._old.setdefault(key, Old(placed))
+        return self._old.setdefault(key, OldProduct(placed))
 
-    def put(self, placed: Placed, name: Json, date: Json) -> None:
+    def put(self, placed: PlacedRecord, name: Json, date: Json) -> None:
         old = self._of(placed, name)
         old.placed, old.date, old.is_here = placed, date, True
         self._here.setdefault(record_text(name))
 
-    def put_successor(self, placed: Placed, name: Json, successor: Json) -> None:
+    def put_successor(self, placed: PlacedRecord, name: Json, successor: Json) -> None:
         self._of(placed, name).successors.setdefault(record_text(successor), successor)
 
     def candidates(self) -> Iterator[Candidate]:
@@ -173,11 +177,11 @@ class Deprecations:
         for key, old in self._old.items():
             if not old.is_here:
                 by = ", ".join(str(successor) for successor in old.successors.values())
-                reason = f"no deprecated product here, though said to be deprecated by {quoted(by)}"
+                reason = f"no deprecated product here, though said to be deprecated by {shorten(by)}"
                 yield candidate_at(old.placed, str(self._names[key]), reason=reason)
 
 
-def _deprecation(name: Json, old: Old) -> Json:
+def _deprecation(name: Json, old: OldProduct) -> Json:
     successors = list(old.successors.values())
     kind = ("NAME_REMOVAL", "NAME_CORRECTION", "ADDITIONAL_INFORMATION")[min(len(successors), 2)]
     named = {"successors": successors} if successors else {}
@@ -185,7 +189,7 @@ def _deprecation(name: Json, old: Old) -> Json:
 
 
 def _products(page: Page, products: Products) -> Iterator[Candidate]:
-    """Puts the products of a page; those that can't be read come out."""
+    """Adds the products of a page, and yields those that can't be read."""
     for placed in page.each("product", product_id):
         try:
             product = Product.of(placed)
@@ -203,8 +207,8 @@ def product_id(record: Json) -> Json:
 
 @dataclass(frozen=True, slots=True)
 class Product:
-    """A product of a feed: its name, when it was modified, its title and the day on which it was created, if it has them, and what it
-    tells of deprecations."""
+    """A product of a feed: its name, when it was modified, its title and day of creation, if it has them, and what its
+    record says about deprecations."""
 
     name: Json
     modified: Json
@@ -213,7 +217,7 @@ class Product:
     change: Change | None = None
 
     @staticmethod
-    def of(placed: Placed) -> Product:
+    def of(placed: PlacedRecord) -> Product:
         """The product of a record. FormFault if it isn't of the published form."""
         product = member(placed.record, "cpe")
         name, modified, created = member(product, "cpeName"), product.get("lastModified"), product.get("created")
@@ -232,12 +236,18 @@ class Product:
         """The record of its entry."""
         texts = self.name, self.title, self.day
         if not all(one is None or type(one) is str for one in texts) or self.name is None:
-            provenance = {"provenance": {"changes": [{"kind": "ORIGINAL_RECORD", "date": self.day}]}} if self.day else {}
+            provenance = (
+                {"provenance": {"changes": [{"kind": "ORIGINAL_RECORD", "date": self.day}]}} if self.day else {}
+            )
             title = {} if self.title is None else {"title": self.title}
             return record_text({"do": "entry", "name": self.name, **title, **provenance})
         # (nearly all of a million are so, and of these the form is known)
         title = "" if self.title is None else f',"title":{quoted_text(self.title)}'
-        date = f',"provenance":{{"changes":[{{"kind":"ORIGINAL_RECORD","date":{quoted_text(self.day)}}}]}}' if self.day else ""
+        date = (
+            f',"provenance":{{"changes":[{{"kind":"ORIGINAL_RECORD","date":{quoted_text(self.day)}}}]}}'
+            if self.day
+            else ""
+        )
         return printable(f'{{"do":"entry","name":{quoted_text(self.name)}{title}{date}}}')
 
 

@@ -1,5 +1,5 @@
-"""EPSS: how probable it is that a vulnerability is exploited in the next thirty days, as FIRST publishes it each day as CSV, plain or
-packed by gzip.
+"""EPSS: how probable it is that a vulnerability is exploited in the next thirty days, as FIRST publishes it each day as
+CSV, plain or packed by gzip.
 
     #model_version:v2023.03.01,score_date:2024-01-15T00:00:00+0000
     cve,epss,percentile
@@ -14,9 +14,9 @@ from collections.abc import Sequence
 from dataclasses import dataclass
 from typing import NamedTuple
 
+from .console import Fatal, Messages, shorten
 from .feeds import FeedFault, Json, name_of, read_feed
 from .kev import CVE
-from .said import Fatal, Said, quoted
 
 _COMMENT = re.compile(r"#model_version:([^,\s]+),score_date:([^,\s]+)")
 _HEADER = "cve,epss,percentile"
@@ -36,7 +36,7 @@ class Probability(NamedTuple):
 
 @dataclass(frozen=True)
 class Epss:
-    """The probabilities: their file, its model and day if it tells them, and each by its id."""
+    """The probabilities: their file, its model and day if the file has them, and each probability by its id."""
 
     name: str
     model: str
@@ -44,12 +44,12 @@ class Epss:
     found: dict[str, Probability]
 
     def json(self) -> dict[str, Json]:
-        """What stands at the top of a result."""
+        """The members at the top of a result."""
         told = {"modelVersion": self.model, "scoreDate": self.day} if self.model else {}
         return {"file": self.name, "count": len(self.found), **told}
 
 
-def read_epss(path: str, said: Said) -> Epss:
+def read_epss(path: str, messages: Messages) -> Epss:
     """The probabilities at this path. Fatal if there are none, or if they aren't whole."""
     name = name_of(path)
     try:
@@ -58,13 +58,13 @@ def read_epss(path: str, said: Said) -> Epss:
         behind = 1 if lines[0].startswith("#") else 0
         if lines[behind : behind + 1] != [_HEADER]:
             raise FeedFault(f"line {behind + 1} isn't {_HEADER}")
-        found = _probabilities(lines, behind + 1, name, said)
+        found = _probabilities(lines, behind + 1, name, messages)
     except FeedFault as fault:
         raise Fatal(f"{name}: it isn't EPSS as FIRST publishes it: {fault}") from fault
     if not found:
         raise Fatal(f"{name}: no probability is in it")
     if told is None:
-        said.remark(f"{name}: no model_version and score_date, so its day isn't known")
+        messages.remark(f"{name}: no model_version and score_date, so its day isn't known")
     return Epss(name, told[1] if told else "", told[2] if told else "", found)
 
 
@@ -80,7 +80,7 @@ def _lines(data: bytes) -> list[str]:
     return text.removesuffix("\n").replace("\r\n", "\n").removesuffix("\r").split("\n")
 
 
-def _probabilities(lines: Sequence[str], behind: int, name: str, said: Said) -> dict[str, Probability]:
+def _probabilities(lines: Sequence[str], behind: int, name: str, messages: Messages) -> dict[str, Probability]:
     found: dict[str, Probability] = {}
     for number, line in enumerate(lines[behind:], behind + 1):
         row = _ROW.fullmatch(line)
@@ -92,7 +92,7 @@ def _probabilities(lines: Sequence[str], behind: int, name: str, said: Said) -> 
         if id in found:
             if found[id] != (epss, percentile):
                 raise FeedFault(f"line {number} has {id} again, with other numbers")
-            said.remark(f"{name}: {id} is there twice, with the same numbers")
+            messages.remark(f"{name}: {id} is there twice, with the same numbers")
         found[id] = Probability(epss, percentile)
     return found
 
@@ -103,6 +103,6 @@ def _fault(line: str, number: int) -> FeedFault:
     if len(cells) != 3:
         return FeedFault(f"line {number} has {len(cells)} cells in place of 3")
     if not CVE.fullmatch(cells[0]):
-        return FeedFault(f"line {number} has {quoted(cells[0])}, which is no id of a CVE")
+        return FeedFault(f"line {number} has {shorten(cells[0])}, which is no id of a CVE")
     odd = next(cell for cell in cells[1:] if not (_NUMBER.fullmatch(cell) and float(cell) <= 1))
-    return FeedFault(f"line {number} has {quoted(odd)}, which is no number from 0 to 1")
+    return FeedFault(f"line {number} has {shorten(odd)}, which is no number from 0 to 1")

@@ -1,4 +1,5 @@
-"""How the recipes read feeds: files or standard input, packed or not (unpack.py), as pages of JSON, each with a list of records."""
+"""How the recipes read feeds: files or standard input, packed or not (unpack.py), as pages of JSON, each with a list of
+records."""
 from __future__ import annotations
 
 import functools
@@ -10,8 +11,8 @@ from dataclasses import dataclass, field, replace
 from pathlib import Path
 from typing import Any, NamedTuple, Protocol, TypeVar
 
-from .said import Fatal, Said, quoted
-from .unpack import LIMITS, FeedFault, Limits, Unpacked, read_feed
+from .console import Fatal, Messages, shorten
+from .unpack import LIMITS, FeedFault, Limits, Unpacker, read_feed
 
 Json = Any
 Read = TypeVar("Read")
@@ -21,11 +22,11 @@ _SURROGATE = re.compile("[\ud800-\udfff]")
 _COMPACT = json.JSONEncoder(ensure_ascii=False, separators=(",", ":")).encode
 # A text as JSON has it.
 quoted_text = json.encoder.encode_basestring
-# What pages of NVD's API 2.0 say that they are, and what each tells of its place in its feed.
+# The `format` of pages of NVD's API 2.0, and the members that place a page in its feed.
 _FORMATS = {"products": "NVD_CPE", "vulnerabilities": "NVD_CVE", "matchStrings": "NVD_CPEMatchString"}
 _VERSION = re.compile(r"2\.0(\.\d+)?")
 ADVISORIES = "vulnerabilities"
-# What pages of CVE records are called, which are no part of a feed that tells how many it has.
+# The member that has the records of a page of CVE records. Such a page isn't part of a feed with a known total.
 RECORDS = "CVE records"
 _RECORD_VERSION = re.compile(r"5(\.\d+)*")
 # (as a store can keep it)
@@ -39,7 +40,7 @@ class FormFault(Exception):
 
 @dataclass(frozen=True, slots=True)
 class Source:
-    """Where records come from: what one of them is called, and the file."""
+    """The origin of records: what one of them is called, and the file."""
 
     word: str
     name: str
@@ -48,7 +49,7 @@ class Source:
         return f"{self.word} {number} of {self.name}"
 
 
-class Placed(NamedTuple):
+class PlacedRecord(NamedTuple):
     """A record of a page with its id, and its number there; one without an id is called by its place."""
 
     id: str
@@ -59,10 +60,11 @@ class Placed(NamedTuple):
 
 @dataclass(frozen=True)
 class Page:
-    """A page of a feed: the name of its file, the member that has its records, these, and what it tells of its place in its feed.
+    """A page of a feed: the name of its file, the member that has its records, the records, and the members that place
+    it in its feed.
 
-    `numbers` has the places of the records in the file, where some of them were taken out. CVE records that were put in NVD's form are
-    known by `is_of_records`.
+    `numbers` has the places of the records in the file, if some of them were removed. `is_of_records` marks CVE records
+    that were converted to NVD's form.
     """
 
     name: str
@@ -72,15 +74,15 @@ class Page:
     numbers: Sequence[int] | None = None
     is_of_records: bool = False
 
-    def each(self, word: str, id_of: Callable[[Json], Json]) -> Iterator[Placed]:
-        """The records with their ids; one that has none is told by its place, as `word`."""
+    def each(self, word: str, id_of: Callable[[Json], Json]) -> Iterator[PlacedRecord]:
+        """The records with their ids; the id of a record without one is its place, called `word`."""
         source = Source(word, self.name)
         for number, record in zip(self.numbers or range(1, len(self.records) + 1), self.records):
             try:
                 id = id_of(record)
             except FormFault:
                 id = None
-            yield Placed(id if isinstance(id, str) and id else source.place(number), record, source, number)
+            yield PlacedRecord(id if isinstance(id, str) and id else source.place(number), record, source, number)
 
     def only(self, kept: Sequence[int]) -> Page:
         """The page with the records at these places of its list alone."""
@@ -91,8 +93,8 @@ class Page:
 
 @dataclass(frozen=True)
 class Part:
-    """A file, or a member of an archive: its path, what it is called, and its bytes; or why it can't be unpacked, or what is remarked of
-    its file."""
+    """A file, or a member of an archive: its path, what it is called, and its bytes; or why it can't be unpacked, or
+    what is remarked of its file."""
 
     path: str | None
     place: str
@@ -106,7 +108,7 @@ class Part:
 
 
 class Follower(Protocol):
-    """Follows what is read: the files, and the members of archives among them."""
+    """Is called for each file, and for each member of an archive, that is read."""
 
     def is_passed(self, part: Part) -> bool:
         """Whether the bytes of a file or member needn't be read."""
@@ -121,7 +123,7 @@ def name_of(path: str | None) -> str:
 
 
 def whole(path: str | None) -> bytes:
-    """The bytes of a feed; Fatal where it can not be read."""
+    """The bytes of a feed; Fatal if it can't be read."""
     try:
         return read_feed(path)
     except FeedFault as fault:
@@ -129,14 +131,15 @@ def whole(path: str | None) -> bytes:
 
 
 def text_lines(text: str) -> list[str]:
-    """The lines of a text, without the line ends of Windows. (JSON may have in it what str.splitlines takes for ends.)"""
+    """The lines of a text, without the line ends of Windows. (JSON may have in it what str.splitlines takes for
+    ends.)"""
     lines = [line.removesuffix("\r") for line in text.split("\n")]
     return lines if lines[-1] else lines[:-1]
 
 
 def values_of(data: bytes, is_strict: bool = False) -> Iterator[Json]:
-    """The values of JSON that stand one after the other; those before a fault come out. In strict ones no member of an object comes
-    twice: else the last one stands, and nobody sees the others."""
+    """The values of JSON in a text, one after the other; those before a fault are yielded. If `is_strict`, no object
+    may have a member twice, because otherwise the last one would hide the others."""
     if not data.strip():
         raise FeedFault("no JSON: it is empty")
     try:
@@ -175,24 +178,22 @@ def _no_constant(word: str) -> None:
 
 
 def pages(
-    paths: Sequence[str],
-    said: Said,
-    kinds: Sequence[str],
-    strict: bool = False,
-    limits: Limits = LIMITS,
+    paths: Sequence[str], messages: Messages, kinds: Sequence[str], strict: bool = False, limits: Limits = LIMITS
 ) -> Iterator[Page]:
-    """The pages at these paths, of standard input where there is none.
+    """The pages at these paths, or of standard input if there is no path.
 
-    A page is an object in which one of `kinds` is a list, in a file or a member of an archive. Where a page is none, or can't be read,
-    the others still come out, and that is said; where there is no page at all, or `strict` is asked for, it is Fatal.
+    A page is an object in which one of `kinds` is a list, in a file or a member of an archive. What is no page, or
+    can't be read, is reported, and the other pages are yielded. It is Fatal if there is no page at all, or if `strict`.
     """
-    return read_parts(parts(list(paths) or [None], limits), len(paths), said, lambda part: pages_of(part, kinds), strict)
+    return read_parts(
+        parts(list(paths) or [None], limits), len(paths), messages, lambda part: pages_of(part, kinds), strict
+    )
 
 
 def parts(paths: Sequence[str | None], limits: Limits) -> Iterator[Part]:
-    """The parts of these files in their order, and what is wrong with some."""
+    """The parts of these files in their order, or their faults."""
     for path in paths:
-        name, unpacked = name_of(path), Unpacked(limits)
+        name, unpacked = name_of(path), Unpacker(limits)
         of_file = unpacked.parts(path)
         while True:
             try:
@@ -205,22 +206,22 @@ def parts(paths: Sequence[str | None], limits: Limits) -> Iterator[Part]:
             yield Part(path, f"{name}/{part[0]}" if part[0] else name, part[1])
         if unpacked.passed:
             some = f"{len(unpacked.passed):,} {'member is' if len(unpacked.passed) == 1 else 'members are'} no page by the name"
-            yield Part(path, name, remark=f"{name}: {some}, such as {quoted(unpacked.passed[0])}")
+            yield Part(path, name, remark=f"{name}: {some}, such as {shorten(unpacked.passed[0])}")
 
 
 def read_parts(
     of_files: Iterable[Part],
     count: int,
-    said: Said,
+    messages: Messages,
     read: Callable[[Part], Iterator[Read]],
     strict: bool = False,
     follower: Follower | None = None,
 ) -> Iterator[Read]:
-    """What is read of each of the parts of so many files, as `pages` has it."""
+    """Reads the parts of `count` files, and yields their pages as `pages` does."""
     good, faults = 0, []
     for part in of_files:
         if part.remark:
-            said.remark(part.remark)
+            messages.remark(part.remark)
             continue
         try:
             if part.fault:
@@ -237,13 +238,13 @@ def read_parts(
             if strict or count <= 1 and not good:
                 raise Fatal(f"{part.place}: {fault}") from fault
             faults.append(part.place)
-            said.left_out(part.place, str(fault))
+            messages.leave_out(part.place, str(fault))
     if not good and faults:
         raise Fatal(f"none of these can be read: {', '.join(faults)}")
 
 
 def pages_of(part: Part, kinds: Sequence[str]) -> Iterator[Page]:
-    """The pages of a part. FeedFault where it ends in something else."""
+    """The pages of a part. FeedFault if something else follows them."""
     for value in values_of(part.data):
         yield _page(part.place, value, kinds)
 
@@ -264,32 +265,34 @@ def _page(name: str, value: Json, kinds: Sequence[str]) -> Page:
 def _records(value: Json) -> list[Json]:
     """The CVE records of format 5 that a value is, or has as a list."""
     found = value if isinstance(value, list) else [value]
-    if not all(isinstance(one, dict) and (one.get("dataType") == "CVE_RECORD" or "cveMetadata" in one) for one in found):
+    if not all(
+        isinstance(one, dict) and (one.get("dataType") == "CVE_RECORD" or "cveMetadata" in one) for one in found
+    ):
         return []
     for one in found:
         version = one.get("dataVersion", "5.1")
         if not isinstance(version, str) or not _RECORD_VERSION.fullmatch(version):
-            raise FeedFault(f"a CVE record of version {quoted(version)}, and 5 is what is read")
+            raise FeedFault(f"a CVE record of version {shorten(version)}, and 5 is what is read")
     return found
 
 
 def _check_format(value: Json, kind: str) -> None:
-    """Whether a page is of the format that is read, where it says which it is."""
+    """Checks that a page has the known format, if it names one."""
     wanted = _FORMATS.get(kind)
     given = value.get("format", wanted)
     if given != wanted:
-        raise FeedFault(f"its format is {quoted(given)}, and that of {kind} is {wanted}")
+        raise FeedFault(f"its format is {shorten(given)}, and that of {kind} is {wanted}")
     version = value.get("version", "2.0")
     if wanted and not (isinstance(version, str) and _VERSION.fullmatch(version)):
-        raise FeedFault(f"its version is {quoted(version)}, and 2.0 is what is read")
+        raise FeedFault(f"its version is {shorten(version)}, and 2.0 is what is read")
 
 
 def _counts(value: Json) -> dict[str, int]:
-    """What a page tells of its place in its feed."""
+    """The members that place a page in its feed."""
     found = {key: value[key] for key in COUNTS if value.get(key) is not None}
     for key, count in found.items():
         if isinstance(count, bool) or not isinstance(count, int) or not 0 <= count <= _LARGEST:
-            raise FeedFault(f"its {key} is {quoted(count)}, which is no count")
+            raise FeedFault(f"its {key} is {shorten(count)}, which is no count")
     return found
 
 
@@ -311,7 +314,7 @@ def members(value: Json, key: str) -> list[Json]:
 
 
 def text_at(value: Json, key: str) -> str | None:
-    """The text that an object has under a key, or None where it has none."""
+    """The text that an object has under a key, or None if it has none."""
     found = member(value, key)
     if found is not None and not isinstance(found, str):
         raise FormFault
@@ -334,7 +337,8 @@ def json_text(value: Json) -> str:
 
 
 def json_shown(text: str) -> str:
-    """A text of JSON as a terminal shows it: what can't be printed is spelled by its number, as JSON has it. Ends of lines stay."""
+    """A text of JSON as a terminal shows it: what can't be printed is spelled by its number, as JSON has it. Ends of
+    lines stay."""
     # (half a character of two, which JSON can spell, has no bytes)
     whole = text if text.isascii() else _SURROGATE.sub("\ufffd", text)
     return "".join(one if one.isprintable() or one == "\n" else json.dumps(one)[1:-1] for one in whole)

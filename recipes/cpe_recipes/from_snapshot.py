@@ -4,12 +4,12 @@ the saved session:
     { sh from-snapshot.sh inventory.snapshot; cat new.jsonl; } | cpe watch
 
 `cpe save` makes the same snapshot of these records. Deprecations are written after all entries; a successor's
-deprecation is before that of its predecessor. A deprecation is written from the last notes of its entry. A deprecated
-entry without a note of its deprecation is left out; no session of `cpe` makes such an entry. An entry is left out too
-if its notes make its record too long for a line.
+deprecation is before the deprecation of the entry that it replaces. A deprecation is written from the last notes of its
+entry. A deprecated entry without a note of its deprecation is left out; no session of `cpe` makes such an entry. An
+entry is left out too if its notes make its record too long for a line.
 
 If the file is no snapshot, nothing is written, and the status is 2. The recipe doesn't test whether the rows are
-lawful. If they aren't, `cpe` refuses their records, and `cpe load` refuses the snapshot.
+lawful. If a row isn't lawful, `cpe` refuses its record, and `cpe load` refuses the snapshot.
 """
 from __future__ import annotations
 
@@ -17,16 +17,16 @@ from collections.abc import Callable, Iterator
 from pathlib import Path
 from typing import Any, NamedTuple, TypeVar
 
+from .arguments import read_arguments
+from .console import Fatal, Messages, describe_fault, write_all
 from .feeds import record_text
-from .said import Fatal, Said, why, write_all
-from .words import read_words
 
 USAGE = "from-snapshot.sh SNAPSHOT"
 MARK = b"CPESNAP1"
 KINDS = (None, "NAME_CORRECTION", "NAME_REMOVAL", "ADDITIONAL_INFORMATION")
 NOTES = ("ORIGINAL_RECORD", "AUTHORITY_CHANGE", "DEPRECATION", "DEPRECATION_MODIFICATION")
 TRUTHS = ("TRUE", "FALSE", "ERROR", "UNKNOWN")
-# So many bytes has the longest line that `cpe` reads, and so many records are written at once.
+# The bytes of the longest line that `cpe` reads, and how many records are written at once.
 MOST_BYTES = 65_536
 PIECE = 10_000
 
@@ -48,27 +48,27 @@ class Rows(NamedTuple):
 
 
 def run(words: list[str]) -> int:
-    paths = read_words(words, {}, USAGE).files
+    paths = read_arguments(words, {}, USAGE).files
     if len(paths) != 1:
         raise Fatal(f"usage: {USAGE}")
     try:
         rows = read(Path(paths[0]).read_bytes())
     except OSError as fault:
-        raise Fatal(f"{paths[0]} could not be read: {why(fault)}") from fault
+        raise Fatal(f"{paths[0]} could not be read: {describe_fault(fault)}") from fault
     except NotSnapshot as fault:
         raise Fatal(f"{paths[0]} is no snapshot") from fault
-    said = Said()
+    messages = Messages()
     lines: list[str] = []
-    for record in records(rows, said):
+    for record in records(rows, messages):
         line = record_text(record)
         if len(line.encode()) > MOST_BYTES:
-            said.left_out(record.get("name") or record["id"], "its record is longer than a line may be")
+            messages.leave_out(record.get("name") or record["id"], "its record is longer than a line may be")
             continue
         lines.append(f"{line}\n")
         if len(lines) == PIECE:
             _write(lines)
     _write(lines)
-    return said.status()
+    return messages.status()
 
 
 def _write(lines: list[str]) -> None:
@@ -107,7 +107,7 @@ class _Source:
         return _text(self.take(self.number()))
 
     def some(self, part: Callable[[], Part]) -> list[Part]:
-        # (each part takes a byte at least, so a count that is too great comes to the end of the bytes)
+        # (each part has at least a byte, so a count that is too great ends at the end of the bytes)
         return [part() for _ in range(self.number())]
 
     def note(self) -> Row:
@@ -165,12 +165,12 @@ def read(data: bytes) -> Rows:
 # ---- records
 
 
-def records(rows: Rows, said: Said) -> Iterator[Row]:
+def records(rows: Rows, messages: Messages) -> Iterator[Row]:
     """Records that leave these rows."""
     cuts = [_first_change(row) for row in rows.entries]
     for row, cut in zip(rows.entries, cuts):
         if cut is None:
-            said.left_out(row["name"], "it is deprecated, and no note says so")
+            messages.leave_out(row["name"], "it is deprecated, and no note says so")
             continue
         provenance = {"submitter": row["submitter"], "authority": row["authority"], "changes": row["changes"][:cut]}
         yield {"do": "entry", "name": row["name"], "title": row["title"], "provenance": provenance}
@@ -182,7 +182,7 @@ def records(rows: Rows, said: Said) -> Iterator[Row]:
 
 
 def _first_change(row: Row) -> int | None:
-    """The place of the note of the deprecation that an entry has, or how many notes there are where it has none."""
+    """The place of the note of the deprecation that an entry has, or how many notes there are if it has none."""
     changes = row["changes"]
     if row["kind"] is None:
         return len(changes)

@@ -1,4 +1,5 @@
-"""Commands that remarks name, as they work when they are copied: with the files that the user gave, and quoted for the shell."""
+"""Commands that remarks name, as they work when they are copied: with the files that the user gave, and quoted for the
+shell."""
 from __future__ import annotations
 
 import os
@@ -6,7 +7,7 @@ import shlex
 from collections.abc import Sequence
 from pathlib import Path
 
-from .words import Words
+from .arguments import Arguments
 
 _RECIPES = Path(__file__).resolve().parents[1]
 # The options by which unlisted.sh is given what scan.py was given.
@@ -14,10 +15,10 @@ _SHARED = ("--store", "--dictionary", "--records", "--machines", "--lists")
 _FLAGS = ("--partial", "--large")
 
 
-def unlisted(read: Words) -> str:
+def unlisted_command(arguments: Arguments) -> str:
     """The command that lists what the dictionary doesn't have, by the words of scan.py."""
-    given = [word for option in _SHARED if read.has(option) for word in (option, *read.many(option))]
-    return command("unlisted.sh", [*given, *table_words(read), *(flag for flag in _FLAGS if read.has(flag))])
+    given = [word for option in _SHARED if arguments.has(option) for word in (option, *arguments.many(option))]
+    return command("unlisted.sh", [*given, *table_words(arguments), *(flag for flag in _FLAGS if arguments.has(flag))])
 
 
 def command(recipe: str, words: Sequence[str]) -> str:
@@ -25,9 +26,9 @@ def command(recipe: str, words: Sequence[str]) -> str:
     return shlex.join(["sh", _from_here(_RECIPES / recipe), *words])
 
 
-def table_words(read: Words) -> list[str]:
+def table_words(arguments: Arguments) -> list[str]:
     """The words by which a recipe is given tables of names."""
-    return [word for path in read.many("--names") for word in ("--names", path)]
+    return [word for path in arguments.many("--names") for word in ("--names", path)]
 
 
 def _from_here(path: Path) -> str:

@@ -1,8 +1,8 @@
-"""CISA's list of vulnerabilities that are known to be exploited (KEV), as CISA publishes it: `known_exploited_vulnerabilities.json`, or
-the same as CSV.
+"""CISA's list of vulnerabilities that are known to be exploited (KEV), as CISA publishes it:
+`known_exploited_vulnerabilities.json`, or the same as CSV.
 
-A list that isn't whole, or is another file, is refused: an advisory that is lost here would look as if nobody exploited it. The JSON
-tells how many vulnerabilities it has (`count`). The CSV doesn't, so it is said if its last line has no end.
+A list that is cut off, or another file, is refused: a lost advisory would look as if nobody exploited it. The JSON has
+the number of its vulnerabilities (`count`). The CSV hasn't, so a last line without an end is reported.
 """
 from __future__ import annotations
 
@@ -12,8 +12,8 @@ import re
 from collections.abc import Iterator
 from dataclasses import dataclass
 
+from .console import Fatal, Messages, shorten
 from .feeds import FeedFault, Json, name_of, read_feed, values_of
-from .said import Fatal, Said, quoted
 
 CVE = re.compile(r"CVE-[0-9]{4}-[0-9]{4,}")
 _DATE = re.compile(r"[0-9]{4}-[0-9]{2}-[0-9]{2}")
@@ -22,8 +22,9 @@ _OTHERS = ("dueDate", "knownRansomwareCampaignUse")
 
 
 @dataclass(frozen=True, slots=True)
-class Exploited:
-    """What the list has of a vulnerability: the days when it was added and when it is due, and whether ransomware is known to use it."""
+class KevEntry:
+    """What the list has of a vulnerability: the days when it was added and when it is due, and whether ransomware is
+    known to use it."""
 
     added: str
     due: str
@@ -36,28 +37,30 @@ class Exploited:
 
 @dataclass(frozen=True)
 class Kev:
-    """The list: its file, its version if it tells one, and the vulnerabilities by their ids."""
+    """The list: its file, its version if it has one, and the vulnerabilities by their ids."""
 
     name: str
     version: str
-    found: dict[str, Exploited]
+    found: dict[str, KevEntry]
 
     def json(self) -> dict[str, Json]:
-        """What stands at the top of a result."""
-        return {"file": self.name, "count": len(self.found)} | ({"catalogVersion": self.version} if self.version else {})
+        """The members at the top of a result."""
+        return {"file": self.name, "count": len(self.found)} | (
+            {"catalogVersion": self.version} if self.version else {}
+        )
 
 
-def read_kev(path: str, said: Said) -> Kev:
+def read_kev(path: str, messages: Messages) -> Kev:
     """The list at this path. Fatal if it is none, or isn't whole."""
     name = name_of(path)
     try:
         data = read_feed(path)
-        version, rows = _of_json(data) if data.lstrip().startswith(b"{") else ("", _of_csv(data, name, said))
-        found: dict[str, Exploited] = {}
+        version, rows = _of_json(data) if data.lstrip().startswith(b"{") else ("", _of_csv(data, name, messages))
+        found: dict[str, KevEntry] = {}
         for place, row in rows:
             id, exploited = _row(place, row)
             if found.setdefault(id, exploited) is not exploited:
-                said.remark(f"{name}: {id} is there twice, and its first {place.split()[0]} counts")
+                messages.remark(f"{name}: {id} is there twice, and its first {place.split()[0]} counts")
     except FeedFault as fault:
         raise Fatal(f"{name}: it isn't CISA's list of known exploited vulnerabilities: {fault}") from fault
     if not found:
@@ -77,10 +80,12 @@ def _of_json(data: bytes) -> tuple[str, Iterator[tuple[str, Json]]]:
         raise FeedFault("it has no count that is a number")
     if count != len(rows):
         raise FeedFault(f"its count is {count:,}, and it has {len(rows):,}")
-    return version if isinstance(version, str) else "", ((f"vulnerability {place}", row) for place, row in enumerate(rows, 1))
+    return version if isinstance(version, str) else "", (
+        (f"vulnerability {place}", row) for place, row in enumerate(rows, 1)
+    )
 
 
-def _of_csv(data: bytes, name: str, said: Said) -> Iterator[tuple[str, Json]]:
+def _of_csv(data: bytes, name: str, messages: Messages) -> Iterator[tuple[str, Json]]:
     """What a list as CSV has, with words for the places."""
     try:
         text = data.decode("utf-8-sig")
@@ -93,7 +98,7 @@ def _of_csv(data: bytes, name: str, said: Said) -> Iterator[tuple[str, Json]]:
     if any(header.count(key) != 1 for key in _NEEDED):
         raise FeedFault(f"neither its JSON nor its CSV, whose first line has {' and '.join(_NEEDED)}")
     if not text.endswith("\n"):
-        said.left_out(name, "its last line has no end, and others may be cut off")
+        messages.leave_out(name, "its last line has no end, and others may be cut off")
     return _csv_rows(header, rows[1:])
 
 
@@ -104,16 +109,16 @@ def _csv_rows(header: list[str], rows: list[list[str]]) -> Iterator[tuple[str, J
         yield f"row {number}", dict(zip(header, row))
 
 
-def _row(place: str, row: Json) -> tuple[str, Exploited]:
+def _row(place: str, row: Json) -> tuple[str, KevEntry]:
     if not isinstance(row, dict):
         raise FeedFault(f"{place} is no object")
     id, added = (row.get(key) for key in _NEEDED)
     if not isinstance(id, str) or not CVE.fullmatch(id):
-        raise FeedFault(f"the cveID of {place} is {quoted(id)}, which is no id of a CVE")
+        raise FeedFault(f"the cveID of {place} is {shorten(id)}, which is no id of a CVE")
     if not isinstance(added, str) or not _DATE.fullmatch(added):
-        raise FeedFault(f"the dateAdded of {place} is {quoted(added)}, which is no day")
+        raise FeedFault(f"the dateAdded of {place} is {shorten(added)}, which is no day")
     others = [row.get(key) or "" for key in _OTHERS]
     for key, value in zip(_OTHERS, others):
         if not isinstance(value, str):
-            raise FeedFault(f"the {key} of {place} is {quoted(value)}, which is no text")
-    return id, Exploited(added, *others)
+            raise FeedFault(f"the {key} of {place} is {shorten(value)}, which is no text")
+    return id, KevEntry(added, *others)

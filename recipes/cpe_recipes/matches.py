@@ -1,4 +1,5 @@
-"""The match feed of NVD's API 2.0 (/rest/json/cpematch/2.0, matchStrings): of a match, which names of the dictionary it has."""
+"""The match feed of NVD's API 2.0 (/rest/json/cpematch/2.0, matchStrings): of a match, which names of the dictionary it
+has."""
 from __future__ import annotations
 
 import contextlib
@@ -6,18 +7,18 @@ from collections.abc import Collection, Iterable
 
 from . import names
 from .concern import plain_product
+from .console import Fatal, Messages
 from .feeds import FormFault, Json, Page, member, members, text_at
-from .latest import time_of
+from .latest_records import time_of
 from .near_products import Product, key_of, keys_of
-from .product_index import as_formatted
-from .said import Fatal, Said
+from .product_index import format_name
 
 KINDS = ("matchStrings",)
 
 
-def listed(feed: Iterable[Page], wanted: Collection[str], said: Said) -> dict[str, list[str]]:
-    """Of the wanted matches, by their ids, the names that the feed lists for them, as they are written there. Fatal where
-    there are pages, and none has anything."""
+def read_match_lists(feed: Iterable[Page], wanted: Collection[str], messages: Messages) -> dict[str, list[str]]:
+    """Of the wanted matches, by their ids, the names that the feed lists for them, as they are written there. Fatal
+    where there are pages, and none has anything."""
     found: dict[str, tuple[Json, list[str]]] = {}
     empty_pages, is_empty = [], True
     for page in feed:
@@ -29,39 +30,42 @@ def listed(feed: Iterable[Page], wanted: Collection[str], said: Said) -> dict[st
                 if placed.id in wanted:
                     _put(found, placed.id, member(placed.record, "matchString"))
             except FormFault:
-                said.left_out(placed.id, "not of the published form", placed.source.place(placed.number))
+                messages.leave_out(placed.id, "not of the published form", placed.source.place(placed.number))
     if empty_pages and is_empty:
         raise Fatal(f"no matchStrings are in {', '.join(empty_pages)}")
     for name in empty_pages:
-        said.remark(f"{name}: no matchStrings in it")
+        messages.remark(f"{name}: no matchStrings in it")
     return {id: listed for id, (_, listed) in found.items()}
 
 
 def products_of(match_string: Json) -> set[Product | None]:
     """The products of the names that a match lists; None for one that isn't plain, and may be of any.
 
-    An item that is listed for a match has the name of that match too, by the advisory that asks for it. What the feed itself says of that
-    name is not looked at, since it may be missing, or an older one.
+    An item that is listed for a match has the name of that match too, by the advisory that asks for it. What the feed
+    itself says of that name is not looked at, since it may be missing, or an older one.
     """
     return set(map(plain_product, names_of(match_string)))
 
 
-def listing(feed: Iterable[Page], wanted: Collection[Product]) -> set[str]:
-    """The ids of the matches that list items of these products (keys of near_products.py), or some of which that isn't known."""
+def find_listing_matches(feed: Iterable[Page], wanted: Collection[Product]) -> set[str]:
+    """The ids of the matches that list items of these products (keys of near_products.py), or some of which that isn't
+    known."""
     found: set[str] = set()
     for page in feed:
         for record in page.records:
             with contextlib.suppress(FormFault):
                 match_string = member(record, "matchString")
                 key = text_at(match_string, "matchCriteriaId")
-                if key and any(one is None or any(near in wanted for near in keys_of(one)) for one in products_of(match_string)):
+                if key and any(
+                    one is None or any(near in wanted for near in keys_of(one)) for one in products_of(match_string)
+                ):
                     found.add(key)
     return found
 
 
 def key_of_name(name: str) -> Product | None:
     """The key of the product of a name as it is written; None if it is none."""
-    parts = names.components(as_formatted(name) or names.PREFIX)
+    parts = names.components(format_name(name) or names.PREFIX)
     return key_of((parts[names.VENDOR], parts[names.PRODUCT])) if len(parts) > names.PRODUCT else None
 
 
@@ -71,7 +75,8 @@ def modified_of(match_string: Json) -> Json:
 
 
 def _put(found: dict[str, tuple[Json, list[str]]], id: str, match_string: Json) -> None:
-    """Puts the names of a match. Of one that comes again the later list counts; those of the same time are joined."""
+    """Adds the list of a match. Of several lists of a match the last modified counts; lists of the same time are
+    joined."""
     listed, modified = names_of(match_string), modified_of(match_string)
     known = found.get(id)
     if known is None or time_of(modified) > time_of(known[0]):

@@ -1,5 +1,5 @@
-"""What recipes look at in names: formatted strings as cpe writes them, in lower case. What is a name, and which covers which,
-cpe alone says."""
+"""What recipes look at in names: formatted strings as cpe writes them, in lower case. What is a name, and which covers
+which, cpe alone says."""
 from __future__ import annotations
 
 import functools
@@ -11,9 +11,20 @@ ANY, NA = "*", "-"
 VENDOR, PRODUCT, VERSION, UPDATE = 1, 2, 3, 4
 # The attributes in their order, as NIST IR 7695 calls them.
 ATTRIBUTES = (
-    "part", "vendor", "product", "version", "update", "edition", "language", "sw_edition", "target_sw", "target_hw", "other",
+    "part",
+    "vendor",
+    "product",
+    "version",
+    "update",
+    "edition",
+    "language",
+    "sw_edition",
+    "target_sw",
+    "target_hw",
+    "other",
 )
-# What stands in a name where the list doesn't say what is there. As a pattern it is known in part, so no name covers it.
+# The value of an attribute that a list doesn't name. It is a pattern, so the name is known in part, and no name covers
+# it.
 UNSAID = "unsaid?"
 
 _COMPONENT = re.compile(r"(?:[^:\\]|\\.)+")
@@ -29,8 +40,8 @@ def components(name: str) -> list[str]:
     return _COMPONENT.findall(text) if "\\" in text else text.split(":")
 
 
-def joined(parts: list[str]) -> str:
-    """The formatted string of these components."""
+def join(parts: list[str]) -> str:
+    """The formatted string with these components."""
     return PREFIX + ":".join(parts)
 
 
@@ -45,7 +56,7 @@ def _has_special(component: str) -> bool:
 
 
 def body(component: str) -> str | None:
-    """The text of a plain component without its quoting; None where it isn't plain."""
+    """The text of a plain component without its quoting; None if it isn't plain."""
     if not is_plain(component):
         return None
     return _QUOTED.sub(r"\1", component) if "\\" in component else component
@@ -57,27 +68,27 @@ def has_special(component: str) -> bool:
 
 
 def is_known_in_part(name: str) -> bool:
-    """Whether a name has a pattern. An item of such a name is known in part alone: which it is isn't told."""
+    """Whether a name has a pattern. Then an item with this name is known in part."""
     return any(map(has_special, components(name)))
 
 
 def beginning(component: str) -> str | None:
-    """What a pattern begins with, without its quoting; None where anything may stand there."""
+    """The beginning of a pattern before its specials, without quoting; None if the pattern begins with a special."""
     match = _BEGINNING.fullmatch(component)
     return body(match[1]) if match else None
 
 
-def spelled(text: str) -> str:
+def quote(text: str) -> str:
     """A plain text as a component."""
     return "".join(one if _BARE.match(one) else f"\\{one}" for one in text)
 
 
-def marked(name: str, places: Iterable[int]) -> str:
-    """The name where these components aren't said."""
+def blank(name: str, places: Iterable[int]) -> str:
+    """The name with these attributes marked as not known."""
     parts = components(name)
     for place in places:
         parts[place] = UNSAID
-    return joined(parts)
+    return join(parts)
 
 
 def part_of(name: str) -> str:

@@ -9,13 +9,16 @@ A line has a package, and what NVD calls it:
     comment  = "#" and what is behind it                    ; at the beginning of a line, or behind a space
 
 - `-`: NVD has no product for it, so no name is looked for.
-- Choices, with spaces between them, are alternatives, of which the right one isn't known: FALSE only if all of them are, else UNKNOWN.
+- Choices, with spaces between them, are alternatives, of which the right one isn't known: FALSE only if all of them
+  are, else UNKNOWN.
 - Products with commas between them are all names of it, as where NVD has it under two vendors: one of them is enough.
-- A namespace that is left out is any, as of `pkg:deb/openssl`, which is Debian's and Ubuntu's. Only for npm, golang, composer and swift,
-  where a package with a namespace is another one, it is none.
-- A `*` in a name is a number, perhaps with dots or hyphens in it: `postgresql-*` is postgresql-15, and not postgresql-common.
-- A package is looked for by its own name first, and then by that of its source package; a line with its namespace counts before one
-  without, one with its whole name before one with a `*`, and those of the user's table before all of the other.
+- A namespace that is left out is any, as of `pkg:deb/openssl`, which is Debian's and Ubuntu's. Only for npm, golang,
+  composer and swift, where a package with a namespace is another one, it is none.
+- A `*` in a name is a number, perhaps with dots or hyphens in it: `postgresql-*` is postgresql-15, and not
+  postgresql-common.
+- A package is looked for by its own name first, and then by that of its source package; a line with its namespace
+  counts before one without, one with its whole name before one with a `*`, and those of the user's table before all of
+  the other.
 
 A line that is none is refused with its place, and so are two lines of one package that say different things.
 """
@@ -27,16 +30,18 @@ from dataclasses import dataclass
 from pathlib import Path
 
 from . import names
+from .console import Fatal, shorten
 from .feeds import FeedFault, FormFault, name_of, read_feed, text_lines
 from .package_urls import Package, PackageUrl, package_of
-from .said import Fatal, quoted
 
 TABLE = str(Path(__file__).resolve().parents[1] / "names.txt")
 
 _WITH_NAMESPACE = frozenset({"npm", "golang", "composer", "swift"})
 _COMMENT = re.compile(r"(^|\s)#.*")
 _NUMBER = re.compile(r"[0-9]+(?:[.-][0-9]+)*")
-_PRODUCT = re.compile(r"(?:(?P<part>[aoh]):)?(?P<vendor>(?:[a-z0-9._-]|\\[!-~])+):(?P<product>(?:[a-z0-9._-]|\\[!-~])+)")
+_PRODUCT = re.compile(
+    r"(?:(?P<part>[aoh]):)?(?P<vendor>(?:[a-z0-9._-]|\\[!-~])+):(?P<product>(?:[a-z0-9._-]|\\[!-~])+)"
+)
 
 
 @dataclass(frozen=True, slots=True)
@@ -70,8 +75,8 @@ class Line:
 
 
 @dataclass(frozen=True, slots=True)
-class Settled:
-    """What a table says of a package, and whether it is said of its source package."""
+class TableAnswer:
+    """The line of a table for a package, and whether it is for the source package."""
 
     line: Line
     is_of_source: bool = False
@@ -83,14 +88,14 @@ class Tables:
     def __init__(self, tables: Iterable[Iterable[Line]]) -> None:
         self._tables = [{line.package: line for line in lines} for lines in tables]
 
-    def find(self, purl: PackageUrl) -> Settled | None:
-        """The line of a package; None where none has it."""
+    def find(self, purl: PackageUrl) -> TableAnswer | None:
+        """The answer for a package; None if no line has it."""
         for table in self._tables:
             for package in (purl.package, purl.source):
                 for key in _keys(package) if package is not None else ():
                     line = table.get(key)
                     if line is not None:
-                        return Settled(line, package is purl.source)
+                        return TableAnswer(line, package is purl.source)
         return None
 
 
@@ -140,14 +145,14 @@ def _lines(lines: Sequence[str], feed: str) -> Iterator[Line]:
 
 
 def _line(words: Sequence[str], place: str) -> Line:
-    """The line of these words. FormFault where it is none."""
+    """The line with these words. FormFault if the words are no line."""
     if any(mark in words[0] for mark in "?#") or words[0].rfind("@") > words[0].rfind("/") + 1:
-        raise FormFault(f"a package has neither a version nor qualifiers here: {quoted(words[0])}")
+        raise FormFault(f"a package has neither a version nor qualifiers here: {shorten(words[0])}")
     package = package_of(words[0])
     if package.name.count("*") > 1 or "*" in package.namespace:
-        raise FormFault(f"the name of a package has one * at most: {quoted(words[0])}")
+        raise FormFault(f"the name of a package has one * at most: {shorten(words[0])}")
     if len(words) == 1:
-        raise FormFault(f"there is no product and no - after {quoted(words[0])}")
+        raise FormFault(f"there is no product and no - after {shorten(words[0])}")
     return Line(place, package, () if words[1:] == ["-"] else tuple(map(_choice, words[1:])))
 
 
@@ -159,5 +164,5 @@ def _choice(word: str) -> Choice:
 def _product(text: str) -> Product:
     match = _PRODUCT.fullmatch(text.lower())
     if match is None or names.NA in (match["vendor"], match["product"]):
-        raise FormFault(f"no vendor:product: {quoted(text)}")
+        raise FormFault(f"no vendor:product: {shorten(text)}")
     return Product(match["part"] or "a", match["vendor"], match["product"])

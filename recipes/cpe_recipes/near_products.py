@@ -1,8 +1,9 @@
 """Which items a fact may cover, by their vendors, products and versions alone.
 
-A fact of a plain vendor and product may cover items of the same ones. Of an item that is known in part the vendor or the product may be
-a pattern, and then that may be any: so it may be covered by each fact of the same product, or of the same vendor, and of no other one.
-Only if both are patterns may every fact cover it. A fact of one version covers an item of this version alone.
+A fact of a plain vendor and product may cover items of the same ones. Of an item that is known in part the vendor or
+the product may be a pattern, and then that may be any: so it may be covered by each fact of the same product, or of the
+same vendor, and of no other one. Only if both are patterns may every fact cover it. A fact of one version covers an
+item of this version alone.
 """
 from __future__ import annotations
 
@@ -31,7 +32,8 @@ def keys_of(product: Product) -> tuple[Product, ...]:
 
 
 def version_key(version: str) -> str:
-    """The version of a fact or an item, as components are compared: in small letters, without quoting; open if it has a special."""
+    """The version of a fact or an item, as components are compared: in small letters, without quoting; open if it has a
+    special."""
     if version in (names.ANY, names.NA):
         return version
     text = names.body(version)
@@ -61,7 +63,8 @@ class NearProducts(Generic[What]):
         self._by_name: dict[str, list[Product]] = {}
 
     def put(self, what: What, products: Iterable[Item], is_of_any: bool) -> None:
-        """Puts something with facts of these plain products and versions, and perhaps with one whose vendor or product isn't plain."""
+        """Puts something with facts of these plain products and versions, and perhaps with one whose vendor or product
+        isn't plain."""
         self._all.append(what)
         for product, version in products:
             self._by_product.setdefault(product, {}).setdefault(version, []).append(what)

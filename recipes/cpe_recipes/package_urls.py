@@ -1,8 +1,8 @@
-"""What packages are by their package URLs, as lists give them for components; purls.py says how these are written.
+"""The packages of package URLs, as lists give them for components; purls.py reads and writes package URLs.
 
-Names are compared as the types compare them: in lower case, of Python's packages with `-` in place of `_` and `.`. A module of Go has
-no `/v2` behind it. The qualifier `epoch` belongs to the version, and `upstream` says of which source package a binary one was made, in
-the words of Syft: `openssl`, `util-linux@2.38.1-5` or `openssl-3.0.7-24.el9.src.rpm`.
+Names are compared by the rules of their types: in lower case, and for Python packages with `-` in place of `_` and `.`.
+The name of a Go module has no `/v2` at the end. The qualifier `epoch` belongs to the version. `upstream` names the
+source package of a binary package, in Syft's form: `openssl`, `util-linux@2.38.1-5` or `openssl-3.0.7-24.el9.src.rpm`.
 """
 from __future__ import annotations
 
@@ -10,12 +10,12 @@ import functools
 import re
 from dataclasses import dataclass
 
+from .console import shorten
 from .feeds import FormFault
-from .purls import Purl, PurlFault, parsed
-from .said import quoted
+from .purls import Purl, PurlFault, parse
 
 _SEPARATORS = re.compile(r"[-_.]+")
-# A module of Go from its second release on, by its last segment.
+# The last segment of a Go module from its second major version on.
 _MAJOR = re.compile(r"v[0-9]+")
 _SOURCE_ENDS = (".src.rpm", ".nosrc.rpm")
 # How many package URLs are kept, since many machines have the same packages.
@@ -24,7 +24,8 @@ _KEPT = 1 << 16
 
 @dataclass(frozen=True, slots=True)
 class Package:
-    """A package without its version: its type, its namespace (such as a distribution, or the group of Maven), and its name."""
+    """A package without its version: its type, its namespace (such as a distribution, or the group of Maven), and its
+    name."""
 
     type: str
     namespace: str
@@ -37,8 +38,8 @@ class Package:
 
 @dataclass(frozen=True, slots=True)
 class PackageUrl:
-    """What a package URL says: the package with its version, and the source package that it was made of, whose version is empty if
-    it isn't said."""
+    """What a package URL says: the package with its version, and the source package that it was made of, whose version
+    is empty if it isn't said."""
 
     package: Package
     version: str
@@ -52,23 +53,23 @@ class PackageUrl:
 
 @functools.lru_cache(maxsize=_KEPT)
 def read(text: str) -> PackageUrl:
-    """What a package URL says. FormFault where it is none."""
-    purl = _parsed(text)
+    """The contents of a package URL. FormFault if the text is none."""
+    purl = _parse(text)
     package = _package(purl)
     source, source_version = _source(purl.qualifier("upstream"), package)
     return PackageUrl(package, purl.full_version(), source, source_version)
 
 
 def package_of(path: str) -> Package:
-    """The package of a package URL that has no version. FormFault where it is none."""
-    return _package(_parsed(path))
+    """The package of a package URL without a version. FormFault if the text is none."""
+    return _package(_parse(path))
 
 
-def _parsed(text: str) -> Purl:
+def _parse(text: str) -> Purl:
     try:
-        return parsed(text.strip())
+        return parse(text.strip())
     except PurlFault as fault:
-        raise FormFault(f"it is no package URL, since {fault}: {quoted(text)}") from fault
+        raise FormFault(f"it is no package URL, since {fault}: {shorten(text)}") from fault
 
 
 def _package(purl: Purl) -> Package:
@@ -83,7 +84,7 @@ def _named(kind: str, name: str) -> str:
 
 
 def _source(upstream: str, package: Package) -> tuple[Package | None, str]:
-    """The source package, and its version if it is said."""
+    """The source package, and its version if it is there."""
     # (of several the first is that of the package itself)
     first = upstream.split(",")[0].strip()
     end = next((end for end in _SOURCE_ENDS if first.endswith(end)), "")

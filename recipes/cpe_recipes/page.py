@@ -1,5 +1,6 @@
-"""The page of a scan or of a fleet, piece by piece. All that comes from the data is escaped, and what can't be printed stands there by its
-number; so it can't leave its place. The page itself forbids its reader to load anything, or to run another script than its own."""
+"""The page of a scan or of a fleet, piece by piece. All data is escaped, and a character that can't be printed is
+written as its number, so that data can't become markup. The page itself forbids loading anything, and running any
+script except its own."""
 from __future__ import annotations
 
 import base64
@@ -9,12 +10,12 @@ from collections import Counter
 from collections.abc import Iterator, Sequence
 from dataclasses import dataclass
 
-from .said import shown
-from .scanned import ACCEPTED, BY_PEOPLE, GROUPS, NO_ITEMS, SETTLED, Advisory, Machine, Row, Scanned
+from .console import escape
+from .scan_result import ACCEPTED, BY_PEOPLE, GROUPS, NO_ITEMS, SETTLED, Advisory, Machine, Row, ScanResult
 
-# Of how many rows a page stands open when it is opened.
+# How many rows of a page are unfolded when it is opened.
 MOST_OPEN = 300
-# Of how many lines what was not read stands open.
+# How many lines about things that were not read are unfolded.
 MOST_MISSING = 12
 _MEANINGS = {
     "TRUE": "the machine is affected",
@@ -39,10 +40,10 @@ class Parts:
 
 def text(data: str) -> str:
     """A text of the data as HTML."""
-    return html.escape(shown(data))
+    return html.escape(escape(data))
 
 
-def page(scanned: Scanned, parts: Parts, changed: Sequence[str] | None = None) -> Iterator[str]:
+def page(scanned: ScanResult, parts: Parts, changed: Sequence[str] | None = None) -> Iterator[str]:
     """The page, in pieces; `changed` are lines of what changed since an earlier day."""
     counts = scanned.counts()
     rows = sum(counts[group] for group in GROUPS)
@@ -55,7 +56,11 @@ def page(scanned: Scanned, parts: Parts, changed: Sequence[str] | None = None) -
     if rows:
         yield _filter()
         number = _advisory_count(len(scanned.advisories))
-        first = "known exploited first, then the highest score" if any(one.exploited for one in scanned.advisories) else "highest score first"
+        first = (
+            "known exploited first, then the highest score"
+            if any(one.exploited for one in scanned.advisories)
+            else "highest score first"
+        )
         yield f'<section id="advisories"><h2>Advisories <small>{number}, {first}</small></h2>\n'
         for advisory in scanned.advisories:
             yield from _advisory(advisory, is_open=rows <= MOST_OPEN)
@@ -78,14 +83,18 @@ def _machine_count(number: int) -> str:
     return _many(number, "machine", "machines")
 
 
-def _unanalysed(scanned: Scanned) -> str:
+def _unanalysed(scanned: ScanResult) -> str:
     """How many advisories have no verdict, in words."""
     number = scanned.unanalysed
-    return f" {_advisory_count(number)} {'is' if number == 1 else 'are'} not analysed yet, without a verdict." if number else ""
+    return (
+        f" {_advisory_count(number)} {'is' if number == 1 else 'are'} not analysed yet, without a verdict."
+        if number
+        else ""
+    )
 
 
 def _changed(changed: Sequence[str] | None) -> Iterator[str]:
-    """What changed, line by line; nothing where it wasn't asked for."""
+    """What changed, line by line; nothing if it isn't given."""
     if changed is None:
         return
     yield f'<details id="changed"{_open(len(changed) <= MOST_OPEN)}><summary><h2>Changed <small>{len(changed):,}, each with the verdict '
@@ -107,8 +116,8 @@ def _hash(part: str) -> str:
     return f"sha256-{base64.b64encode(hashlib.sha256(part.encode()).digest()).decode()}"
 
 
-def _missing(scanned: Scanned) -> Iterator[str]:
-    """What was not read, by its reasons, and the machines of which nothing is known."""
+def _missing(scanned: ScanResult) -> Iterator[str]:
+    """What was not read, by reasons, and the machines without verdicts."""
     names = {machine.name: None for machine in scanned.bare()}
     by_reason = {"no items, so no verdict is known of the machine": [*names]} if names else {}
     for id, reason in scanned.left_out:
@@ -127,7 +136,8 @@ def _missing(scanned: Scanned) -> Iterator[str]:
 
 
 def _nameless(count: int, is_left_out: bool) -> Iterator[str]:
-    """That nothing was left out, where that is so, and how many packages have no name, so that no advisory was asked for them."""
+    """That nothing was left out, if that is so, and how many packages have no name, so that no advisory was asked
+    for them."""
     if count:
         packages = _many(count, "package has", "packages have")
         yield f'<aside class="missing"><p>{packages} no name in the tables and the dictionary, so nothing was asked for them.</p></aside>\n'
@@ -170,7 +180,7 @@ def _filter() -> str:
     )
 
 
-def _no_rows(scanned: Scanned) -> str:
+def _no_rows(scanned: ScanResult) -> str:
     """A page without rows in words."""
     known = len(scanned.machines) - len(scanned.bare())
     if not known:
@@ -180,7 +190,9 @@ def _no_rows(scanned: Scanned) -> str:
     of_others = ""
     if scanned.left_out or known < len(scanned.machines):
         of_others = " <b>Of what was not read, above, nothing is known.</b>"
-    what = f"{_advisory_count(scanned.asked)} {'is' if scanned.asked == 1 else 'are all'} FALSE on {_machine_count(known)}"
+    what = (
+        f"{_advisory_count(scanned.asked)} {'is' if scanned.asked == 1 else 'are all'} FALSE on {_machine_count(known)}"
+    )
     return f"There are no rows: {what} with items.{of_others}"
 
 
@@ -223,13 +235,13 @@ def _about(advisory: Advisory) -> Iterator[str]:
 
 
 def _row(row: Row) -> str:
-    """A row: the machine, and a cell for what the verdict hangs on where that is known."""
+    """A row: the machine, and a cell with the reasons of the verdict, if they are known."""
     if not row.reasons:
         return f"<li>{text(row.machine)}\n"
     return f"<li><b>{text(row.machine)}</b><small>{'<br>'.join(map(text, row.reasons))}</small>\n"
 
 
-def _machines(scanned: Scanned) -> Iterator[str]:
+def _machines(scanned: ScanResult) -> Iterator[str]:
     number = len(scanned.machines)
     yield f'<details id="machines"{_open(number <= MOST_OPEN)}><summary><h2>Machines <small>{number:,}, highest score first'
     yield "</small></h2></summary>\n<ul>\n"
@@ -264,7 +276,7 @@ def _counts(machine: Machine, is_cut_short: bool) -> Iterator[str]:
 def _legend() -> str:
     lines = "".join(f"<dt>{group}<dd>{_MEANINGS[group]}" for group in (*GROUPS, "FALSE"))
     return (
-        f'<footer><h2>How to read it</h2><dl>{lines}</dl>\n'
+        f"<footer><h2>How to read it</h2><dl>{lines}</dl>\n"
         "<p>Beside a machine is what its verdict depends on, or which items make it TRUE, if the scan has that; "
         "<code>scan.py --why</code> adds the items.</p>\n"
         "<p>Perhaps meant: an item says less than an advisory asks for, so the verdict is UNKNOWN, or FALSE with <code>--strict</code>; "

@@ -8,16 +8,16 @@
   product of the machines are FALSE, and aren't written; a remark counts them.
 - RECORDS: entries, deprecations, statements and results of checks, as the recipes write them.
 - MACHINES: a line for each machine: its name, and the names of its items.
-- --ranges: the ranges of versions that `advisories.sh --ranges` wrote. Each range is decided for each machine, as
-  `decide.py` does it. The result is that of the range's check.
+- --ranges: the ranges of versions that `advisories.sh --ranges` wrote. Each range is decided for each machine, as by
+  `decide.py`. The decision is the result of the range's check.
 - --decided: the output of `decide.py`.
 
 A fleet decides like `scan.py`, whatever the modes of the statements are. What a list doesn't say is UNKNOWN. With
 --strict a verdict is FALSE if it would be UNKNOWN only because an item says less than an advisory asks for. Remarks
 name the items that have no entry, or only a removed entry.
 
-A fleet writes only verdicts. `affected.sh` and `report.py` accept --kev and --epss with the output of a fleet. Only
-`scan.py` has --fail-on, --since and --format.
+`affected.sh` and `report.py` accept --kev and --epss with the output of a fleet. Only `scan.py` has --fail-on, --since
+and --format.
 
 A fleet writes a line `MACHINE STATEMENT TRUTH` for each verdict, in the order of the machines and of the statements.
 For a machine without items a fleet writes `MACHINE no items`. If every machine was written, the last line is
@@ -35,19 +35,19 @@ from collections.abc import Sequence
 from pathlib import Path
 
 from . import fleet, worker, workers
+from .console import Messages, temporary_folder, write_all
 from .feeds import text_lines
 from .program import Program
-from .said import Said, room, write_all
-from .session import Asked
+from .session import MachineQuestion
 
 
 def run(words: Sequence[str]) -> int:
-    given = fleet.read_fleet_words(words, fleet.OPTIONS, f"parallel.sh {fleet.USAGE}")
+    arguments = fleet.read_fleet_words(words, fleet.OPTIONS, f"parallel.sh {fleet.USAGE}")
     workers.needs_parallel()
-    said, program = Said(), Program()
-    asked = fleet.read_fleet(program, given, said)
-    with room() as folder:
-        plan = worker.write_plan(folder, asked.known)
+    messages, program = Messages(), Program()
+    asked = fleet.read_fleet(program, arguments, messages)
+    with temporary_folder() as folder:
+        plan = worker.write_plan(folder, asked.fleet_data)
         pieces = {}
         most = len(asked.machines) // workers.number_at("WORKERS", os.cpu_count() or 1) + 1
         for number, machines in enumerate(asked.blocks(most)):
@@ -55,20 +55,20 @@ def run(words: Sequence[str]) -> int:
             worker.write_piece(path, machines)
             pieces[path] = machines
         workers.run_workers(folder, workers.python_worker("worker", program.path, *plan), list(pieces))
-        return _gather(pieces, said)
+        return _gather(pieces, messages)
 
 
-def _gather(pieces: dict[Path, list[Asked]], said: Said) -> int:
-    """Writes what the workers found, in the order of the machines; the last line only where no machine is missing."""
+def _gather(pieces: dict[Path, list[MachineQuestion]], messages: Messages) -> int:
+    """Writes the workers' results, in the order of the machines; the last line only if no machine is missing."""
     missing = [piece for piece in pieces if not workers.is_done(piece)]
     for piece, machines in pieces.items():
         if piece in missing:
-            fleet.say_missing(said, machines, "since their worker did not end")
+            fleet.report_missing(messages, machines, "since their worker did not end")
             continue
         for line in text_lines(Path(f"{piece}.said").read_text()):
-            fleet.say_told(said, *json.loads(line))
+            fleet.report_answer(messages, *json.loads(line))
         workers.copy_out(piece)
     if missing:
         return fleet.MACHINES_MISSING
     write_all(1, f"machines {sum(map(len, pieces.values()))}\n".encode(), "the output")
-    return said.status()
+    return messages.status()

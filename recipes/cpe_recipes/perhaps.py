@@ -25,17 +25,18 @@ from dataclasses import dataclass
 
 from . import hints, names
 from .advisories import MATCH, SYSTEM, Range, base_id
+from .arguments import ONE, read_arguments
 from .components import Machine
-from .decide import LETTERS, Decider, Lead, Leads, leads_of, read_entries, read_ranges
+from .console import Fatal, Messages, Output, escape
 from .feeds import Json
 from .fleet import read_text
+from .leads import Lead, Leads, leads_of, read_entries
 from .machines import read_machines
-from .naming import name_machines, read_names
+from .package_names import name_machines, read_names
 from .program import Program
-from .said import Fatal, Output, Said, shown
-from .unlisted import say_items
-from .versions import Letters, read_letters
-from .words import ONE, read_words
+from .range_checks import RangeIndex, read_ranges
+from .unlisted import report_items
+from .versions import LETTERS_FILE, Letters, read_letters
 
 USAGE = "perhaps.sh RECORDS MACHINES [--names FILE] [--ranges FILE [--letters FILE]]"
 
@@ -53,7 +54,8 @@ class Fact:
 
 @dataclass(frozen=True)
 class Pair:
-    """A fact and an item's name, or an end of it, with the name of the fact that is compared: perhaps in the item's version."""
+    """A fact and an item's name, or an end of it, with the name of the fact that is compared: perhaps in the item's
+    version."""
 
     fact: Fact
     compared: str
@@ -62,24 +64,26 @@ class Pair:
 
 
 def run(words: Sequence[str]) -> int:
-    read = read_words(words, {"--ranges": ONE, "--letters": ONE, "--names": ONE}, USAGE)
-    if len(read.files) != 2:
+    arguments = read_arguments(words, {"--ranges": ONE, "--letters": ONE, "--names": ONE}, USAGE)
+    if len(arguments.files) != 2:
         raise Fatal(f"usage: {USAGE}")
-    said, output, program = Said(), Output(), Program()
-    records, machines = read_entries(read.files[:1]), read_machines(read.files[1], said)
-    hint = hints.command("unlisted.sh", [*read.files, *hints.table_words(read)])
-    name_machines(machines, read_names(read.many("--names"), machines), records).tell(said, hint)
-    facts = facts_of(read_text(read.files[0]).split("\n"))
+    messages, output, program = Messages(), Output(), Program()
+    records, machines = read_entries(arguments.files[:1]), read_machines(arguments.files[1], messages)
+    hint = hints.command("unlisted.sh", [*arguments.files, *hints.table_words(arguments)])
+    name_machines(machines, read_names(arguments.many("--names"), machines), records).report(messages, hint)
+    facts = facts_of(read_text(arguments.files[0]).split("\n"))
     if not facts:
         raise Fatal("no facts of statements in the records")
-    ranges, letters = read_ranges(read.many("--ranges"), said), read_letters(read.one("--letters") or LETTERS)
+    ranges, letters = read_ranges(arguments.many("--ranges"), messages), read_letters(
+        arguments.one("--letters") or LETTERS_FILE
+    )
     items = dict.fromkeys(name for machine in machines for name in machine.asked_names())
     leads = leads_of(program, records, items, (fact.name for fact in facts))
-    say_items(machines, leads, said)
+    report_items(machines, leads, messages)
     pairs = Pairs(program, facts, leads, ranges, letters)
     output.lines(list(pairs.perhaps(machines)))
-    output.end(shown)
-    return said.status()
+    output.end(escape)
+    return messages.status()
 
 
 def facts_of(records: Iterable[str]) -> list[Fact]:
@@ -95,7 +99,7 @@ def facts_of(records: Iterable[str]) -> list[Fact]:
 
 
 def _statement(line: str) -> Json:
-    """The statement of a line, None where there is none."""
+    """The statement of a line, None if there is none."""
     if '"statement"' not in line:
         return None
     try:
@@ -107,7 +111,8 @@ def _statement(line: str) -> Json:
 
 
 def _names(test: Json) -> Iterator[tuple[str, str | None]]:
-    """The facts of a test, each with the id of the check that an AND asks for beside it, where that is one of NVD's matches."""
+    """The facts of a test, each with the id of the check that an AND asks for beside it, if that is one of NVD's
+    matches."""
     waiting: list[tuple[Json, str | None]] = [(test, None)]
     while waiting:
         one, key = waiting.pop()
@@ -150,12 +155,14 @@ class Pairs:
         covered = self._covered(dict.fromkeys(pair for pairs in near.values() for pair in pairs))
         for machine in machines:
             for item in dict.fromkeys(machine.items):
-                for id, name in dict.fromkeys((pair.fact.id, pair.fact.name) for pair in near.get(item, ()) if pair in covered):
+                for id, name in dict.fromkeys(
+                    (pair.fact.id, pair.fact.name) for pair in near.get(item, ()) if pair in covered
+                ):
                     yield f"perhaps {machine.name} {id} {item} {name}"
 
     def _near(self, lead: Lead) -> Iterator[Pair]:
-        """The pairs of this item in which it is ANY wherever the fact isn't the same. Only these are asked for, since a product
-        may have thousands of facts."""
+        """The pairs of this item in which it is ANY wherever the fact isn't the same. Only these are asked for, since a
+        product may have thousands of facts."""
         for other in dict.fromkeys((lead.name, *lead.ends)):
             parts = names.components(other)
             for fact, wanted in self._facts.get(names.product_of(other), ()):
@@ -164,7 +171,7 @@ class Pairs:
                     wanted = [*wanted[: names.VERSION], parts[names.VERSION], *wanted[names.VERSION + 1 :]]
                 is_near = parts != wanted and all(part in (names.ANY, want) for part, want in zip(parts, wanted))
                 if is_near and other in _compared(lead, fact):
-                    yield Pair(fact, names.joined(wanted), other, is_in_version)
+                    yield Pair(fact, names.join(wanted), other, is_in_version)
 
     def _covered(self, pairs: Iterable[Pair]) -> set[Pair]:
         """Those in which the item's name covers the fact's, and isn't surely outside its range."""
@@ -174,12 +181,18 @@ class Pairs:
         versions = {pair.compared: Lead(pair.compared, False, (pair.compared,)) for pair in found if pair.is_in_version}
         if not versions:
             return found
-        ranges = [self._ranges[key] for key in dict.fromkeys(pair.fact.key for pair in found if pair.is_in_version) if key]
+        ranges = [
+            self._ranges[key] for key in dict.fromkeys(pair.fact.key for pair in found if pair.is_in_version) if key
+        ]
         criteria = {one.criteria for one in ranges} & self._leads.found.keys()
         leads = Leads(versions | {name: self._leads.found[name] for name in criteria})
-        decider = Decider(self._program, ranges, leads, list(versions), self._letters)
-        # (what doesn't stand to its range, that one doesn't cover)
-        outside = {pair for pair in found if pair.is_in_version and not decider.stands(pair.compared).get(pair.fact.key or "")}
+        range_index = RangeIndex(self._program, ranges, leads, list(versions), self._letters)
+        # (an end outside of the range isn't covered by it)
+        outside = {
+            pair
+            for pair in found
+            if pair.is_in_version and not range_index.memberships(pair.compared).get(pair.fact.key or "")
+        }
         return found - outside
 
 

@@ -1,16 +1,18 @@
-"""The operating systems of machines: the one that `--platform` gives those whose lists name none, and what is FALSE without one.
+"""The operating systems of machines: the one that `--platform` gives those whose lists name none, and what is FALSE
+without one.
 
-An advisory that asks for an operating system beside something else is UNKNOWN on a machine whose list names none (asked.py). One on
-an operating system alone would be UNKNOWN there however many there are, and is FALSE; so the number of these is said.
+An advisory that asks for an operating system beside something else is UNKNOWN on a machine whose list names none
+(statement_rewriter.py). One on an operating system alone would be UNKNOWN there however many there are, and is FALSE;
+so the number of these is said.
 """
 from __future__ import annotations
 
 from collections.abc import Iterable, Sequence
 
 from . import names
-from .cases import Known
+from .cases import FeedData
 from .components import Component, Machine
-from .said import Fatal, Said
+from .console import Fatal, Messages
 
 _SYSTEM = "o"
 
@@ -28,20 +30,22 @@ def silent(machines: Iterable[Machine]) -> list[Machine]:
     return [machine for machine in machines if all(names.part_of(name) != _SYSTEM for name in machine.items)]
 
 
-def remark_silent(machines: Sequence[Machine], known: Known, said: Said) -> None:
+def remark_silent(machines: Sequence[Machine], feed_data: FeedData, messages: Messages) -> None:
     """Says how many advisories are FALSE on machines because their lists name no operating system."""
-    count, alone = len(silent(machines)), _alone(known)
+    count, alone = len(silent(machines)), _alone(feed_data)
     if count and alone:
-        are = "advisory on an operating system alone is" if alone == 1 else "advisories on an operating system alone are"
+        are = (
+            "advisory on an operating system alone is" if alone == 1 else "advisories on an operating system alone are"
+        )
         on = "1 machine lists" if count == 1 else f"{count:,} machines list"
-        said.remark(f"{on} no operating system: {alone:,} {are} FALSE there; --platform NAME gives it")
+        messages.remark(f"{on} no operating system: {alone:,} {are} FALSE there; --platform NAME gives it")
 
 
-def _alone(known: Known) -> int:
+def _alone(feed_data: FeedData) -> int:
     """How many advisories have facts on operating systems and no others."""
-    ids = {id for id, is_of_systems in known.elsewhere.items() if is_of_systems}
-    for statement in known.statements:
-        facts = [*statement.facts, *(known.ranges[key].criteria for key in statement.ranges)]
+    ids = {id for id, is_of_systems in feed_data.elsewhere.items() if is_of_systems}
+    for statement in feed_data.statements:
+        facts = [*statement.facts, *(feed_data.ranges[key].criteria for key in statement.ranges)]
         if facts and all(names.part_of(fact) == _SYSTEM for fact in facts):
             ids.add(statement.id.partition("#")[0])
     return len(ids)

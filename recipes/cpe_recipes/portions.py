@@ -1,7 +1,8 @@
-"""Statements in portions that `cpe` takes at once. No statement depends on another, so portions have the verdicts of one run.
+"""Statements in portions that `cpe` takes at once. No statement depends on another, so portions have the verdicts of
+one run.
 
-`cpe` takes 100,000 statements, with 1,000,000 facts together, and 100,000 results of checks. What all rows weigh has a limit too, of
-which the bytes of the statements' lines keep a portion far away.
+`cpe` takes 100,000 statements, with 1,000,000 facts together, and 100,000 results of checks. What all rows weigh has a
+limit too, of which the bytes of the statements' lines keep a portion far away.
 """
 from __future__ import annotations
 
@@ -22,7 +23,10 @@ class Size:
 
     def __add__(self, other: Size) -> Size:
         return Size(
-            self.statements + other.statements, self.facts + other.facts, self.checks + other.checks, self.bytes + other.bytes
+            self.statements + other.statements,
+            self.facts + other.facts,
+            self.checks + other.checks,
+            self.bytes + other.bytes,
         )
 
     def is_within(self, most: Size) -> bool:
@@ -39,12 +43,14 @@ MOST = Size(statements=100_000, facts=1_000_000, checks=90_000, bytes=100_000_00
 
 
 def size_of(line: str, checks: int = 0) -> Size:
-    """The size of the line of a statement. (A text may have the word of a fact too: then a portion is smaller than it could be.)"""
+    """The size of the line of a statement. (A text may have the word of a fact too: then a portion is smaller than it
+    could be.)"""
     return Size(1, line.count(_FACT), checks, len(line))
 
 
 def portions(sizes: Iterable[Size], most: Size | None = None) -> Iterator[range]:
-    """The places of these sizes, in ranges that are within what `cpe` takes. A size that is over it alone is a portion of its own."""
+    """The places of these sizes, in ranges that are within what `cpe` takes. A size that is over it alone is a portion
+    of its own."""
     most = most or MOST
     begin = end = 0
     portion = Size(0, 0, 0, 0)

@@ -1,4 +1,4 @@
-"""How far a recipe is, for who looks at it on a terminal; nothing is written elsewhere."""
+"""The progress of a recipe, shown on a terminal; otherwise nothing is written."""
 from __future__ import annotations
 
 import contextlib
@@ -10,7 +10,7 @@ _PAUSE = 0.2
 
 
 class Progress:
-    """One line on the terminal, written over again and gone at the end, however that comes."""
+    """One line on the terminal, which is overwritten, and removed at the end of the recipe, whatever ends it."""
 
     def __init__(self, descriptor: int = 2, is_shown: bool | None = None) -> None:
         self._descriptor = descriptor
@@ -35,14 +35,14 @@ class Progress:
             self.step(f"{text}, {done} of {of}")
 
     def clear(self) -> None:
-        """Takes the line away, for what is written next."""
+        """Removes the line, before something else is written."""
         if self._is_there:
             self._write(_CLEAR)
             self._is_there = False
 
     def _write(self, text: str) -> None:
         if self._is_shown:
-            # (a terminal that is gone is no reason to end)
+            # (a closed terminal is no reason to end)
             with contextlib.suppress(OSError):
                 os.write(self._descriptor, text.encode(errors="replace"))
             self._is_there = True

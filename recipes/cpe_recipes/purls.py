@@ -1,7 +1,7 @@
 """Package URLs: their parts, and how they are written, both ways by the purl specification.
 
-`pkg:deb/debian/bind9@1%3A9.18?arch=amd64` has the type, a namespace, a name, a version and qualifiers. What is read may be spelled in
-any way that the specification lets pass, such as `:` and `%3A`; what is written is spelled in one.
+`pkg:deb/debian/bind9@1%3A9.18?arch=amd64` has the type, a namespace, a name, a version and qualifiers. What is read may
+be spelled in any way that the specification lets pass, such as `:` and `%3A`; what is written is spelled in one.
 """
 from __future__ import annotations
 
@@ -64,21 +64,21 @@ class Purl:
 
 
 def check(text: str) -> None:
-    """PurlFault where a text is no package URL; its words say why."""
+    """Raises PurlFault, with the reason, if a text is no package URL."""
     # (the parts of each of thousands would take longer than all else of a list)
     found = _COMMON.fullmatch(text)
     keys = [key[1:] for key in _KEYS.findall(found["behind"])] if found and found["behind"] else []
     if found is None or len(set(keys)) != len(keys):
-        parsed(text)
+        parse(text)
 
 
 def with_upstream(text: str, source: str) -> str:
-    """The package URL of a distribution's package with its source package, `name` or `name@version`, if it is another and isn't there.
-    A text that is no package URL stays as it is."""
+    """The package URL of a distribution's package with its source package, `name` or `name@version`, if it is another
+    and isn't there. A text that is no package URL stays as it is."""
     if not source or not text:
         return text
     try:
-        purl = parsed(text)
+        purl = parse(text)
     except PurlFault:
         return text
     name, _, version = source.partition("@")
@@ -89,8 +89,8 @@ def with_upstream(text: str, source: str) -> str:
     return replace(purl, qualifiers=(*purl.qualifiers, ("upstream", upstream))).text()
 
 
-def parsed(text: str) -> Purl:
-    """The parts of a package URL. PurlFault where it is none; its words say why."""
+def parse(text: str) -> Purl:
+    """The parts of a package URL. PurlFault, with the reason, if the text is none."""
     found = _SCHEME.match(text)
     _needs(found is not None, "it doesn't begin as one")
     _needs(not _ODD.search(text), "a space or a control character is in it")

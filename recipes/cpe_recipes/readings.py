@@ -1,7 +1,8 @@
-"""What a version of a list may mean beside the version of an advisory: the texts that are to be compared.
+"""The possible meanings of a version in a list beside the version of an advisory: the texts that are compared.
 
-A distribution's package has the version of its upstream, perhaps behind an epoch and before a release of the distribution's own
-(32:9.16.23-24.el9), and an advisory has the upstream's. Of a package of which nobody says where it comes from both may be meant.
+A distribution's package has the version of its upstream, perhaps after an epoch and before a release of the
+distribution's own (32:9.16.23-24.el9), and an advisory has the upstream's. If the kind of a package isn't known, both
+readings are possible.
 """
 from __future__ import annotations
 
@@ -18,7 +19,7 @@ DISTRIBUTIONS = frozenset({"deb", "rpm", "apk"})
 
 _V = re.compile(r"[vV](?=[0-9])")
 _EPOCH = re.compile(r"[0-9]+[:!](?=.)")
-# What may be a release of any distribution: 1, 0+deb11u1, 24.el9, r3. Only what stands before it has to have a digit.
+# What may be a release of any distribution: 1, 0+deb11u1, 24.el9, r3. Only the text before it needs a digit.
 _RELEASE = re.compile(r"(?P<upstream>.*[0-9].*)-(?P<release>r?[0-9][^-]*)")
 _RELEASES = {
     "deb": re.compile(r"(?P<upstream>.+)-(?P<release>[^-]+)"),
@@ -31,25 +32,28 @@ _REALLY = re.compile(r".*\+really(?P<upstream>[0-9].*)")
 # A snapshot behind a version, or a build of it.
 _BEHIND = re.compile(r"(?P<upstream>[^+^]*[0-9][^+^]*)[+^].*")
 _FLAVOUR = re.compile(r"(?P<upstream>.*[0-9].*)[-.](?P<word>[a-z]+)")
-_WORDS_OF_MAVEN = frozenset({"alpha", "beta", "milestone", "rc", "cr", "snapshot", "ga", "final", "release", "sp", "a", "b", "m"})
+_WORDS_OF_MAVEN = frozenset(
+    {"alpha", "beta", "milestone", "rc", "cr", "snapshot", "ga", "final", "release", "sp", "a", "b", "m"}
+)
 
 
 @dataclass(frozen=True)
 class Reading:
-    """A text that a version may mean, and the release of a distribution that was taken off it, if any."""
+    """A text that a version may mean, and the release of a distribution that was removed from it."""
 
     text: str
     release: str = ""
 
 
 def without_v(version: str) -> str:
-    """The version without a v that stands before its first digit."""
+    """The version without a v before its first digit."""
     return version[1:] if _V.match(version) else version
 
 
 @functools.lru_cache(maxsize=KEPT)
 def release_of(version: str, kind: str) -> str:
-    """The release of a distribution that a version has, or may have where its kind isn't known; empty where it has none."""
+    """The release of a distribution that a version has, or may have where its kind isn't known; empty if it has
+    none."""
     match = _with_release(version.lower(), kind)
     return match["release"] if match else ""
 
@@ -73,8 +77,8 @@ def readings(version: str, bound: str, kind: str) -> tuple[str, tuple[Reading, .
 
 
 def without_epoch(version: str, bound: str) -> tuple[str, str]:
-    """Both without a v before the first digit, and without an epoch that only one of them has, since that decides nothing. (Some
-    tools write the colon of an epoch as %3a, as URLs do.)"""
+    """Both without a v before the first digit, and without an epoch that only one of them has, since that decides
+    nothing. (Some tools write the colon of an epoch as %3a, as URLs do.)"""
     found = [without_v(unquote(text) if "%" in text else text) for text in (version, bound)]
     epochs = [_EPOCH.match(text) for text in found]
     if all(epochs):
@@ -106,7 +110,7 @@ def _readings(version: str, bound: str, kind: str) -> Iterator[Reading]:
 
 
 def _any(version: str, bound: str) -> Iterator[Reading]:
-    """The readings of a version of which nobody says where it comes from."""
+    """The readings of a version whose kind isn't known."""
     yield Reading(version)
     match = _RELEASE.fullmatch(version)
     if match is None:

@@ -25,14 +25,14 @@ from collections.abc import Iterable, Sequence
 from pathlib import Path
 
 from . import affected, changes, verdicts
+from .arguments import ONE, Arguments, read_arguments
+from .console import Fatal, Messages, describe_fault, write_all
 from .feeds import FeedFault, name_of, read_feed
 from .page import Parts, page
 from .progress import Progress
-from .said import Fatal, Said, why, write_all
-from .scanned import NO_ITEMS, Advisory, Machine, Row, Scanned, grouped, in_order, scanned_of
-from .settled import read_settled
+from .scan_result import NO_ITEMS, Advisory, Machine, Row, ScanResult, group_reasons, in_order, parse_scan_result
+from .settlements import read_settlements
 from .verdicts import Verdicts, verdicts_of
-from .words import ONE, Words, read_words
 
 USAGE = (
     "report.py [--title TEXT] [--before FILE] [--details FILE] [--suppress FILE] [--settled FILE] [--records FILE] [--ranges FILE] "
@@ -46,68 +46,69 @@ _RECIPES = Path(__file__).resolve().parent.parent
 
 
 def run(words: Sequence[str]) -> int:
-    read = read_words(words, {"--title": ONE, "--before": ONE, **affected.OPTIONS}, USAGE)
-    if len(read.files) > 1 or read.has("--before") and not read.files:
+    arguments = read_arguments(words, {"--title": ONE, "--before": ONE, **affected.OPTIONS}, USAGE)
+    if len(arguments.files) > 1 or arguments.has("--before") and not arguments.files:
         raise Fatal(f"usage: {USAGE}")
-    parts = Parts(read.one("--title") or TITLE, _part("report.css"), _part("report.js"))
+    parts = Parts(arguments.one("--title") or TITLE, _part("report.css"), _part("report.js"))
     with Progress() as progress:
         progress.step("reading the table")
-        scanned = _scanned(read)
-        changed = _changed(read, scanned)
+        scanned = _read_result(arguments)
+        changed = _read_changes(arguments, scanned)
     write(page(scanned, parts, changed))
-    said = Said(most_alike=_MOST_ALIKE)
-    _tell(scanned, said)
-    said.tell_others()
-    return said.status()
+    messages = Messages(most_alike=_MOST_ALIKE)
+    _report(scanned, messages)
+    messages.report_others()
+    return messages.status()
 
 
-def _scanned(read: Words) -> Scanned:
+def _read_result(arguments: Arguments) -> ScanResult:
     """What the page shows, of the file that is given or of standard input."""
-    path = read.files[0] if read.files else None
+    path = arguments.files[0] if arguments.files else None
     feed = name_of(path)
     try:
         data = read_feed(path)
     except FeedFault as fault:
         raise Fatal(f"{feed}: {fault}") from fault
     if not data.lstrip().startswith(b"{"):
-        return _of_fleet(verdicts_of(data, feed), read)
-    given = next((option for option in affected.OPTIONS if read.many(option)), None)
+        return _of_fleet(verdicts_of(data, feed), arguments)
+    given = next((option for option in affected.OPTIONS if arguments.many(option)), None)
     if given:
         raise Fatal(f"{given} is for verdicts of a fleet: {feed} has all of that already")
-    return scanned_of(data, feed)
+    return parse_scan_result(data, feed)
 
 
-def _changed(read: Words, scanned: Scanned) -> list[str] | None:
-    """What changed since the verdicts before, None where it isn't asked for. What it leaves out joins that of the page."""
-    before = read.one("--before")
+def _read_changes(arguments: Arguments, scanned: ScanResult) -> list[str] | None:
+    """What changed since the verdicts before, None if it isn't asked for. What it leaves out joins that of the
+    page."""
+    before = arguments.one("--before")
     if before is None:
         return None
-    gathered = _Gathered()
-    lines = list(changes.between(before, read.files[0], gathered))
+    gathered = _GatheredMessages()
+    lines = list(changes.between(before, arguments.files[0], gathered))
     known = set(scanned.left_out)
     scanned.left_out += [one for one in gathered.noted if one not in known]
     return lines
 
 
-class _Gathered(Said):
-    """What is left out, which is told when the page is written."""
+class _GatheredMessages(Messages):
+    """Keeps what is left out until the page is written."""
 
     def __init__(self) -> None:
         super().__init__()
         self.noted: list[tuple[str, str]] = []
 
-    def left_out(self, id: str, reason: str, place: str = "") -> None:
+    def leave_out(self, id: str, reason: str, place: str = "") -> None:
         self.noted.append((id, reason))
 
     def remark(self, text: str, id: str = "") -> None:
-        """(what changed tells it)"""
+        """(the lines of changes have it)"""
 
 
-def _of_fleet(told: Verdicts, read: Words) -> Scanned:
+def _of_fleet(told: Verdicts, arguments: Arguments) -> ScanResult:
     """The verdicts of a fleet, or of one inventory, as a page shows them."""
-    gathered = _Gathered()
-    about = affected.about_of(read, gathered)
-    read_settled(read.many("--settled"), gathered).settle(told.machines, gathered)
+    gathered = _GatheredMessages()
+    about = affected.about_of(arguments, gathered)
+    read_settlements(arguments.many("--settled"), gathered).settle(told.machines, gathered)
     advisories: dict[str, Advisory] = {}
     machines = []
     for found in told.machines:
@@ -116,30 +117,41 @@ def _of_fleet(told: Verdicts, read: Words) -> Scanned:
             if truth != "FALSE" or id in found.settled:
                 _note(advisories.setdefault(id, _advisory(id, about)), machine, found, truth, about)
         machines.append(machine)
-    affected.tell_left_out(told, about, gathered)
+    affected.report_left_out(told, about, gathered)
     asked = max((found.statements.count for found in told.machines), default=0)
     return in_order(asked, advisories.values(), machines, gathered.noted)
 
 
-def _advisory(id: str, about: affected.About) -> Advisory:
+def _advisory(id: str, about: affected.AdvisoryContext) -> Advisory:
     detail = about.details.get(id, {})
-    texts = [detail.get(key) if isinstance(detail.get(key), str) else "" for key in ("title", "severity", "published", "url")]
-    score = about.told(id).score
-    return Advisory(id, texts[0], None if score < 0 else score, *texts[1:], about.threats.added(id), about.threats.probability(id))
+    texts = [
+        detail.get(key) if isinstance(detail.get(key), str) else "" for key in ("title", "severity", "published", "url")
+    ]
+    score = about.cells(id).score
+    return Advisory(
+        id,
+        texts[0],
+        None if score < 0 else score,
+        *texts[1:],
+        about.threats.date_added(id),
+        about.threats.probability(id),
+    )
 
 
-def _note(advisory: Advisory, machine: Machine, found: verdicts.Machine, truth: str, about: affected.About) -> None:
+def _note(
+    advisory: Advisory, machine: Machine, found: verdicts.Machine, truth: str, about: affected.AdvisoryContext
+) -> None:
     """A row of a machine on which the advisory isn't FALSE, or is settled."""
     settled = found.settled.get(advisory.id)
-    reasons = about.hanging.on(advisory.id, found.name) if truth == "UNKNOWN" or settled else []
+    reasons = about.verdict_reasons.on(advisory.id, found.name) if truth == "UNKNOWN" or settled else []
     told = None if settled is None else settled.reason
-    group, reasons = grouped(truth, reasons, about.accepted_for(advisory.id, truth, found.name), told)
+    group, reasons = group_reasons(truth, reasons, about.accepted_for(advisory.id, truth, found.name), told)
     advisory.rows[group].append(Row(machine.name, tuple(reasons)))
     machine.note(group, advisory.score)
 
 
 def write(pieces: Iterable[str], descriptor: int = 1) -> None:
-    """Writes the page as it comes."""
+    """Writes the page piece by piece."""
     waiting, size = [], 0
     for piece in pieces:
         waiting.append(piece)
@@ -150,13 +162,13 @@ def write(pieces: Iterable[str], descriptor: int = 1) -> None:
     write_all(descriptor, "".join(waiting).encode(errors="replace"), "the output")
 
 
-def _tell(scanned: Scanned, said: Said) -> None:
+def _report(scanned: ScanResult, messages: Messages) -> None:
     for id, reason in scanned.left_out:
-        said.left_out(id, reason)
+        messages.leave_out(id, reason)
     told = {id for id, reason in scanned.left_out if reason == NO_ITEMS}
     for machine in scanned.bare():
         if machine.name not in told:
-            said.left_out(machine.name, NO_ITEMS)
+            messages.leave_out(machine.name, NO_ITEMS)
 
 
 def _part(name: str) -> str:
@@ -164,4 +176,4 @@ def _part(name: str) -> str:
     try:
         return (_RECIPES / name).read_text(encoding="utf-8")
     except OSError as fault:
-        raise Fatal(f"{name} can not be read: {why(fault)}") from fault
+        raise Fatal(f"{name} can not be read: {describe_fault(fault)}") from fault

@@ -30,7 +30,7 @@ What you know in addition:
   UNKNOWN if it depends on hardware that a list doesn't name.
 - --suppress: accepted advisories, lines `ID MACHINE REASON`; * is every machine. Accepted advisories are written below
   the table.
-- --settled: UNKNOWNs that a user settled, lines `MACHINE ID TRUE|FALSE REASON`; * is every machine (settled.py).
+- --settled: UNKNOWNs that a user settled, lines `MACHINE ID TRUE|FALSE REASON`; * is every machine (settlements.py).
 - --kev, --epss: CISA's list of known exploited vulnerabilities, and EPSS (threats.py).
 
 What is written:
@@ -40,27 +40,25 @@ What is written:
   advisory asks for.
 - --format: table, json, csv, sarif, cyclonedx-vex or openvex (formats/). --json is --format json, which report.py
   reads. --time is the time written in the result.
-- --why: the items that make a verdict TRUE (`decidedBy`), in all forms except the table (deciding.py).
-- --fail-on: the status is 3 if a verdict fits one of these gates (gates.py, gating.py). --since is the earlier result
-  for the term `new` of a gate.
+- --why: the items that make a verdict TRUE (`decidedBy`), in all forms except the table (explanations.py).
+- --fail-on: the status is 3 if a verdict fits one of these gates (gate_grammar.py, gate_check.py). --since is the
+  earlier result for the term `new` of a gate.
 
-cases.py chooses which statements are evaluated for which machine. One run of cpe evaluates them. If there are more
-statements than cpe can take, the scan passes them to cpe in portions; the verdicts are the same (portions.py). In this
-case, and always with a store, advisories that can't concern any of the machines are FALSE without being evaluated
-(concern.py). With --all these advisories are evaluated too.
+If there are more statements than cpe can take, the scan passes them to cpe in portions; the verdicts are the same
+(portions.py). In this case, and always with a store, advisories that can't concern any of the machines are FALSE
+without being evaluated (concern.py). With --all these advisories are evaluated too.
 
 A statement holds for a machine if it holds by the written names of items and facts, or by the names to which the
-dictionary leads from these (calling.py). A negated test holds only if it holds by all these names (negations.py). If a
-component has several names, a verdict is TRUE if one of them makes it TRUE, and FALSE only if all make it FALSE.
+dictionary leads from these (name_finder.py). A negated test holds only if it holds by all these names (negations.py).
+If a component has several names, a verdict is TRUE if one of them makes it TRUE, and FALSE only if all make it FALSE.
 
 What a list doesn't say is UNKNOWN. A fact may match an item that is known in part (its name has a pattern). A fact may
 also match an item that says less than the fact, such as a plugin without its platform. reasons.py writes the missing
-attributes beside a verdict that depends on an item that says less. These verdicts are counted separately, as `perhaps`;
-NIST IR 7696 says that they are FALSE. If no version that an item may have is in a range, the range is FALSE for the
-item (decide.py).
+attributes beside the verdict. Such verdicts are counted separately, as `perhaps`; by NIST IR 7696 they are FALSE. If no
+version that an item may have is in a range, the range is FALSE for the item (range_checks.py).
 
-The status is 0 if every verdict is written and nothing was left out. It is 1 if something was left out, which is
-reported. It is 2 if there is no result; then only the reason is written. It is 3 if a verdict fits a gate, even if
+The status is 0 if every verdict is written and nothing was left out. Status 1 means that something was left out, which
+is reported. Status 2 means no result; only the reason is written. Status 3 means that a verdict fits a gate, even if
 something was left out.
 """
 from __future__ import annotations
@@ -69,39 +67,60 @@ import itertools
 from collections.abc import Callable, Collection, Iterable, Iterator, Mapping, Sequence
 from dataclasses import dataclass, field
 
-from . import advisories, affected, dictionary, formats, gating, hints, latest, matches, platforms, portions, products, suppressed, threats
-from . import unlisted, verdicts, whole
-from .called import Called, Sure
-from .calling import Calling, Wanted, listed_by_name
-from .cases import Cases, Index, Items, Known, Results, lines_of, portions_of, verdicts_of
+from . import (
+    advisories,
+    affected,
+    dictionary,
+    formats,
+    gate_check,
+    hints,
+    latest_records,
+    matches,
+    platforms,
+    portions,
+    products,
+    suppressions,
+    threats,
+)
+from . import completeness, unlisted, verdicts
+from .advisory_states import States
+from .arguments import FLAG, MANY, ONE, Arguments, read_arguments
+from .cases import Cases, FeedData, Index, Items, Results, lines_of, portions_of, verdicts_of
 from .components import Machine
-from .decide import LETTERS, Decider, Leads, Lists, decide, leads_in, leads_of
-from .deciding import Asked as AskedOf
-from .deciding import Chosen, Deciding
-from .difference import Difference, Prepared
-from .earlier import Rests, checksum_of
+from .console import Fatal, Messages, NoMessages, Output, RecordedMessages
+from .difference import Difference, ScanPlan
+from .earlier_scans import ScanBasis, checksum_of
+from .explanations import BatchExplainer, Explainer, ExplanationRequest
 from .feeds import FeedFault, Json, Page, name_of, read_feed, text_lines
 from .formats import Form
-from .gating import Gates
-from .keeping import Decided, Keeping
+from .gate_check import GateCheck
+from .item_names import Certainty, ItemName
+from .leads import Leads, leads_in, leads_of
 from .machines import read_lists, read_machines
+from .name_finder import FactAttributes, NameFinder, group_matches_by_name
 from .names_table import Tables
-from .naming import Unnamed, name_machines, read_names
 from .near_products import Product
 from .negations import Negations, has_hardware
-from .outcome import MOST_ALIKE, Found, Hanging, Taken, json_of, machines_with_verdicts, tell_items
+from .outcome import (
+    MOST_ALIKE,
+    EarlierRows,
+    MachineOutcome,
+    OutcomeReasons,
+    json_of,
+    machines_with_verdicts,
+    report_items,
+)
+from .package_names import UnnamedPackages, name_machines, read_names
+from .persistent_run import PersistentProgram, drop_lines
 from .program import Candidate, Program
 from .progress import Progress
+from .range_checks import MatchLists, RangeIndex, decide_checks
 from .reasons import Reasons
-from .said import Fatal, Mute, Noting, Output, Said
-from .settled import read_settled
-from .staying import Staying, dropping
-from .stored import Found as StoreFound
-from .stored import Stored
+from .scan_recorder import ScanRecorder, ScanState
+from .settlements import read_settlements
+from .store_reader import StoreExtract, StoreReader
 from .threats import Threats
-from .unanalysed import States
-from .versions import Letters, read_letters
-from .words import FLAG, MANY, ONE, Words, read_words
+from .versions import LETTERS_FILE, Letters, read_letters
 
 USAGE = (
     "scan.py --store FOLDER | --dictionary FILE.. | --records FILE.. --advisories FILE.. [--matches FILE..] "
@@ -127,121 +146,139 @@ OPTIONS = {
     "--strict": FLAG,
     "--platform": ONE,
     "--hardware": ONE,
-    **whole.OPTIONS,
+    **completeness.OPTIONS,
     **formats.OPTIONS,
     **threats.OPTIONS,
-    **gating.OPTIONS,
+    **gate_check.OPTIONS,
 }
 
 
 class Scan:
-    """Verdicts of machines over what is known."""
+    """Finds the verdicts of machines over the contents of the feeds."""
 
     def __init__(
         self,
         program: Program,
-        known: Known,
-        lists: Lists,
+        feed_data: FeedData,
+        lists: MatchLists,
         letters: Letters,
         progress: Progress,
         has_why: bool = False,
         is_strict: bool = False,
         has_hardware: bool = True,
     ) -> None:
-        self._program, self._known, self._lists, self._letters, self._progress = program, known, lists, letters, progress
-        self.deciding: Deciding | None = Chosen(program, known, lambda: self._leads) if has_why else None
+        self._program, self._feed_data, self._lists, self._letters, self._progress = (
+            program,
+            feed_data,
+            lists,
+            letters,
+            progress,
+        )
+        self.explainer: Explainer | None = BatchExplainer(program, feed_data, lambda: self._leads) if has_why else None
         self._is_strict, self._has_hardware = is_strict, has_hardware
         self.bare: list[str] = []
         self.successors: dict[Product, list[Product]] = {}
-        self.calling: Calling | None = None
+        self.name_finder: NameFinder | None = None
         self._leads = Leads()
 
-    def machines(self, machines: Sequence[Machine], is_all_asked: bool = False) -> list[Found]:
-        """What comes of the machines. Where all statements are asked of each, that is the same, and takes longer."""
-        calling = self.calling = self._lead(dict.fromkeys(name for machine in machines for name in machine.asked_names()))
-        found = [self._found(machine, calling) for machine in machines]
-        self._decide(found, is_all_asked)
-        return found
+    def machines(self, machines: Sequence[Machine], is_all_asked: bool = False) -> list[MachineOutcome]:
+        """The outcomes of the machines. With is_all_asked all statements are evaluated for each machine, which takes
+        longer and has the same outcome."""
+        name_finder = self.name_finder = self._lead(
+            dict.fromkeys(name for machine in machines for name in machine.asked_names())
+        )
+        outcomes = [self._outcome(machine, name_finder) for machine in machines]
+        self._decide(outcomes, is_all_asked)
+        return outcomes
 
-    def _found(self, machine: Machine, calling: Calling) -> Found:
-        """Where the names of a machine lead. It has no items where none of its components has a name, be its platform known."""
+    def _outcome(self, machine: Machine, name_finder: NameFinder) -> MachineOutcome:
+        """Where the names of a machine lead. It has no items where none of its components has a name, be its platform
+        known."""
         if not any(name in self._leads.found for name in machine.own_names()):
-            return Found(machine, [])
+            return MachineOutcome(machine, [])
         found = [(one.kind, leads_in(self._leads, one)) for one in machine.all()]
         components = {(kind, tuple((lead.name, lead.why) for lead in leads)): leads for kind, leads in found if leads}
         leads = {lead.name: lead for of_one in components.values() for lead in of_one if not lead.why}
         listed = [[lead for lead in of_one if not lead.why] for of_one in components.values()]
         unlisted = [of_one for of_one in listed if of_one and not any(lead.is_entry for lead in of_one)]
         of_components = list(components.values())
-        return Found(machine, list(leads.values()), of_components, unlisted, calling.of_components(of_components))
+        return MachineOutcome(
+            machine, list(leads.values()), of_components, unlisted, name_finder.of_components(of_components)
+        )
 
     @property
     def leads(self) -> Leads:
         """Where the names of the last machines lead."""
         return self._leads
 
-    def tell_items(self, found: Sequence[Found], said: Said, hint: str) -> None:
-        tell_items(found, self._leads.refused, self.successors, said, hint)
+    def report_items(self, outcomes: Sequence[MachineOutcome], messages: Messages, hint: str) -> None:
+        report_items(outcomes, self._leads.refused, self.successors, messages, hint)
 
-    def _lead(self, items: Collection[str]) -> Calling:
+    def _lead(self, items: Collection[str]) -> NameFinder:
         """Where the names lead; and which names the items have."""
         self._progress.step("following names in the dictionary")
-        entries, facts = self._known.entries, self._known.facts()
-        self._leads = leads_of(self._program, entries, items, dict.fromkeys([*facts, *unlisted.deprecated_names(entries)]))
+        entries, facts = self._feed_data.entries, self._feed_data.facts()
+        self._leads = leads_of(
+            self._program, entries, items, dict.fromkeys([*facts, *unlisted.deprecated_names(entries)])
+        )
         self.successors = unlisted.successors(entries, self._leads)
-        feed = listed_by_name(self._lists, self._known.ranges, self._leads)
-        wanted = Wanted(self._leads.found[fact].name for fact in dict.fromkeys(facts))
+        feed = group_matches_by_name(self._lists, self._feed_data.ranges, self._leads)
+        fact_attributes = FactAttributes(self._leads.found[fact].name for fact in dict.fromkeys(facts))
         own = {lead.name: lead for item in items if (lead := self._leads.found.get(item))}
         old = [self._leads.found[name] for name in unlisted.deprecated_names(entries) if name in self._leads.found]
-        return Calling(self._program, entries, self._leads, old, own.values(), feed, wanted, self._letters)
+        return NameFinder(self._program, entries, self._leads, old, own.values(), feed, fact_attributes, self._letters)
 
-    def _decide(self, found: Sequence[Found], is_all_asked: bool) -> None:
-        """Puts what is decided of the ranges, and the verdicts."""
+    def _decide(self, outcomes: Sequence[MachineOutcome], is_all_asked: bool) -> None:
+        """Finds the results of checks, and the verdicts."""
         self._progress.step("deciding ranges of versions")
-        cases = Cases(self._known, self._index(), is_all_asked)
-        items = list(dict.fromkeys(it.name for one in found for it in one.called))
-        decider = self._decider(items)
-        negated = list(self._known.negated.values())
-        negations = Negations(self._program, negated, self._leads, items, decider, self._lists, self._has_hardware)
-        asked = [self._asked(one, decider, negations, cases) for one in found]
+        cases = Cases(self._feed_data, self._index(), is_all_asked)
+        items = list(dict.fromkeys(it.name for one in outcomes for it in one.item_names))
+        range_index = self._decider(items)
+        negated = list(self._feed_data.negated.values())
+        negations = Negations(self._program, negated, self._leads, items, range_index, self._lists, self._has_hardware)
+        asked = [self._put_cases(one, range_index, negations, cases) for one in outcomes]
         truths = self._ask(cases.in_order())
-        for one, of_machine in zip(found, asked):
+        for one, of_machine in zip(outcomes, asked):
             self._put(one, of_machine, truths)
-        Reasons(self._program, self._known, self._leads).put(found)
-        if self.deciding is not None:
-            reasons = self.deciding.of_machines([AskedOf(one.asked, one.decided, one.places_of("TRUE")) for one in found])
-            for done, (one, of_one) in enumerate(zip(found, reasons, strict=True)):
-                self._progress.count("asking which items decide", done, len(found))
-                one.deciding = of_one
-        for one in found:
-            one.note_backported(self._known.statements, lambda fact: self._leads.found[fact].name)
+        Reasons(self._program, self._feed_data, self._leads).put(outcomes)
+        if self.explainer is not None:
+            reasons = self.explainer.explain_machines(
+                [ExplanationRequest(one.asked, one.check_results, one.places_of("TRUE")) for one in outcomes]
+            )
+            for done, (one, of_one) in enumerate(zip(outcomes, reasons, strict=True)):
+                self._progress.count("asking which items decide", done, len(outcomes))
+                one.explanations = of_one
+        for one in outcomes:
+            one.note_backports(self._feed_data.statements, lambda fact: self._leads.found[fact].name)
             # (what is decided is in the verdicts, and would be much beside them)
-            one.decided.clear()
+            one.check_results.clear()
 
-    def _asked(self, one: Found, decider: Decider, negations: Negations, cases: Cases) -> _Asked:
-        """What is asked of a machine."""
-        sure = [it for it in one.called if it.sure is not Sure.LESS]
-        less = [it for it in one.called if it.sure is Sure.LESS]
-        decided = decide(sure, decider, self._lists)
-        both = decided.joined(decide(less, decider, self._lists)) if less else decided
-        negations.put(one.components, sure, decided)
-        asked = _Asked(cases.put(sure, decided) if one.has_items() else {})
+    def _put_cases(
+        self, one: MachineOutcome, range_index: RangeIndex, negations: Negations, cases: Cases
+    ) -> _MachineCases:
+        """Adds the cases of a machine."""
+        sure = [it for it in one.item_names if it.certainty is not Certainty.LESS]
+        less = [it for it in one.item_names if it.certainty is Certainty.LESS]
+        check_results = decide_checks(sure, range_index, self._lists)
+        both = check_results.join(decide_checks(less, range_index, self._lists)) if less else check_results
+        negations.put(one.components, sure, check_results)
+        asked = _MachineCases(cases.put(sure, check_results) if one.has_items() else {})
         if less:
-            negations.put(one.components, one.called, both)
-            asked.beside.update(cases.put(one.called, both))
-        one.asked, one.decided = (sure, decided) if self._is_strict else (one.called, both)
+            negations.put(one.components, one.item_names, both)
+            asked.beside.update(cases.put(one.item_names, both))
+        one.asked, one.check_results = (sure, check_results) if self._is_strict else (one.item_names, both)
         return asked
 
     def _ask(self, cases: Sequence[tuple[Items, Results, int, int]]) -> dict[int, str]:
-        """The truths of the cases, by their numbers. Those of the statements without items are put into `bare`."""
+        """The truths of the cases, by their numbers. The truths of the statements without items are put into `bare`."""
         self._progress.step("asking for verdicts")
         truths: dict[int, str] = {}
         self.bare = []
-        for portion in portions_of(self._known):
+        for portion in portions_of(self._feed_data):
             of_portion = [case for case in cases if case[2] in portion]
-            asked = lines_of(self._known, portion, of_portion)
+            asked = lines_of(self._feed_data, portion, of_portion)
             # (the run may be asked for more after that)
-            drops = dropping(self._known.statements[place].id for place in portion)
+            drops = drop_lines(self._feed_data.statements[place].id for place in portion)
             answers = verdicts_of(self._program.lines(["resolve"], itertools.chain(asked, drops)))
             self.bare += [_next(answers) for _ in portion]
             for _, _, _, number in of_portion:
@@ -255,14 +292,14 @@ class Scan:
 
     def _index(self) -> Index:
         """The statements by what they ask for."""
-        return Index(self._known, self._leads)
+        return Index(self._feed_data, self._leads)
 
-    def _decider(self, ends: Iterable[str]) -> Decider:
+    def _decider(self, ends: Iterable[str]) -> RangeIndex:
         """How these names relate to the ranges."""
-        return Decider(self._program, self._known.ranges.values(), self._leads, ends, self._letters)
+        return RangeIndex(self._program, self._feed_data.ranges.values(), self._leads, ends, self._letters)
 
-    def _put(self, one: Found, asked: _Asked, truths: Mapping[int, str]) -> None:
-        """Puts verdicts of a machine. One that is another where items are what they say too little of is UNKNOWN."""
+    def _put(self, one: MachineOutcome, asked: _MachineCases, truths: Mapping[int, str]) -> None:
+        """Puts verdicts of a machine. A verdict is UNKNOWN if it differs because an item lacks an attribute."""
         one.truths.update((place, truths[number]) for place, number in asked.plain.items())
         for place, number in asked.beside.items():
             truth = one.truths.setdefault(place, self.bare[place])
@@ -272,22 +309,23 @@ class Scan:
 
 
 @dataclass(frozen=True)
-class _Asked:
-    """What is asked of a machine: the cases by the places of statements; and beside them those with what its items say too little of."""
+class _MachineCases:
+    """What is asked of a machine: the cases by the places of statements; and beside them those with what its items say
+    too little of."""
 
     plain: dict[int, int]
     beside: dict[int, int] = field(default_factory=dict)
 
 
-class _Again(Scan):
-    """Decides what may have changed since an earlier scan, over names of items that are known."""
+class _PartialScan(Scan):
+    """Decides the verdicts that may have changed since an earlier scan; the names of items are known."""
 
-    def prepare(self, prepared: Prepared) -> None:
+    def prepare(self, prepared: ScanPlan) -> None:
         self._prepared = prepared
 
-    def _lead(self, items: Collection[str]) -> Calling:
+    def _lead(self, items: Collection[str]) -> NameFinder:
         self._leads, self.successors = self._prepared.leads, self._prepared.successors
-        return self._prepared.calling
+        return self._prepared.name_finder
 
 
 def _next(answers: Iterator[str]) -> str:
@@ -297,54 +335,78 @@ def _next(answers: Iterator[str]) -> str:
     return answer
 
 
-def read_entries(read: Words, program: Program, said: Said, reading: whole.Reading) -> list[str]:
-    """The records of the dictionary. Fatal where one can't be read, or there is no entry."""
-    candidates = _records(read.many("--records"))
-    if read.has("--dictionary"):
-        candidates += dictionary.candidates_of(read.many("--dictionary"), said, strict=True, reading=reading)
-    entries = program.accepted_entries(candidates, said)
+def read_entries(
+    arguments: Arguments, program: Program, messages: Messages, reading: completeness.ReadingPolicy
+) -> list[str]:
+    """The records of the dictionary. Fatal if one can't be read, or if there is no entry."""
+    candidates = _records(arguments.many("--records"))
+    if arguments.has("--dictionary"):
+        candidates += dictionary.candidates_of(arguments.many("--dictionary"), messages, strict=True, reading=reading)
+    entries = program.accept_entries(candidates, messages)
     if not entries:
         raise Fatal("no entry is in the dictionary")
     return entries
 
 
-def read_known(
-    read: Words, entries: list[str], asked: Sequence[Machine], program: Program, said: Said, progress: Progress, reading: whole.Reading
-) -> tuple[Known, States]:
-    """What the feeds tell, and which advisories have no verdict. Fatal where one can't be read, or there is no statement."""
+def read_feed_data(
+    arguments: Arguments,
+    entries: list[str],
+    asked: Sequence[Machine],
+    program: Program,
+    messages: Messages,
+    progress: Progress,
+    reading: completeness.ReadingPolicy,
+) -> tuple[FeedData, States]:
+    """The contents of the feeds, and which advisories have no verdict. Fatal if a feed can't be read, or if there is no
+    statement."""
     progress.step("reading advisories")
     states = States()
-    feed = list(whole.pages(read.many("--advisories"), said, advisories.KINDS, strict=True, reading=reading))
+    feed = list(
+        completeness.pages(arguments.many("--advisories"), messages, advisories.KINDS, strict=True, reading=reading)
+    )
     cut, order = products.Cut([], {}), list[str]()
     # (if all is to be listed, all is asked)
-    if _count(feed) > portions.MOST.statements and not read.has("--all"):
-        feed = [page for page in states.sort(latest.advisories(feed, said)) if page.records]
+    if _count(feed) > portions.MOST.statements and not arguments.has("--all"):
+        feed = [page for page in states.sort(latest_records.advisories(feed, messages)) if page.records]
         if _count(feed) > portions.MOST.statements:
             order = advisories.ids_in_order(feed)
             # (what isn't right in the match feed is said when it is read for the ranges)
-            matched = read.many("--matches")
-            listed = whole.pages(matched, Mute(), matches.KINDS, strict=True, reading=reading.again()) if matched else ()
-            cut = of_products(feed, listed, asked, entries, program, said)
+            matched = arguments.many("--matches")
+            listed = (
+                completeness.pages(matched, NoMessages(), matches.KINDS, strict=True, reading=reading.again())
+                if matched
+                else ()
+            )
+            cut = of_products(feed, listed, asked, entries, program, messages)
             feed = cut.pages
-    found = advisories.convert(feed, program, said, is_decided=True, states=states)
-    found.tell_empty_pages(said)
-    records = program.accepted_statements(found.candidates, said)
+    found = advisories.convert(feed, program, messages, is_decided=True, states=states)
+    found.report_empty_pages(messages)
+    records = program.accept_statements(found.candidates, messages)
     if not records and not cut.elsewhere:
         none = f"; not analysed: {len(states.unanalysed):,}" if states.unanalysed else ""
-        raise Fatal(f"no advisory that can have a verdict is in {', '.join(map(name_of, read.many('--advisories')))}{none}")
-    return Known(entries, records, found.ranges, found.details, found.stand_ins, cut.elsewhere, order), states
+        raise Fatal(
+            f"no advisory that can have a verdict is in {', '.join(map(name_of, arguments.many('--advisories')))}{none}"
+        )
+    return FeedData(entries, records, found.ranges, found.details, found.stand_ins, cut.elsewhere, order), states
 
 
 def of_products(
-    feed: Sequence[Page], listed: Iterable[Page], asked: Iterable[Machine], entries: Sequence[str], program: Program, said: Said
+    feed: Sequence[Page],
+    listed: Iterable[Page],
+    asked: Iterable[Machine],
+    entries: Sequence[str],
+    program: Program,
+    messages: Messages,
 ) -> products.Cut:
-    """Of more advisories than cpe takes at once those that may concern a product of the machines; the others are FALSE on each. `listed`
-    are the pages of the match feed."""
+    """The advisories that may concern a product of the machines, if there are more than cpe takes at once; the others
+    are FALSE on each machine. `listed` are the pages of the match feed."""
     items = dict.fromkeys(name for machine in asked for name in machine.asked_names())
     leads = leads_of(program, entries, items, unlisted.deprecated_names(entries))
     wanted = products.products_of(leads, items, entries)
-    before, found = _count(feed), products.Cut.of(feed, wanted, matches.listing(listed, wanted))
-    said.remark(f"{found.count()} of {before} advisories may concern a product of these machines; the others are FALSE there")
+    before, found = _count(feed), products.Cut.of(feed, wanted, matches.find_listing_matches(listed, wanted))
+    messages.remark(
+        f"{found.count()} of {before} advisories may concern a product of these machines; the others are FALSE there"
+    )
     return found
 
 
@@ -365,179 +427,231 @@ def _records(paths: Sequence[str]) -> list[Candidate]:
     return candidates
 
 
-def read_asked(read: Words, said: Said) -> list[Machine]:
-    """The machines, with the operating system that is given to those whose lists name none."""
-    path, platform = read.one("--machines"), read.one("--platform")
-    machines = read_lists(read.many("--lists"), said) if path is None else read_machines(path, said)
+def read_scan_machines(arguments: Arguments, messages: Messages) -> list[Machine]:
+    """The machines; those whose lists name no operating system get that of --platform."""
+    path, platform = arguments.one("--machines"), arguments.one("--platform")
+    machines = read_lists(arguments.many("--lists"), messages) if path is None else read_machines(path, messages)
     if platform is not None:
         platforms.give(machines, platform)
     return machines
 
 
 def run(words: Sequence[str]) -> int:
-    read = read_words(words, OPTIONS, USAGE)
+    arguments = read_arguments(words, OPTIONS, USAGE)
     one_of = [("--dictionary", "--records", "--store"), ("--advisories", "--store"), ("--machines", "--lists")]
-    form = Form.of(read)
-    is_odd = read.has("--machines") and read.has("--lists") or read.has("--why") and form.is_table()
-    is_odd = is_odd or read.has("--fresh") and not read.has("--store")
-    is_odd = is_odd or read.has("--store") and any(map(read.has, ("--dictionary", "--records", "--advisories", "--matches")))
-    if read.files or is_odd or not all(any(map(read.has, options)) for options in one_of):
+    form = Form.of(arguments)
+    is_odd = arguments.has("--machines") and arguments.has("--lists") or arguments.has("--why") and form.is_table()
+    is_odd = is_odd or arguments.has("--fresh") and not arguments.has("--store")
+    is_odd = (
+        is_odd
+        or arguments.has("--store")
+        and any(map(arguments.has, ("--dictionary", "--records", "--advisories", "--matches")))
+    )
+    if arguments.files or is_odd or not all(any(map(arguments.has, options)) for options in one_of):
         raise Fatal(f"usage: {USAGE}")
-    with Staying() as program, Progress() as progress:
-        said = Noting(before=progress.clear, most_alike=MOST_ALIKE)
-        beside = Threats.of(read, said)
-        gates = Gates.of(read, beside)
-        result = _result(read, program, said, progress, beside)
-        lines = _lines(form, result, said)
-        does_fit = gates.fit(result.machines, result.about, said)
-        said.tell_others()
+    with PersistentProgram() as program, Progress() as progress:
+        messages = RecordedMessages(before=progress.clear, most_alike=MOST_ALIKE)
+        beside = Threats.of(arguments, messages)
+        gates = GateCheck.of(arguments, beside)
+        result = _result(arguments, program, messages, progress, beside)
+        lines = _lines(form, result, messages)
+        does_fit = gates.fit(result.machines, result.about, messages)
+        messages.report_others()
     output = Output()
     output.lines(lines)
     output.end()
     result.keep()
-    return gating.FITS if does_fit else said.status()
+    return gate_check.FITS if does_fit else messages.status()
 
 
 @dataclass(frozen=True)
 class _Result:
-    """What comes of the machines, and what is told beside that."""
+    """The outcomes of the machines, with everything that is written beside them."""
 
-    known: Known
+    feed_data: FeedData
     states: States
-    reading: whole.Reading
-    found: list[Found]
+    reading: completeness.ReadingPolicy
+    outcomes: list[MachineOutcome]
     machines: list[verdicts.Machine]
-    about: affected.About
-    unnamed: Unnamed
+    about: affected.AdvisoryContext
+    unnamed: UnnamedPackages
     keep: Callable[[], None]
 
     def asked(self) -> Collection[str]:
         """The ids of the advisories that have verdicts."""
-        return self.known.advisories()
+        return self.feed_data.advisories()
 
 
-def _result(read: Words, program: Program, said: Noting, progress: Progress, beside: Threats) -> _Result:
+def _result(
+    arguments: Arguments, program: Program, messages: RecordedMessages, progress: Progress, beside: Threats
+) -> _Result:
     progress.step("reading what the machines have")
-    accepted = suppressed.read_suppressed(read.many("--suppress"), said)
-    settled = read_settled(read.many("--settled"), said)
-    letters = read_letters(read.one("--letters") or LETTERS)
-    asked = read_asked(read, said)
-    reading = whole.Reading.of(read)
-    tables = read_names(read.many("--names"), asked)
-    given = _Given(read, program, said, progress, reading, letters, asked, {*settled.ids(), *accepted.ids()})
-    taken = _of_store(given, tables) if read.has("--store") else _of_feeds(given, tables)
-    known, scan = taken.known, taken.scan
-    found = scan.machines(asked)
-    hint = hints.unlisted(read)
-    scan.tell_items(found, said, hint)
-    taken.unnamed.tell(said, hint)
-    platforms.remark_silent([one.machine for one in found if one.has_items()], known, said)
-    machines = machines_with_verdicts(known, scan.bare, found, taken.rows)
-    hanging = Hanging(known, found, taken.rows)
-    keep = taken.keep(found, machines, hanging, said)
-    settled.settle(machines, said)
-    if read.has("--all"):
+    accepted = suppressions.read_suppressions(arguments.many("--suppress"), messages)
+    settlements = read_settlements(arguments.many("--settled"), messages)
+    letters = read_letters(arguments.one("--letters") or LETTERS_FILE)
+    asked = read_scan_machines(arguments, messages)
+    reading = completeness.ReadingPolicy.of(arguments)
+    tables = read_names(arguments.many("--names"), asked)
+    given = _ScanInput(
+        arguments, program, messages, progress, reading, letters, asked, {*settlements.ids(), *accepted.ids()}
+    )
+    taken = _of_store(given, tables) if arguments.has("--store") else _of_feeds(given, tables)
+    feed_data, scan = taken.feed_data, taken.scan
+    outcomes = scan.machines(asked)
+    hint = hints.unlisted_command(arguments)
+    scan.report_items(outcomes, messages, hint)
+    taken.unnamed.report(messages, hint)
+    platforms.remark_silent([one.machine for one in outcomes if one.has_items()], feed_data, messages)
+    machines = machines_with_verdicts(feed_data, scan.bare, outcomes, taken.rows)
+    verdict_reasons = OutcomeReasons(feed_data, outcomes, taken.rows)
+    keep = taken.keep(outcomes, machines, verdict_reasons, messages)
+    settlements.settle(machines, messages)
+    if arguments.has("--all"):
         for machine in machines:
             machine.show_all()
-    about = affected.About(known.details, accepted, hanging, reading.doubts(), beside)
-    return _Result(known, taken.states, reading, found, machines, about, taken.unnamed, keep)
+    about = affected.AdvisoryContext(feed_data.details, accepted, verdict_reasons, reading.doubts(), beside)
+    return _Result(feed_data, taken.states, reading, outcomes, machines, about, taken.unnamed, keep)
 
 
 @dataclass(frozen=True)
-class _Given:
-    """What is given to a scan, and the ids of which something is settled or accepted."""
+class _ScanInput:
+    """The input of a scan, and the ids of settled or accepted advisories."""
 
-    read: Words
+    arguments: Arguments
     program: Program
-    said: Noting
+    messages: RecordedMessages
     progress: Progress
-    reading: whole.Reading
+    reading: completeness.ReadingPolicy
     letters: Letters
     asked: Sequence[Machine]
     ids: Collection[str]
 
-    def scan(self, known: Known, lists: Lists, of: type[Scan] = Scan) -> Scan:
-        read = self.read
-        return of(self.program, known, lists, self.letters, self.progress, read.has("--why"), read.has("--strict"), has_hardware(read))
+    def scan(self, feed_data: FeedData, lists: MatchLists, of: type[Scan] = Scan) -> Scan:
+        arguments = self.arguments
+        return of(
+            self.program,
+            feed_data,
+            lists,
+            self.letters,
+            self.progress,
+            arguments.has("--why"),
+            arguments.has("--strict"),
+            has_hardware(arguments),
+        )
 
 
 @dataclass(frozen=True)
-class _Ready:
-    """What is known for a scan; and from a store the verdicts of an earlier one, and what is kept of this one."""
+class _ScanSetup:
+    """The data of a scan. From a store also the verdicts of an earlier scan, and the recorder of this one."""
 
-    known: Known
+    feed_data: FeedData
     states: States
-    unnamed: Unnamed
+    unnamed: UnnamedPackages
     scan: Scan
-    rows: Taken = field(default_factory=dict)
-    keeping: Keeping | None = None
-    store: StoreFound | None = None
+    rows: EarlierRows = field(default_factory=dict)
+    keeping: ScanRecorder | None = None
+    store: StoreExtract | None = None
     doubts: Sequence[str] = ()
 
-    def keep(self, found: Sequence[Found], machines: Sequence[verdicts.Machine], hanging: Hanging, said: Noting) -> Callable[[], None]:
+    def keep(
+        self,
+        outcomes: Sequence[MachineOutcome],
+        machines: Sequence[verdicts.Machine],
+        verdict_reasons: OutcomeReasons,
+        messages: RecordedMessages,
+    ) -> Callable[[], None]:
         """What keeps the verdicts, before any is settled; it is called when the result is written."""
         keeping, store, scan = self.keeping, self.store, self.scan
-        if keeping is None or store is None or scan.calling is None:
+        if keeping is None or store is None or scan.name_finder is None:
             return lambda: None
-        decided = Decided(self.known, scan.leads, scan.calling, scan.successors, found, hanging, store.placed, store.is_whole)
+        scan_state = ScanState(
+            self.feed_data,
+            scan.leads,
+            scan.name_finder,
+            scan.successors,
+            outcomes,
+            verdict_reasons,
+            store.placed,
+            store.is_whole,
+        )
         states = {id: f"not analysed: {state}" for id, state in self.states.unanalysed.items()}
         states |= dict.fromkeys(self.states.rejected, "rejected")
-        reasons = {id: f"left out: {reason}" for id, reason, _ in said.noted}
+        reasons = {id: f"left out: {reason}" for id, reason, _ in messages.noted}
         after = verdicts.Verdicts(list(machines), 0, True, reasons, states, list(self.doubts), "it isn't in the feeds")
-        fleet = keeping.fleet(decided, machines, after)
-        return lambda: keeping.put(fleet, said)
+        fleet = keeping.fleet(scan_state, machines, after)
+        return lambda: keeping.put(fleet, messages)
 
 
-def _of_feeds(given: _Given, tables: Tables) -> _Ready:
-    read, program, said, progress = given.read, given.program, given.said, given.progress
+def _of_feeds(given: _ScanInput, tables: Tables) -> _ScanSetup:
+    arguments, program, messages, progress = given.arguments, given.program, given.messages, given.progress
     progress.step("reading the dictionary")
-    entries = read_entries(read, program, said, given.reading)
+    entries = read_entries(arguments, program, messages, given.reading)
     unnamed = name_machines(given.asked, tables, entries)
-    known, states = read_known(read, entries, given.asked, program, said, progress, given.reading)
+    feed_data, states = read_feed_data(arguments, entries, given.asked, program, messages, progress, given.reading)
     progress.step("reading the match feed")
-    matched = read.many("--matches")
-    feed = whole.pages(matched, said, matches.KINDS, strict=True, reading=given.reading) if matched else []
-    lists = Lists(program, matches.listed(feed, known.ranges.keys(), said))
-    return _Ready(known, states, unnamed, given.scan(known, lists))
+    matched = arguments.many("--matches")
+    feed = completeness.pages(matched, messages, matches.KINDS, strict=True, reading=given.reading) if matched else []
+    lists = MatchLists(program, matches.read_match_lists(feed, feed_data.ranges.keys(), messages))
+    return _ScanSetup(feed_data, states, unnamed, given.scan(feed_data, lists))
 
 
-def _of_store(given: _Given, tables: Tables) -> _Ready:
-    read, program, asked = given.read, given.program, given.asked
-    folder, is_all = str(read.only("--store")), read.has("--all")
+def _of_store(given: _ScanInput, tables: Tables) -> _ScanSetup:
+    arguments, program, asked = given.arguments, given.program, given.asked
+    folder, is_all = str(arguments.only("--store")), arguments.has("--all")
     given.progress.step("reading the store")
-    with Stored(folder, program, given.said, given.reading).opened() as store:
-        unnamed = store.named(asked, tables)
-        keeping = None if is_all else Keeping(folder, _rests(given, store), [machine.name for machine in asked])
-        if keeping is not None and keeping.earlier is not None and not read.has("--fresh"):
-            prepared = Difference(store, keeping.earlier, asked, program, given.letters).prepared(given.ids)
+    with StoreReader(folder, program, given.messages, given.reading).open() as store:
+        unnamed = store.name_packages(asked, tables)
+        keeping = None if is_all else ScanRecorder(folder, _basis_of(given, store), [machine.name for machine in asked])
+        if keeping is not None and keeping.earlier is not None and not arguments.has("--fresh"):
+            prepared = Difference(store, keeping.earlier, asked, program, given.letters).plan(given.ids)
             if prepared is not None:
-                found = prepared.found
-                scan = given.scan(found.known, prepared.lists, _Again)
+                extract = prepared.extract
+                scan = given.scan(extract.feed_data, prepared.lists, _PartialScan)
                 scan.prepare(prepared)
-                return _Ready(found.known, found.states, unnamed, scan, prepared.rows, keeping, found, given.reading.doubts())
-        found = store.take(asked, given.ids, is_all)
-        lists = Lists(program, store.listed(found.known.ranges.keys()))
-    return _Ready(found.known, found.states, unnamed, given.scan(found.known, lists), {}, keeping, found, given.reading.doubts())
+                return _ScanSetup(
+                    extract.feed_data,
+                    extract.states,
+                    unnamed,
+                    scan,
+                    prepared.rows,
+                    keeping,
+                    extract,
+                    given.reading.doubts(),
+                )
+        extract = store.take(asked, given.ids, is_all)
+        lists = MatchLists(program, store.match_lists(extract.feed_data.ranges.keys()))
+    return _ScanSetup(
+        extract.feed_data,
+        extract.states,
+        unnamed,
+        given.scan(extract.feed_data, lists),
+        {},
+        keeping,
+        extract,
+        given.reading.doubts(),
+    )
 
 
-def _rests(given: _Given, store: Stored) -> Rests:
-    """What all verdicts of this scan rest on."""
-    options = [given.read.has(option) for option in ("--why", "--strict")] + [given.read.one("--hardware")]
-    return Rests(checksum_of(given.program, given.letters, options), *store.pages())
+def _basis_of(given: _ScanInput, store: StoreReader) -> ScanBasis:
+    """The basis of all verdicts of this scan."""
+    options = [given.arguments.has(option) for option in ("--why", "--strict")] + [given.arguments.one("--hardware")]
+    return ScanBasis(checksum_of(given.program, given.letters, options), *store.pages())
 
 
-def _lines(form: Form, result: _Result, said: Noting) -> list[str]:
-    """The lines of the result, when all that it tells is said."""
+def _lines(form: Form, result: _Result, messages: RecordedMessages) -> list[str]:
+    """The lines of the result, after all its messages were written."""
     states, reading, about = result.states, result.reading, result.about
-    left_out = (id for id, _, _ in said.noted)
-    about.threats.tell(set(result.asked()), {*states.unanalysed, *states.rejected, *left_out}, said)
+    left_out = (id for id, _, _ in messages.noted)
+    about.threats.report(set(result.asked()), {*states.unanalysed, *states.rejected, *left_out}, messages)
     if form.is_table():
         lines = list(affected.table_of(verdicts.Verdicts(result.machines), about))
         lines += [*reading.lines(), *(states.lines() if form.is_all else ())]
     else:
-        value: dict[str, Json] = reading.mark(json_of(result.known, result.found, result.machines, about, result.unnamed, about.hanging))
+        value: dict[str, Json] = reading.mark(
+            json_of(result.feed_data, result.outcomes, result.machines, about, result.unnamed, about.verdict_reasons)
+        )
         value |= states.json(result.asked()) | about.threats.about()
-        value["leftOut"] = said.json()
+        value["leftOut"] = messages.json()
         lines = form.lines(value)
-    about.suppressed.tell_unused(said)
+    about.suppressions.report_unused(messages)
     return lines

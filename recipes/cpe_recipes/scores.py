@@ -7,7 +7,7 @@ HIGHEST = 10
 
 
 def score_of(value: Any) -> int | float | None:
-    """The score, or None where this is no number from 0 to 10."""
+    """The score, or None if this is no number from 0 to 10."""
     if isinstance(value, bool) or not isinstance(value, (int, float)):
         return None
     # (what is no number, as Python has it, is neither)

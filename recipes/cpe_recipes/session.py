@@ -1,6 +1,6 @@
-"""A run of `cpe resolve` that has read the records of a fleet, and is asked machine after machine.
+"""A run of `cpe resolve` that has read the records of a fleet, and answers for one machine after the other.
 
-It stands alone, without the other modules, since workers elsewhere are sent this file.
+It uses no other module, because workers on other machines get only this file.
 """
 from __future__ import annotations
 
@@ -13,8 +13,9 @@ from dataclasses import dataclass, field
 
 
 @dataclass(frozen=True)
-class Known:
-    """What every worker of a fleet knows: the records, how many lines cpe answers to them, and the ids of the statements."""
+class FleetData:
+    """What every worker of a fleet knows: the records, how many lines cpe answers to them, and the ids of the
+    statements."""
 
     lines: bytes
     answers: int
@@ -22,9 +23,9 @@ class Known:
 
 
 @dataclass(frozen=True)
-class Asked:
-    """A machine, the names of its items as its list has them, and what was decided of the ranges for it: keys of checks, with TRUE or
-    FALSE.
+class MachineQuestion:
+    """A machine, the names of its items as its list has them, and what was decided of the ranges for it: keys of
+    checks, with TRUE or FALSE.
 
     `names` are the other names that these items have, or perhaps have.
     """
@@ -36,8 +37,8 @@ class Asked:
 
 
 @dataclass(frozen=True)
-class Told:
-    """What came of a machine: what is left out of it, with the reasons, and the lines of its verdicts, or that it has no
+class MachineAnswer:
+    """The answer for a machine: what was left out, with the reasons, and the lines of its verdicts, or that it has no
     items."""
 
     machine: str
@@ -47,20 +48,20 @@ class Told:
 
 
 class Session:
-    """The run. It ends where its process dies; then OSError or EOFError comes."""
+    """The run. It ends with its process; then OSError or EOFError is raised."""
 
-    def __init__(self, program: str, known: Known) -> None:
-        self._program, self._known = program, known
-        self._ask = [_record("verdict", id=id) for id in known.statements]
+    def __init__(self, program: str, fleet_data: FleetData) -> None:
+        self._program, self._fleet_data = program, fleet_data
+        self._ask = [_record("verdict", id=id) for id in fleet_data.statements]
         self._run = subprocess.Popen([program, "resolve"], stdin=subprocess.PIPE, stdout=subprocess.PIPE)
         assert self._run.stdin is not None and self._run.stdout is not None
         self._input, self._output = self._run.stdin, self._run.stdout
         # (who writes to a pipe and doesn't read from the other one may wait for ever, so another thread writes)
         self._waiting: queue.SimpleQueue[bytes] = queue.SimpleQueue()
         threading.Thread(target=self._write, daemon=True).start()
-        self._last = known.lines.count(b"\n")
-        self._waiting.put(known.lines)
-        for _ in range(known.answers):
+        self._last = fleet_data.lines.count(b"\n")
+        self._waiting.put(fleet_data.lines)
+        for _ in range(fleet_data.answers):
             self._answer()
 
     def _write(self) -> None:
@@ -77,13 +78,18 @@ class Session:
             raise EOFError("cpe ended in the middle")
         return line[:-1].decode(errors="backslashreplace")
 
-    def ask(self, machine: Asked) -> Told:
+    def ask(self, machine: MachineQuestion) -> MachineAnswer:
         """The verdicts of a machine."""
         if not machine.items:
             return _without_items(machine.name, [])
         puts = [("item", {"name": item}) for item in (*machine.items, *machine.names)]
-        puts += [("check", {"system": "NVD", "href": "cpeMatch", "id": key, "result": result}) for key, result in machine.decided]
-        drops = [("drop-" + word, {key: text for key, text in members.items() if key != "result"}) for word, members in puts]
+        puts += [
+            ("check", {"system": "NVD", "href": "cpeMatch", "id": key, "result": result})
+            for key, result in machine.decided
+        ]
+        drops = [
+            ("drop-" + word, {key: text for key, text in members.items() if key != "result"}) for word, members in puts
+        ]
         first = self._last + 1
         lines = [_record(word, **members) for word, members in puts] + self._ask
         # (the last first, so that none closes up)
@@ -92,11 +98,11 @@ class Session:
         self._waiting.put("".join(lines).encode(errors="replace"))
         refused, verdicts = self._answers(first, len(puts), len(self._ask))
         named = [*machine.items, *machine.names, *(f"check {key}" for key, _ in machine.decided)]
-        # (a name that comes twice is one item)
+        # (equal names are one item)
         left_out = [(named[place], reason) for place, reason in refused.items() if reason != "exists"]
         if all(place in refused and refused[place] != "exists" for place in range(len(machine.items))):
             return _without_items(machine.name, left_out)
-        return Told(machine.name, left_out, [f"{machine.name} {verdict}" for verdict in verdicts])
+        return MachineAnswer(machine.name, left_out, [f"{machine.name} {verdict}" for verdict in verdicts])
 
     def _answers(self, first: int, puts: int, wanted: int) -> tuple[dict[int, str], list[str]]:
         refused: dict[int, str] = {}
@@ -125,5 +131,5 @@ def _record(word: str, **members: str) -> str:
     return json.dumps({"do": word, **members}, ensure_ascii=False, separators=(",", ":")) + "\n"
 
 
-def _without_items(name: str, left_out: list[tuple[str, str]]) -> Told:
-    return Told(name, left_out, [f"{name} no items"], has_items=False)
+def _without_items(name: str, left_out: list[tuple[str, str]]) -> MachineAnswer:
+    return MachineAnswer(name, left_out, [f"{name} no items"], has_items=False)

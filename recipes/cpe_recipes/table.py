@@ -3,19 +3,19 @@ from __future__ import annotations
 
 from collections.abc import Iterator, Sequence
 
-from .said import shown
+from .console import escape
 
 
 def table(header: Sequence[str], rows: Sequence[Sequence[str]], optional: Sequence[str] = ()) -> Iterator[str]:
     """The lines of a table. An optional column in which no row has anything is left out."""
-    printable = [[shown(cell) for cell in row] for row in rows]
+    printable = [[escape(cell) for cell in row] for row in rows]
     kept = [place for place, word in enumerate(header) if word not in optional or any(row[place] for row in printable)]
     widths = {place: max(len(row[place]) for row in [header, *printable]) for place in kept}
     for row in [header, *printable]:
         yield "  ".join(row[place].ljust(widths[place]) for place in kept).rstrip()
 
 
-def counted(number: int, word: str) -> str:
+def format_count(number: int, word: str) -> str:
     return f"{number} {word}" if number == 1 else f"{number} {word}s"
 
 

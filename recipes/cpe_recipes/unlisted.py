@@ -12,81 +12,99 @@ options are those of scan.py. The recipe writes
     no candidate MACHINE PACKAGE
 
 If a package only has candidates from the dictionary, put LINE into a table for --names to decide which product the
-package is (naming.py).
+package is (package_names.py).
 
-An item without an entry has no chain. So an advisory that uses another name of the product doesn't find the item. If
-entries of its product are deprecated and lead to other products, these products are written after `now called`. A
+An item without an entry has no chain, so an advisory with another name of the product doesn't find the item. If entries
+of the item's product are deprecated and lead to other products, these products are written after `now called`. A
 component with several names isn't listed if one of the names has an entry. An item under a removed name has no end, so
-an advisory finds it only by this name. What can't be an item is reported, and the status is 1.
+an advisory finds it only by this name. If a name can't be an item, it is reported, and the status is 1.
 """
 from __future__ import annotations
 
 import json
 from collections.abc import Collection, Iterable, Iterator, Mapping, Sequence
 
-from . import dictionary, names, whole
+from . import completeness, dictionary, names
+from .arguments import MANY, ONE, Arguments, read_arguments
 from .components import Machine
-from .decide import Lead, Leads, leads_of, read_entries
+from .console import Fatal, Messages, Output, escape
+from .leads import Lead, Leads, leads_of, read_entries
 from .machines import read_lists, read_machines
-from .naming import name_machines, read_names
+from .package_names import name_machines, read_names
 from .program import Program
-from .said import Fatal, Output, Said, shown
-from .words import MANY, ONE, Words, read_words
 
 USAGE = (
     "unlisted.sh RECORDS MACHINES [--names FILE], or unlisted.sh --store FOLDER | --dictionary FILE.. | --records FILE.. "
     "--machines FILE | --lists FILE.. [--names FILE] [--partial] [--large]"
 )
-OPTIONS = {"--store": ONE, "--dictionary": MANY, "--records": MANY, "--machines": ONE, "--lists": MANY, "--names": ONE, **whole.OPTIONS}
+OPTIONS = {
+    "--store": ONE,
+    "--dictionary": MANY,
+    "--records": MANY,
+    "--machines": ONE,
+    "--lists": MANY,
+    "--names": ONE,
+    **completeness.OPTIONS,
+}
 Product = tuple[str, str]
 
 
 def run(words: Sequence[str]) -> int:
-    read = read_words(words, OPTIONS, USAGE)
-    is_short = len(read.files) == 2 and not any(map(read.has, ("--store", "--dictionary", "--records", "--machines", "--lists")))
-    feeds = read.has("--dictionary") or read.has("--records")
-    is_long = not read.files and feeds != read.has("--store") and read.has("--machines") != read.has("--lists")
+    arguments = read_arguments(words, OPTIONS, USAGE)
+    is_short = len(arguments.files) == 2 and not any(
+        map(arguments.has, ("--store", "--dictionary", "--records", "--machines", "--lists"))
+    )
+    feeds = arguments.has("--dictionary") or arguments.has("--records")
+    is_long = (
+        not arguments.files
+        and feeds != arguments.has("--store")
+        and arguments.has("--machines") != arguments.has("--lists")
+    )
     if not is_short and not is_long:
         raise Fatal(f"usage: {USAGE}")
-    said, output, program = Said(), Output(), Program()
-    path = read.one("--machines") if is_long else read.files[1]
-    machines = read_lists(read.many("--lists"), said) if path is None else read_machines(path, said)
-    tables = read_names(read.many("--names"), machines)
-    if read.has("--store"):
+    messages, output, program = Messages(), Output(), Program()
+    path = arguments.one("--machines") if is_long else arguments.files[1]
+    machines = read_lists(arguments.many("--lists"), messages) if path is None else read_machines(path, messages)
+    tables = read_names(arguments.many("--names"), machines)
+    if arguments.has("--store"):
         # (what reads a store for a scan needs this module itself)
-        from .stored import Stored
+        from .store_reader import StoreReader
 
-        with Stored(str(read.only("--store")), program, said, whole.Reading.of(read)).opened() as store:
+        with StoreReader(
+            str(arguments.only("--store")), program, messages, completeness.ReadingPolicy.of(arguments)
+        ).open() as store:
             records, unnamed = store.dictionary(machines, tables)
     else:
-        records = _records(read, program, said) if is_long else read_entries(read.files[:1])
+        records = _records(arguments, program, messages) if is_long else read_entries(arguments.files[:1])
         unnamed = name_machines(machines, tables, records)
     items = dict.fromkeys(item for machine in machines for item in machine.asked_names())
     leads = leads_of(program, records, items, ())
-    say_items(machines, leads, said)
-    output.lines(list(unlisted(machines, leads, successors_of(program, records, leads.found.values()))))
+    report_items(machines, leads, messages)
+    output.lines(list(find_unlisted(machines, leads, successors_of(program, records, leads.found.values()))))
     output.lines(unnamed.lines())
-    output.end(shown)
-    return said.status()
+    output.end(escape)
+    return messages.status()
 
 
-def _records(read: Words, program: Program, said: Said) -> list[str]:
+def _records(arguments: Arguments, program: Program, messages: Messages) -> list[str]:
     """The records of the dictionary that is given in any form."""
-    records = read_entries(read.many("--records"))
-    if read.has("--dictionary"):
-        candidates = dictionary.candidates_of(read.many("--dictionary"), said, strict=True, reading=whole.Reading.of(read))
-        records += program.accepted_entries(candidates, said)
+    records = read_entries(arguments.many("--records"))
+    if arguments.has("--dictionary"):
+        candidates = dictionary.candidates_of(
+            arguments.many("--dictionary"), messages, strict=True, reading=completeness.ReadingPolicy.of(arguments)
+        )
+        records += program.accept_entries(candidates, messages)
     return records
 
 
-def say_items(machines: Iterable[Machine], leads: Leads, said: Said) -> None:
+def report_items(machines: Iterable[Machine], leads: Leads, messages: Messages) -> None:
     """What is no item is said, and which machines have none."""
     for machine in machines:
         for item in machine.asked_names():
             if item in leads.refused:
-                said.left_out(f"{machine.name} {item}", leads.refused[item])
+                messages.leave_out(f"{machine.name} {item}", leads.refused[item])
         if all(item in leads.refused for item in machine.own_names()):
-            said.left_out(machine.name, "no items")
+            messages.leave_out(machine.name, "no items")
 
 
 def deprecated_names(records: Iterable[str]) -> list[str]:
@@ -98,7 +116,11 @@ def deprecated_names(records: Iterable[str]) -> list[str]:
                 record = json.loads(line)
             except (ValueError, RecursionError):
                 continue
-            if isinstance(record, dict) and record.get("do") in ("deprecate", "amend") and isinstance(record.get("name"), str):
+            if (
+                isinstance(record, dict)
+                and record.get("do") in ("deprecate", "amend")
+                and isinstance(record.get("name"), str)
+            ):
                 found[record["name"]] = None
     return list(found)
 
@@ -133,24 +155,26 @@ def _may_be_of(name: str, products: Collection[Product]) -> bool:
 
 
 def supposed_names(lead: Lead, successors: Mapping[Product, Sequence[Product]]) -> list[str]:
-    """The names under which an item that no entry has may go on."""
+    """The names that an item without an entry may have under other products."""
     if lead.is_entry:
         return []
     found = []
     for product in successors.get(names.product_of(lead.name), ()):
         parts = names.components(lead.name)
         parts[names.VENDOR], parts[names.PRODUCT] = product
-        found.append(names.joined(parts))
+        found.append(names.join(parts))
     return found
 
 
-def goes_on(lead: Lead, successors: Mapping[Product, Sequence[Product]]) -> str:
-    """The vendors and products under which that of a name goes on, in words; empty where there are none."""
+def describe_successors(lead: Lead, successors: Mapping[Product, Sequence[Product]]) -> str:
+    """The vendors and products to which entries of a name's product lead, in words; empty if there are none."""
     found = successors.get(names.product_of(lead.name))
     return f" now called {' '.join(map(':'.join, found))}" if found else ""
 
 
-def unlisted(machines: Iterable[Machine], leads: Leads, successors: Mapping[Product, Sequence[Product]]) -> Iterator[str]:
+def find_unlisted(
+    machines: Iterable[Machine], leads: Leads, successors: Mapping[Product, Sequence[Product]]
+) -> Iterator[str]:
     for machine in machines:
         told: dict[str, None] = {}
         for one in machine.all():
@@ -161,5 +185,5 @@ def unlisted(machines: Iterable[Machine], leads: Leads, successors: Mapping[Prod
                 if lead.is_removed():
                     told[f"under a removed name {machine.name} {name}"] = None
                 elif not is_listed:
-                    told[f"not in the dictionary {machine.name} {name}{goes_on(lead, successors)}"] = None
+                    told[f"not in the dictionary {machine.name} {name}{describe_successors(lead, successors)}"] = None
         yield from told

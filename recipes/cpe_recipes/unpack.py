@@ -1,9 +1,9 @@
-"""The bytes of files as feeds come: as they stand, packed by gzip, or as members of an archive of tar, packed or not, or of zip.
+"""The bytes of feeds' files: plain, packed by gzip, or members of an archive of tar, packed or not, or of zip.
 
-Nothing is written to a disk: a member is read where it stands. While bytes are unpacked they are counted, and what unpacks to more than
-2 GiB is refused, and so is what unpacks to more than 200 times its size, once that is more than 16 MiB: below that no machine on which
-this runs is harmed, and a small file may well say the same again and again. All members of an archive together may be 200 times its
-size. `--large` lets both pass.
+Nothing is written to a disk: members are read within the archive. Unpacked bytes are counted. A page that unpacks to
+more than 2 GiB is refused. So is one that unpacks to more than 200 times its size and to more than 16 MiB: below 16 MiB
+it harms no machine, and a small file may well repeat itself. All members of an archive together may have 200 times its
+size. `--large` lifts these limits.
 """
 from __future__ import annotations
 
@@ -20,41 +20,51 @@ from dataclasses import dataclass, field
 from pathlib import Path
 from typing import IO
 
-from .said import quoted, why
+from .console import describe_fault, shorten
 
 _GZIP, _ZIPS = b"\x1f\x8b", (b"PK\x03\x04", b"PK\x05\x06")
 _OTHERS = {b"\xfd7zXZ\x00": "xz", b"BZh": "bzip2", b"\x28\xb5\x2f\xfd": "zstd", b"7z\xbc\xaf": "7-Zip"}
 _TAR, _TAR_AT, _BLOCK = b"ustar", 257, 512
 _CHUNK = 1 << 20
 _DEEPEST = 3
-# By their names members are pages or records; those of other names say what the archive is, or what came last to it.
+# Members with these endings are pages or records. All others describe the archive, or its last changes.
 _ENDINGS = (".json", ".jsonl", ".json.gz", ".zip", ".tar.gz")
 _NO_PAGES = ("delta.json", "deltaLog.json")
-_FAULTS = (OSError, EOFError, zlib.error, lzma.LZMAError, tarfile.TarError, zipfile.BadZipFile, NotImplementedError, RuntimeError, ValueError)
+_FAULTS = (
+    OSError,
+    EOFError,
+    zlib.error,
+    lzma.LZMAError,
+    tarfile.TarError,
+    zipfile.BadZipFile,
+    NotImplementedError,
+    RuntimeError,
+    ValueError,
+)
 
 
 class FeedFault(Exception):
-    """Why a feed can't be read, as words that stand after its name."""
+    """Why a feed can't be read, in words that follow its name in a message."""
 
 
 @dataclass(frozen=True)
 class Limits:
-    """To how many bytes a page may unpack, to how many times its size, and below how many that isn't looked at. `most_of_all` is to how
-    many bytes all members of an archive may."""
+    """To how many bytes a page may unpack, to how many times its size, and below how many that isn't looked at.
+    `most_of_all` is to how many bytes all members of an archive may."""
 
     most: int = 2 << 30
     times: int = 200
     free: int = 16 << 20
-    # (what stands behind the reason where a recipe has the option)
+    # (the end of the reason, if the recipe has the option)
     hint: str = ""
     most_of_all: int = sys.maxsize
 
     def of(self, packed: int) -> int:
-        """To how many bytes so many may unpack."""
+        """To how many bytes this many packed bytes may unpack."""
         return min(self.most, max(self.free, self.times * packed))
 
     def fault(self, packed: int) -> FeedFault:
-        """That something of so many bytes unpacks to more than it may."""
+        """The fault of this many packed bytes that unpack to too many."""
         if self.of(packed) == self.most:
             return FeedFault(f"it unpacks to more than {self.most:,} bytes{self.hint}")
         return self.ratio_fault(packed)
@@ -63,28 +73,29 @@ class Limits:
         return FeedFault(f"it unpacks to more than {self.times} times its size, {packed:,} bytes{self.hint}")
 
 
-LIMITS, TOLD_LIMITS = Limits(), Limits(hint=" (--large lets it)")
+LIMITS, HINTING_LIMITS = Limits(), Limits(hint=" (--large lets it)")
 LARGE = Limits(sys.maxsize, sys.maxsize, sys.maxsize)
 
 
 @dataclass
-class Unpacked:
-    """The parts of a file: those that may be pages, each with its name within the archive, or an empty one. `passed` are the names of
-    members that aren't read, since they aren't called as pages are."""
+class Unpacker:
+    """The parts of a file: those that may be pages, each with its name within the archive, or an empty one. `passed`
+    are the names of members that aren't read, since they aren't called as pages are."""
 
     limits: Limits = LIMITS
     passed: list[str] = field(default_factory=list)
 
     def parts(self, path: str | None) -> Iterator[tuple[str, bytes]]:
-        """The parts of a file, of standard input where there is no path. FeedFault where it, or a part of it, can't be read."""
+        """The parts of a file, of standard input if there is no path. FeedFault if it, or a part of it, can't be
+        read."""
         try:
-            with _opened(path) as file:
+            with _open(path) as file:
                 size = _size(file)
-                yield from self._of(file, size, _Counted(self.limits, size), 0)
+                yield from self._of(file, size, _ByteCounter(self.limits, size), 0)
         except OSError as fault:
-            raise FeedFault(f"can not be read: {why(fault)}") from fault
+            raise FeedFault(f"can not be read: {describe_fault(fault)}") from fault
 
-    def _of(self, file: IO[bytes], size: int, total: _Counted, depth: int) -> Iterator[tuple[str, bytes]]:
+    def _of(self, file: IO[bytes], size: int, total: _ByteCounter, depth: int) -> Iterator[tuple[str, bytes]]:
         front = _front(file)
         if depth > _DEEPEST:
             raise FeedFault("archives are nested in it too deep")
@@ -102,8 +113,8 @@ class Unpacked:
         else:
             yield "", _plain(file, front)
 
-    def _of_zip(self, file: IO[bytes], total: _Counted, depth: int) -> Iterator[tuple[str, bytes]]:
-        with _telling():
+    def _of_zip(self, file: IO[bytes], total: _ByteCounter, depth: int) -> Iterator[tuple[str, bytes]]:
+        with _translate_faults():
             archive = zipfile.ZipFile(file)
         found = 0
         with archive:
@@ -112,19 +123,19 @@ class Unpacked:
                     continue
                 found += 1
                 if member.compress_type not in (zipfile.ZIP_STORED, zipfile.ZIP_DEFLATED):
-                    raise FeedFault(f"{quoted(member.filename)} in it is packed in a way that isn't read")
-                with _telling(), archive.open(member) as inner:
+                    raise FeedFault(f"{shorten(member.filename)} in it is packed in a way that isn't read")
+                with _translate_faults(), archive.open(member) as inner:
                     data = _all(io.BufferedReader(_Stream(inner, total), _CHUNK), self.limits, member.compress_size)
                 yield from self._within(member.filename, data, total, depth)
         if not found:
             raise FeedFault("no member of the archive is JSON by its name")
 
-    def _of_tar(self, file: IO[bytes], total: _Counted, depth: int) -> Iterator[tuple[str, bytes]]:
-        counted, found = _Passed(file, self.limits), 0
-        with _telling():
+    def _of_tar(self, file: IO[bytes], total: _ByteCounter, depth: int) -> Iterator[tuple[str, bytes]]:
+        counted, found = _CountedTar(file, self.limits), 0
+        with _translate_faults():
             archive = tarfile.open(fileobj=counted, mode="r|")
         while True:
-            with _telling():
+            with _translate_faults():
                 member = archive.next()
                 if member is None:
                     break
@@ -139,13 +150,13 @@ class Unpacked:
             raise FeedFault("no member of the archive is JSON by its name")
 
     def _member(self, archive: tarfile.TarFile, member: tarfile.TarInfo) -> bytes | None:
-        """The bytes of a member of a tar, None where it isn't read."""
+        """The bytes of a member of a tar, None if it isn't read."""
         # (a long archive has many members, and each that was read is done with)
         archive.members = []
         inner = archive.extractfile(member) if member.isreg() and self._is_wanted(member.name) else None
         return None if inner is None else _all(inner, self.limits, member.size)
 
-    def _within(self, name: str, data: bytes, total: _Counted, depth: int) -> Iterator[tuple[str, bytes]]:
+    def _within(self, name: str, data: bytes, total: _ByteCounter, depth: int) -> Iterator[tuple[str, bytes]]:
         """The parts of a member, which may be packed itself."""
         for inner, part in self._of(io.BytesIO(data), len(data), total, depth + 1):
             yield f"{name}/{inner}" if inner else name, part
@@ -159,8 +170,8 @@ class Unpacked:
 
 
 @dataclass
-class _Counted:
-    """How many bytes a file of this size was unpacked to, with all that stands in it."""
+class _ByteCounter:
+    """How many bytes a file of this size was unpacked to, nested archives included."""
 
     limits: Limits
     size: int
@@ -177,23 +188,23 @@ class _Counted:
 class _Stream(io.RawIOBase):
     """Bytes as they are unpacked, counted."""
 
-    def __init__(self, inner: IO[bytes], total: _Counted) -> None:
+    def __init__(self, inner: IO[bytes], total: _ByteCounter) -> None:
         self._inner, self._total = inner, total
 
     def readable(self) -> bool:
         return True
 
     def readinto(self, into: memoryview) -> int:  # type: ignore[override]
-        with _telling():
+        with _translate_faults():
             data = self._inner.read(len(into))
         self._total.take(len(data))
         into[: len(data)] = data
         return len(data)
 
 
-class _Passed:
-    """Bytes of a tar that are read, and how many, which may be no more than a page for each member. (What stands before a member, such
-    as its name, is read whole.)"""
+class _CountedTar:
+    """The bytes of a tar, counted: at most a page for each member. (The header of a member, such as its name, is read
+    whole.)"""
 
     def __init__(self, inner: IO[bytes], limits: Limits) -> None:
         self._inner, self._limits, self._count, self._since, self._last = inner, limits, 0, 0, b""
@@ -202,8 +213,11 @@ class _Passed:
         self._since = 0
 
     def has_end(self, place: int) -> bool:
-        """Whether there is the block of zeros with which a tar ends. (What reads it takes any other end for one too.)"""
-        behind = self._last[len(self._last) - (self._count - place) :] if self._count - place <= len(self._last) else b""
+        """Whether there is the block of zeros with which a tar ends. (What reads it takes any other end for one
+        too.)"""
+        behind = (
+            self._last[len(self._last) - (self._count - place) :] if self._count - place <= len(self._last) else b""
+        )
         return behind[:_BLOCK] == bytes(_BLOCK)
 
     def read(self, size: int) -> bytes:
@@ -217,29 +231,30 @@ class _Passed:
 
 
 @contextlib.contextmanager
-def _telling() -> Iterator[None]:
-    """Tells faults of what unpacks as those of the feed."""
+def _translate_faults() -> Iterator[None]:
+    """Raises the faults of unpacking as faults of the feed."""
     try:
         yield
     except _FAULTS as fault:
-        raise FeedFault(f"can not be unpacked: {quoted(str(fault))}") from fault
+        raise FeedFault(f"can not be unpacked: {shorten(str(fault))}") from fault
 
 
 def read_feed(path: str | None, limits: Limits = LIMITS) -> bytes:
-    """The bytes of a file that is no archive, of standard input where there is no path; those that gzip packed are unpacked."""
+    """The bytes of a file that is no archive, of standard input if there is no path; those that gzip packed are
+    unpacked."""
     try:
-        with _opened(path) as file:
+        with _open(path) as file:
             if not _front(file).startswith(_GZIP):
                 return file.read()
             size = _size(file)
             with gzip.GzipFile(fileobj=file) as inner:
-                return _all(io.BufferedReader(_Stream(inner, _Counted(limits, size)), _CHUNK), limits, size)
+                return _all(io.BufferedReader(_Stream(inner, _ByteCounter(limits, size)), _CHUNK), limits, size)
     except OSError as fault:
-        raise FeedFault(f"can not be read: {why(fault)}") from fault
+        raise FeedFault(f"can not be read: {describe_fault(fault)}") from fault
 
 
-def _opened(path: str | None) -> IO[bytes]:
-    """A file whose size is known; what comes by a pipe is read first."""
+def _open(path: str | None) -> IO[bytes]:
+    """A file whose size is known; a pipe is read to its end first."""
     if path is None:
         return io.BytesIO(sys.stdin.buffer.read())
     file = Path(path).open("rb")
@@ -269,7 +284,7 @@ def _is_tar(front: bytes) -> bool:
 
 
 def _all(stream: IO[bytes], limits: Limits, packed: int) -> bytes:
-    """All bytes of a stream, which was packed to so many; FeedFault as soon as there are more than it may have."""
+    """All bytes of a stream that was packed to this size; FeedFault as soon as there are too many."""
     found, most = io.BytesIO(), limits.of(packed)
     while chunk := stream.read(_CHUNK):
         if found.write(chunk) and found.tell() > most:

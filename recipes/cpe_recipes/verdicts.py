@@ -1,8 +1,8 @@
-"""Verdicts that were written: the table that `cpe evaluate` ends with, the lines of a fleet, or what `scan.py --json` writes.
+"""Written verdicts: the table at the end of `cpe evaluate`, the lines of a fleet, or the output of `scan.py --json`.
 
-Each tells how much of it there is (`verdicts COUNT` above the table, `machines COUNT` after the lines, the end of the JSON), so
-what was cut short is known, and refused. Statements that are parts of one advisory, `CVE-..`, `CVE-..#2` and so on, are joined by the OR of their
-truths.
+Each has its own length (`verdicts COUNT` above the table, `machines COUNT` after the lines, the end of the JSON), so
+one that is cut off is noticed and refused. Statements that are parts of one advisory, `CVE-..`, `CVE-..#2` and so on,
+are joined by the OR of their truths.
 """
 from __future__ import annotations
 
@@ -10,8 +10,8 @@ from collections.abc import Sequence
 from dataclasses import dataclass, field
 
 from .advisories import base_id
+from .console import Fatal
 from .feeds import FeedFault, FormFault, Json, member, members, name_of, read_feed, text_at, values_of
-from .said import Fatal
 
 # In the order of OR: the first that occurs among its children.
 TRUTHS = ("TRUE", "ERROR", "UNKNOWN", "FALSE")
@@ -41,7 +41,8 @@ class Statements:
 
 
 def _order(truth: str, is_perhaps: bool) -> int:
-    """In the order of OR; an UNKNOWN that hangs on what an item says too little of comes after the others, and a FALSE before them."""
+    """The rank in the order of OR; an UNKNOWN that depends on an item that says too little is after the others, and
+    such a FALSE before them."""
     return 2 * _RANK[truth] + (is_perhaps if truth == "UNKNOWN" else not is_perhaps)
 
 
@@ -59,8 +60,9 @@ class Settlement:
 
 @dataclass
 class Machine:
-    """The verdicts of a machine, which has no name in a table of one inventory. Only those that aren't FALSE are shown, where not
-    all are asked for, and those that are settled. Those in `perhaps` are another where an item says less than is asked for."""
+    """The verdicts of a machine, which has no name in a table of one inventory. Only those that aren't FALSE are shown,
+    where not all are asked for, and those that are settled. Those in `perhaps` are another where an item says less than
+    is asked for."""
 
     name: str | None
     statements: Statements = field(default_factory=lambda: Statements([]))
@@ -70,7 +72,7 @@ class Machine:
     settled: dict[str, Settlement] = field(default_factory=dict)
 
     def settle(self, advisory: str, settlement: Settlement) -> None:
-        """Puts a verdict that is settled."""
+        """Replaces a verdict by the settled one."""
         self.shown[advisory] = settlement.truth
         self.settled[advisory] = settlement
         self.perhaps.discard(advisory)
@@ -101,14 +103,15 @@ class Machine:
             self.shown.setdefault(advisory, "FALSE")
 
     def truth(self, advisory: str) -> str | None:
-        """The verdict of an advisory, None where there is none."""
+        """The verdict of an advisory, None if there is none."""
         return self.shown.get(advisory) or ("FALSE" if self.statements.has(advisory) else None)
 
 
 @dataclass
 class Verdicts:
-    """The machines in their order, and how many lines of the records were refused. Of advisories without a verdict `states` tell that they
-    aren't analysed or are rejected, and `reasons` why others were left out; `doubts` are why what is FALSE could be another verdict."""
+    """The machines in their order, and how many lines of the records were refused. For an advisory without a verdict
+    `states` says that it isn't analysed or is rejected, and `reasons` why it was left out. `doubts` are why a FALSE
+    could be another verdict."""
 
     machines: list[Machine]
     refused: int = 0
@@ -128,7 +131,7 @@ class Verdicts:
 
 
 def read_verdicts(path: str | None) -> Verdicts:
-    """The verdicts at this path, of standard input where there is none. Fatal where they aren't whole."""
+    """The verdicts at this path, of standard input if there is none. Fatal if they aren't whole."""
     feed = name_of(path)
     try:
         data = read_feed(path)
@@ -142,7 +145,7 @@ def read_verdicts(path: str | None) -> Verdicts:
 
 
 def verdicts_of(data: bytes, feed: str) -> Verdicts:
-    """The verdicts of a table or of a fleet, of a feed of this name. Fatal where they aren't whole."""
+    """The verdicts of a table or of a fleet, of a feed of this name. Fatal if they aren't whole."""
     lines = data.decode(errors="backslashreplace").split("\n")
     try:
         if lines.pop():
@@ -174,7 +177,7 @@ def _machine(name: str | None, statements: Statements, rows: list[tuple[str, str
 
 
 def _scan(values: Sequence[Json]) -> Verdicts:
-    """The result of one scan. FormFault where it is none."""
+    """The result of one scan. FormFault if it is none."""
     count = member(values[0], "advisories")
     if len(values) != 1 or not isinstance(count, int):
         raise FormFault
@@ -199,7 +202,7 @@ def _scan(values: Sequence[Json]) -> Verdicts:
 
 
 def _with_reasons(verdicts: Verdicts, value: Json) -> Verdicts:
-    """Puts why advisories of a scan have no verdicts, and why what is FALSE could be another one."""
+    """Adds why advisories of a scan have no verdicts, and why a FALSE could be another verdict."""
     if not isinstance(value.get("asked"), list):
         verdicts.asked_of = "which advisories were asked for isn't said there"
     else:
@@ -224,7 +227,7 @@ def _texts(values: list[Json]) -> list[str]:
 
 
 def _table(lines: list[str]) -> Verdicts:
-    """The table at the end of what `cpe evaluate` writes; above it stand answers to questions, and what was refused."""
+    """The table at the end of the output of `cpe evaluate`; above it are answers to questions, and refused lines."""
     place = next((place for place, line in enumerate(lines) if _count(line, "verdicts") is not None), None)
     if place is None:
         raise ValueError("cpe evaluate, or a fleet, has not ended")
@@ -237,7 +240,7 @@ def _table(lines: list[str]) -> Verdicts:
 
 
 class _Fleet:
-    """Reads the lines of a fleet, or of several fleets whose outputs stand one after the other."""
+    """Reads the lines of a fleet, or of several fleets one after the other."""
 
     def __init__(self) -> None:
         self._machines: dict[str | None, Machine] = {}

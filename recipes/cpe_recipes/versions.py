@@ -1,11 +1,12 @@
-"""How a version stands to the bounds of a range, and whether it is another version, by all orders that it may have.
+"""Whether a version is in a range, and whether it equals another version, by all orders that it may have.
 
-Which order a version has is told by what it comes from, if its list says so: a Debian package has dpkg's, a module of npm that of
-Semantic Versioning. Otherwise each order is possible that reads both versions (orders/), and what the version means may be open as
-well (readings.py). There is an answer where all of them lead to it; else there is none, and it is said which differ.
+If its list says where a version is from, this decides the order: a Debian package has dpkg's order, an npm module that
+of Semantic Versioning. Otherwise each order is possible that can read both versions (orders/). The meaning of the
+version may be open as well (readings.py). There is an answer if all orders and readings agree. Otherwise the answer
+names two that differ.
 
-A word that stands against another word, as in 1.0-hotfix and 1.0-rc, is not trusted even where all orders agree, unless the order
-is told.
+A comparison of two words, as in 1.0-hotfix and 1.0-rc, is not trusted even if all orders agree, unless the order is
+known.
 """
 from __future__ import annotations
 
@@ -14,38 +15,41 @@ import re
 from collections.abc import Iterable, Mapping
 from dataclasses import dataclass
 from enum import Enum
+from pathlib import Path
 from typing import Any, NamedTuple
 
 from . import names
 from .advisories import Range
+from .console import Fatal
 from .feeds import FeedFault, name_of, read_feed, text_lines
 from .orders import ALL, EQUAL, GREATER, LESS, OF_KIND, Order, plain
 from .readings import DISTRIBUTIONS, Reading, has_release, readings, release_of, without_epoch, without_v
-from .said import Fatal
 
+# The table of products in whose versions letters count upward.
+LETTERS_FILE = str(Path(__file__).resolve().parents[1] / "letters.txt")
 _PIECE = re.compile(r"[0-9]+|[a-z]+")
 _LAST_PIECE = re.compile(r"(?:[0-9]+|[a-z]+)$")
 _LETTERED = re.compile(r"(?P<word>[a-z]{1,2})[0-9]*")
-# What comes after z is za. (Other words of two letters mostly stand before a release: rc, tp.)
+# After z follows za. (Other words of two letters are mostly before a release: rc, tp.)
 _LETTER = re.compile(r"[a-z]|z[a-z]")
 # The numbers with dots at the beginning, none of which begins with a zero that isn't all of it.
 _FRONT = re.compile(r"(?:0|[1-9][0-9]*)(?![0-9])(?:\.(?:0|[1-9][0-9]*)(?![0-9]))*")
 _NUMBERS = re.compile(r"[0-9]+(?:\.[0-9]+)*")
-# A distribution writes such a word behind a tilde, or an underscore, so that it comes before the release.
+# A distribution writes such a word after a tilde or an underscore, so that it is before the release.
 _BEFORE_RELEASE = re.compile(r"(?<![~_a-z])(?:alpha|beta|rc|cr|pre|preview|dev|snapshot|milestone|test)(?![a-z])")
 
 _DIGIT = re.compile(r"[0-9]")
-# A commit by its hash; and one of a Go module of which no release is known, which has a date.
+# The hash of a commit; and a commit of a Go module without a known release, which has a date.
 _HASH = re.compile(r"(?=.*[0-9])(?=.*[a-f].*[a-f])[0-9a-f]{7,40}")
 _BEGINS_HASH = re.compile(r"[0-9]+[a-f]")
 _COMMIT = re.compile(r"v?0\.0\.0-[0-9]{14}-[0-9a-f]{12}(?:\+.*)?")
 
-# How many answers are kept, since the same versions and bounds come again and again.
+# How many answers are kept, because the same versions and bounds are compared often.
 _KEPT = 1 << 16
 
 
-class Standing(Enum):
-    """How a version stands to a range."""
+class Position(Enum):
+    """Where a version is, compared with a range."""
 
     INSIDE = "inside"
     OUTSIDE = "outside"
@@ -53,16 +57,16 @@ class Standing(Enum):
 
 
 @dataclass(frozen=True)
-class Stood:
-    """How a version stands to a range, why that isn't sure, and of a distribution's package that is inside its release, since the
-    distribution may have mended it without a new version."""
+class RangePosition:
+    """Where a version is, compared with a range, and why that isn't sure. `release` is that of a distribution's package
+    inside the range, because the distribution may have fixed it without a new version."""
 
-    standing: Standing
+    position: Position
     why: str = ""
     release: str = ""
 
 
-_INSIDE, _OUTSIDE = Stood(Standing.INSIDE), Stood(Standing.OUTSIDE)
+_INSIDE, _OUTSIDE = RangePosition(Position.INSIDE), RangePosition(Position.OUTSIDE)
 
 
 class Sameness(Enum):
@@ -88,8 +92,8 @@ class Upward(NamedTuple):
     letters: Letters
     product: tuple[str, str]
 
-    def rewritten(self, version: str) -> str:
-        return self.letters.rewritten(self.product, version)
+    def rewrite(self, version: str) -> str:
+        return self.letters.rewrite(self.product, version)
 
 
 class By(NamedTuple):
@@ -100,8 +104,8 @@ class By(NamedTuple):
 
 
 class Orders(NamedTuple):
-    """The answers that are possible, each with all who give it, and the bound as it was compared. A word that stands against
-    another one is told. `only` is the one answer that is sure, None where there isn't one."""
+    """The possible answers, each with the orders and readings that give it, and the bound as it was compared. `words`
+    reports a comparison of two words. `only` is the one sure answer, or None."""
 
     answers: Mapping[int, tuple[By, ...]]
     bound: str
@@ -115,8 +119,8 @@ _NOTHING_READ: Mapping[int, tuple[By, ...]] = {answer: () for answer in (LESS, E
 
 @functools.lru_cache(maxsize=_KEPT)
 def orders(version: str, bound: str, kind: str = "", upward: Upward | None = None) -> Orders:
-    """The orders of a version to a bound that are possible, where a list says that the version is of this kind, or says nothing.
-    Letters that count upward are numbers in the bound."""
+    """The orders of a version to a bound that are possible, where a list says that the version is of this kind, or says
+    nothing. Letters that count upward are numbers in the bound."""
     quick = None if upward else _by_fronts(version, bound)
     if quick is not None:
         return Orders(_SURE[quick], bound, "", quick)
@@ -125,7 +129,7 @@ def orders(version: str, bound: str, kind: str = "", upward: Upward | None = Non
         return Orders(_NOTHING_READ, bound, nothing)
     bound, meant = readings(version, bound, kind)
     if upward:
-        meant = tuple(Reading(upward.rewritten(one.text), one.release) for one in meant)
+        meant = tuple(Reading(upward.rewrite(one.text), one.release) for one in meant)
     found: dict[int, list[By]] = {}
     words = ""
     for reading in meant:
@@ -145,12 +149,16 @@ def _front(version: str) -> tuple[tuple[int, ...], bool]:
     """The numbers with dots at the beginning, and whether that is all."""
     is_other = any(mark in version for mark in (":", "!", "%", "+really")) or _HASH.fullmatch(version)
     match = _FRONT.match(version) if not is_other else None
-    return (tuple(map(int, match[0].split("."))), match.end() == len(version)) if match and len(version) < 256 else ((), False)
+    return (
+        (tuple(map(int, match[0].split("."))), match.end() == len(version))
+        if match and len(version) < 256
+        else ((), False)
+    )
 
 
 def _by_fronts(version: str, bound: str) -> int | None:
-    """The order of versions that differ in the numbers with which they begin, which is the same in all orders and readings; None
-    where they don't."""
+    """The order of versions that differ in the numbers with which they begin, which is the same in all orders and
+    readings; None if they don't."""
     if version == bound:
         return EQUAL if _PIECE.search(version.lower()) else None
     (left, is_all), (right, is_all_right) = _front(version), _front(bound)
@@ -174,13 +182,15 @@ def _possible(version: str, bound: str, kind: str) -> tuple[Iterable[Order[Any]]
     """The orders that these two may have, and whether they are those of the kind."""
     own = [order for order in OF_KIND.get(kind, ()) if order.compare(version, bound) is not None]
     # (a distribution spells versions in its own way, and a bound is spelled as upstream's)
-    is_respelled = kind in DISTRIBUTIONS and (not _NUMBERS.fullmatch(bound) or _BEFORE_RELEASE.search(version) is not None)
+    is_respelled = kind in DISTRIBUTIONS and (
+        not _NUMBERS.fullmatch(bound) or _BEFORE_RELEASE.search(version) is not None
+    )
     return (own, True) if own and not is_respelled else (ALL, False)
 
 
 def _words_decide(version: str, bound: str, is_own: bool) -> str:
-    """In words that words decide between two versions so that no order is trusted: one before all numbers or an x beside a number,
-    and if the order isn't that of a kind, two of more than a letter."""
+    """In words that words decide between two versions so that no order is trusted: one before all numbers or an x
+    beside a number, and if the order isn't that of a kind, two of more than a letter."""
     for place, (one, other) in enumerate(zip(pieces(version), pieces(bound))):
         if one.same(other):
             continue
@@ -192,8 +202,8 @@ def _words_decide(version: str, bound: str, is_own: bool) -> str:
     return ""
 
 
-def standing(version: str, update: str | None, one: Range, kind: str = "", upward: Upward | None = None) -> Stood:
-    """How a version with its update, where it has one, stands to the bounds of a range."""
+def locate(version: str, update: str | None, one: Range, kind: str = "", upward: Upward | None = None) -> RangePosition:
+    """Where a version, with its update if it has one, is, compared with a range."""
     unsure = ""
     for bound, outside, excluded in ((one.start, LESS, one.start_excluded), (one.end, GREATER, one.end_excluded)):
         if bound is None:
@@ -207,7 +217,7 @@ def standing(version: str, update: str | None, one: Range, kind: str = "", upwar
                 return _OUTSIDE
             continue
         if is_commit:
-            # (its zeros don't say that it comes before a release)
+            # (its zeros don't show that it is before a release)
             answers, words = _NOTHING_READ, f"{version} is a commit, and no release"
         elif update is not None and EQUAL in answers:
             answers, words = _NOTHING_READ, words or f"{version} is the bound, and has the update {update}"
@@ -219,28 +229,40 @@ def standing(version: str, update: str | None, one: Range, kind: str = "", upwar
         if not all(meets.values()) and not unsure:
             unsure = words or _differ(version, found, meets)
     if unsure:
-        return Stood(Standing.UNSURE, f"{unsure}, letters that count upward being numbers" if upward else unsure)
+        return RangePosition(
+            Position.UNSURE, f"{unsure}, letters that count upward being numbers" if upward else unsure
+        )
     release = release_of(version, kind)
     if not release or any(bound is not None and has_release(bound) for bound in (one.start, one.end)):
         return _INSIDE
-    return Stood(Standing.INSIDE, release=release)
+    return RangePosition(Position.INSIDE, release=release)
 
 
 def _is_commit_beside(version: str, bound: str) -> bool:
     """Whether a version is a commit of a Go module of which no release is known, and the bound is none."""
-    return version.startswith(("0.0.0-", "v0.0.0-")) and _COMMIT.fullmatch(version) is not None and not _COMMIT.fullmatch(bound)
+    return (
+        version.startswith(("0.0.0-", "v0.0.0-"))
+        and _COMMIT.fullmatch(version) is not None
+        and not _COMMIT.fullmatch(bound)
+    )
 
 
 def same(version: str, wanted: str, kind: str = "", upward: Upward | None = None) -> Same:
-    """Whether a version is the one that is wanted, by the orders and readings by which it would be compared with a bound."""
-    found = orders(version, upward.rewritten(wanted) if upward else wanted, kind, upward)
+    """Whether a version is the one that is wanted, by the orders and readings by which it would be compared with a
+    bound."""
+    found = orders(version, upward.rewrite(wanted) if upward else wanted, kind, upward)
     if _is_commit_beside(version, wanted):
         return Same(Sameness.UNSURE, f"{version} is a commit, and no release")
     if EQUAL not in found.answers:
         return Same(Sameness.UNEQUAL)
     if len(found.answers) > 1:
-        return Same(Sameness.UNSURE, found.words or _differ(version, found, {answer: answer == EQUAL for answer in found.answers}))
-    return Same(Sameness.EQUAL, release=next((by.reading.release for by in found.answers[EQUAL] if by.reading.release), ""))
+        return Same(
+            Sameness.UNSURE,
+            found.words or _differ(version, found, {answer: answer == EQUAL for answer in found.answers}),
+        )
+    return Same(
+        Sameness.EQUAL, release=next((by.reading.release for by in found.answers[EQUAL] if by.reading.release), "")
+    )
 
 
 def _differ(version: str, found: Orders, meets: Mapping[int, bool]) -> str:
@@ -254,14 +276,16 @@ def _differ(version: str, found: Orders, meets: Mapping[int, bool]) -> str:
             first, second = sorted((one, other), key=_place)
             return f"{first} and {second} differ between {reading.text} and {found.bound}"
     other = min((by.reading for side in sides for by in side), key=lambda reading: len(reading.text))
-    return f"{version} may be {other.text}" + (f" in the release {other.release} of a distribution" if other.release else "")
+    return f"{version} may be {other.text}" + (
+        f" in the release {other.release} of a distribution" if other.release else ""
+    )
 
 
 def _place(name: str) -> int:
     return next(place for place, order in enumerate(ALL) if order.name == name)
 
 
-def plain_standing(version: str, one: Range) -> bool:
+def is_inside_plainly(version: str, one: Range) -> bool:
     """Whether a version is inside a range by the order of `cpe advise`."""
     start, end = (None if bound is None else plain.ORDER.compare(version, bound) for bound in (one.start, one.end))
     is_behind = start in (None, GREATER) or start == EQUAL and not one.start_excluded
@@ -287,7 +311,8 @@ def pieces(version: str) -> tuple[Piece, ...]:
 
 
 def sure_beginning(text: str) -> str:
-    """What is sure of a version that begins with a text: all but its last run of digits or letters, which may go on."""
+    """The sure part of a version that begins with a text: all except its last run of digits or letters, which may
+    continue."""
     return _LAST_PIECE.sub("", text.lower())
 
 
@@ -298,7 +323,7 @@ def is_outside_from(beginning: str, one: Range) -> bool:
 
 
 def _order_from(beginning: str, bound: str) -> int | None:
-    """The order of each version with this beginning to a bound; None where it isn't the same of all."""
+    """The order of each version with this beginning to a bound; None if it isn't the same of all."""
     begins, ends = without_epoch(beginning, bound.lower())
     if _BEGINS_HASH.match(begins) or _no_version(ends):
         return None
@@ -311,17 +336,17 @@ def _order_from(beginning: str, bound: str) -> int | None:
 
 @dataclass(frozen=True, eq=False)
 class Letters:
-    """The products of which letters in versions count upward, each with the words that do, or with none where it is a letter,
-    and za after z."""
+    """The products of which letters in versions count upward, each with the words that do, or with none if it is a
+    letter, and za after z."""
 
     products: Mapping[tuple[str, str], frozenset[str]]
 
     def has(self, product: tuple[str, str]) -> bool:
         return product in self.products
 
-    def rewritten(self, product: tuple[str, str], version: str) -> str:
-        """The version of such a product with numbers in place of letters: 1.1.1k as 1.1.1.11, 0.9.8za as 0.9.8.26.1. All other
-        words are left, but a v before the first digit."""
+    def rewrite(self, product: tuple[str, str], version: str) -> str:
+        """The version of such a product with numbers in place of letters: 1.1.1k as 1.1.1.11, 0.9.8za as 0.9.8.26.1.
+        All other words are left, but a v before the first digit."""
         out, last = [], 0
         text = without_v(version.lower())
         for match in _PIECE.finditer(text):
@@ -334,7 +359,7 @@ class Letters:
         return "".join(out) + text[last:]
 
     def with_update(self, product: tuple[str, str], version: str, update: str | None) -> tuple[str, str | None]:
-        """The version with its update in it, where that is such letters: 9.3 with the update p1 as 9.3p1."""
+        """The version with its update in it, if that is such letters: 9.3 with the update p1 as 9.3p1."""
         match = _LETTERED.fullmatch(update or "")
         if match is None or not self._counts(product, match["word"]):
             return version, update
@@ -364,7 +389,11 @@ def letters_of(lines: Iterable[str], name: str) -> Letters:
         if not words:
             continue
         parts = names.components(f"{names.PREFIX}{words[0]}")
-        if len(parts) != 2 or not all(words[1:]) or any(not _LETTERED.fullmatch(word) or word[-1].isdigit() for word in words[1:]):
+        if (
+            len(parts) != 2
+            or not all(words[1:])
+            or any(not _LETTERED.fullmatch(word) or word[-1].isdigit() for word in words[1:])
+        ):
             raise Fatal(f"{name}: line {number} is no vendor:product with words of one or two letters")
         products[parts[0], parts[1]] = frozenset(words[1:])
     return Letters(products)

@@ -7,7 +7,7 @@
 
 --records names the records that were explained. The records have what a certificate doesn't have: the operator of a
 test, the fact that covers no item, the check, and the kinds of deprecations. Lines that are no certificates, such as
-the answers before them, are ignored. This recipe doesn't test certificates; `cpe check` does that. The status is 1 if a
+answers to questions, are ignored. This recipe doesn't test certificates; `cpe check` does that. The status is 1 if a
 line with the word `proof` isn't a certificate, and 2 if there is no certificate at all.
 """
 from __future__ import annotations
@@ -17,11 +17,11 @@ from collections.abc import Iterator
 from dataclasses import dataclass, field
 from typing import Any
 
+from .arguments import ONE, read_arguments
+from .console import Fatal, Messages, Output, escape
 from .feeds import text_lines, whole
 from .from_snapshot import NotSnapshot, read
 from .program import Program
-from .said import Fatal, Output, Said, shown
-from .words import ONE, read_words
 
 USAGE = "why.sh [--records FILE] [FILE]"
 TRUTHS = ("TRUE", "FALSE", "ERROR", "UNKNOWN")
@@ -34,37 +34,40 @@ class NoForm(Exception):
 
 
 @dataclass
-class Known:
-    """What records tell beside a certificate: the tests of statements by id, and the kinds of deprecations by name."""
+class CertificateContext:
+    """The parts of records that certificates lack: the tests of statements by id, and the kinds of deprecations by
+    name."""
 
     tests: dict[str, Json] = field(default_factory=dict)
     kinds: dict[str, str] = field(default_factory=dict)
 
 
 def run(words: list[str]) -> int:
-    asked = read_words(words, {"--records": ONE}, USAGE)
-    if len(asked.files) > 1:
+    arguments = read_arguments(words, {"--records": ONE}, USAGE)
+    if len(arguments.files) > 1:
         raise Fatal(f"usage: {USAGE}")
-    records = asked.one("--records")
-    known = Known() if records is None else known_of(Program(), whole(records))
-    said, output = Said(), Output()
+    records = arguments.one("--records")
+    context = CertificateContext() if records is None else read_context(Program(), whole(records))
+    messages, output = Messages(), Output()
     count = 0
-    for number, line in enumerate(text_lines(whole(asked.files[0] if asked.files else None).decode(errors="replace")), 1):
+    for number, line in enumerate(
+        text_lines(whole(arguments.files[0] if arguments.files else None).decode(errors="replace")), 1
+    ):
         proof = proof_of(line)
         if proof is None:
             continue
         try:
-            output.lines(list(told(proof, known)))
+            output.lines(list(describe_proof(proof, context)))
             count += 1
         except NoForm:
-            said.left_out(f"line {number}", "it has not the form of a certificate")
+            messages.leave_out(f"line {number}", "it has not the form of a certificate")
     if count == 0:
         raise Fatal("no certificates")
-    output.end(shown)
-    return said.status()
+    output.end(escape)
+    return messages.status()
 
 
-def known_of(program: Program, records: bytes) -> Known:
+def read_context(program: Program, records: bytes) -> CertificateContext:
     """What `cpe` keeps of the records."""
     snapshot = program.bytes(["save"], records)
     try:
@@ -72,11 +75,11 @@ def known_of(program: Program, records: bytes) -> Known:
     except NotSnapshot as fault:
         raise Fatal(f"{program.path} save wrote no snapshot") from fault
     kinds = {row["name"]: row["kind"] for row in rows.entries if row["kind"] is not None}
-    return Known({row["id"]: row["test"] for row in rows.statements}, kinds)
+    return CertificateContext({row["id"]: row["test"] for row in rows.statements}, kinds)
 
 
 def proof_of(line: str) -> Json:
-    """The certificate of a line, before its form is known; None where it speaks of none."""
+    """The certificate of a line, before its form is known; None if it speaks of none."""
     if not line.startswith("{"):
         return None
     try:
@@ -86,13 +89,13 @@ def proof_of(line: str) -> Json:
     return value if isinstance(value, dict) and value.get("do") == "proof" else None
 
 
-def told(proof: Json, known: Known) -> Iterator[str]:
+def describe_proof(proof: Json, context: CertificateContext) -> Iterator[str]:
     """The lines of a certificate."""
     id, why = proof.get("id"), proof.get("why")
     if not isinstance(id, str):
         raise NoForm
     yield f"{id} is {truth_of(why)}"
-    yield from level(why, known.tests.get(id), known, 1)
+    yield from level(why, context.tests.get(id), context, 1)
 
 
 def truth_of(why: Json) -> str:
@@ -102,31 +105,35 @@ def truth_of(why: Json) -> str:
     return str(truth)
 
 
-def level(why: Json, test: Json, known: Known, depth: int) -> Iterator[str]:
+def level(why: Json, test: Json, context: CertificateContext, depth: int) -> Iterator[str]:
     """The lines of a test, and of those below it."""
     truth = truth_of(why)
     space = "  " * depth
     if "of" in why:
-        yield from logic(why, test, known, depth)
+        yield from logic(why, test, context, depth)
     elif "fact" in why or "item" in why:
         fact, item = names_at(why, "fact"), names_at(why, "item")
         covers = "covers" if truth == "TRUE" else "may cover, is known in part"
-        yield f"{space}{truth}, since item {led(item, known)}, which the fact {led(fact, known)} {covers}"
+        yield f"{space}{truth}, since item {led(item, context)}, which the fact {led(fact, context)} {covers}"
     else:
         yield f"{space}{plain(truth, test)}"
 
 
-def logic(why: Json, test: Json, known: Known, depth: int) -> Iterator[str]:
+def logic(why: Json, test: Json, context: CertificateContext, depth: int) -> Iterator[str]:
     of = why["of"]
     if not isinstance(of, list) or not of or depth > 32:
         raise NoForm
     tests = test["of"] if test is not None and len(test.get("of", ())) == len(of) else [None] * len(of)
     given = [number for number, one in enumerate(of) if one is not None]
     word = "the test" if test is None or "op" not in test else f"{'not ' if test['negate'] else ''}{test['op']}"
-    how = f"all {len(of)} of" if len(given) == len(of) else f"{', '.join(str(number + 1) for number in given)} of {len(of)} alone"
+    how = (
+        f"all {len(of)} of"
+        if len(given) == len(of)
+        else f"{', '.join(str(number + 1) for number in given)} of {len(of)} alone"
+    )
     yield f"{'  ' * depth}{word} is {truth_of(why)}, by {how}:"
     for number in given:
-        yield from level(of[number], tests[number], known, depth + 1)
+        yield from level(of[number], tests[number], context, depth + 1)
 
 
 def plain(truth: str, test: Json) -> str:
@@ -145,10 +152,10 @@ def names_at(why: Json, key: str) -> list[str]:
     return names
 
 
-def led(names: list[str], known: Known) -> str:
+def led(names: list[str], context: CertificateContext) -> str:
     """A name, and where deprecations lead from it."""
     text = names[0]
     for before, name in zip(names, names[1:]):
-        kind = known.kinds.get(before)
+        kind = context.kinds.get(before)
         text += f" leads to {name}" + (f" ({kind})" if kind else "")
     return text

@@ -12,22 +12,22 @@ from dataclasses import astuple
 from pathlib import Path
 
 from . import workers
-from .said import DONE, Fatal, why, write_file
-from .session import Asked, Known, Session
+from .console import DONE, Fatal, describe_fault, write_file
+from .session import FleetData, MachineQuestion, Session
 
 
-def write_plan(folder: Path, known: Known) -> list[str]:
+def write_plan(folder: Path, fleet_data: FleetData) -> list[str]:
     """Files of what all workers know; the words for a worker that has them."""
     records, plan = folder / "records", folder / "plan"
     try:
-        records.write_bytes(known.lines)
+        records.write_bytes(fleet_data.lines)
     except OSError as fault:
-        raise Fatal(f"the records could not be written: {why(fault)}") from fault
-    write_file(str(plan), [json.dumps([known.answers, known.statements])])
+        raise Fatal(f"the records could not be written: {describe_fault(fault)}") from fault
+    write_file(str(plan), [json.dumps([fleet_data.answers, fleet_data.statements])])
     return [str(records), str(plan)]
 
 
-def write_piece(path: Path, machines: Sequence[Asked]) -> None:
+def write_piece(path: Path, machines: Sequence[MachineQuestion]) -> None:
     write_file(str(path), [json.dumps(astuple(machine)) for machine in machines])
 
 
@@ -35,14 +35,14 @@ def run(words: Sequence[str]) -> int:
     program, *paths = words
     records, plan, piece = (Path(path) for path in paths)
     answers, statements = json.loads(plan.read_text())
-    known = Known(records.read_bytes(), answers, statements)
+    fleet_data = FleetData(records.read_bytes(), answers, statements)
     try:
-        session = Session(program, known)
+        session = Session(program, fleet_data)
         try:
             # (the last to be whole is PIECE.out, by which the piece is done)
             with workers.whole_file(piece, "out") as lines, workers.whole_file(piece, "said") as left_out:
                 for machine in piece.open():
-                    told = session.ask(Asked(*json.loads(machine)))
+                    told = session.ask(MachineQuestion(*json.loads(machine)))
                     workers.write_lines(piece, left_out, [json.dumps([told.machine, told.has_items, told.left_out])])
                     workers.write_lines(piece, lines, told.lines)
         finally:

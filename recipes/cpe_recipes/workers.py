@@ -1,8 +1,8 @@
-"""Workers over pieces of work, by GNU parallel. A piece is a file, so that it is there once more where its worker dies.
+"""Workers over pieces of work, by GNU parallel. A piece is a file, so that it can be run again if its worker dies.
 
-A worker is given its words and the path of its piece, and writes files beside the piece, which get their names when they are
-whole: so what a worker wrote that died is not there. Which pieces are done is told by PIECE.out, and by PIECE.full that there
-was no room.
+A worker gets its words and the path of its piece, and writes files beside the piece, which get their names when they
+are whole. So a worker that died left no file. PIECE.out shows that a piece is done, and PIECE.full that a disk was
+full.
 """
 from __future__ import annotations
 
@@ -15,12 +15,12 @@ from collections.abc import Iterator, Sequence
 from pathlib import Path
 from typing import BinaryIO
 
-from .said import Fatal, write_all
+from .console import Fatal, write_all
 
 RECIPES = Path(__file__).resolve().parent.parent
 _TRIES = 3
 _CHUNK = 1 << 20
-# What GNU parallel ends with where it isn't the jobs that failed.
+# What GNU parallel ends with if it isn't the jobs that failed.
 _NO_PARALLEL = 255
 
 
@@ -44,15 +44,25 @@ def python_worker(module: str, *words: str) -> list[str]:
 
 
 def run_workers(folder: Path, worker: Sequence[str], pieces: Sequence[Path]) -> None:
-    """Runs a worker over each piece, WORKERS at a time (else as many as processors); one that fails is run again, up to three
-    times."""
+    """Runs a worker over each piece, WORKERS at a time (else as many as processors); one that fails is run again, up to
+    three times."""
     workers = number_at("WORKERS", os.cpu_count() or 1)
-    command = ["parallel", "--will-cite", "--retries", str(_TRIES), "--jobs", str(workers), "--tmpdir", str(folder), "--quote"]
+    command = [
+        "parallel",
+        "--will-cite",
+        "--retries",
+        str(_TRIES),
+        "--jobs",
+        str(workers),
+        "--tmpdir",
+        str(folder),
+        "--quote",
+    ]
     with subprocess.Popen([*command, *worker, "{}"], stdin=subprocess.PIPE) as run:
         try:
             run.communicate("".join(f"{piece}\n" for piece in pieces).encode())
         except BaseException:
-            # (told so it ends its workers too)
+            # (then it ends its workers too)
             run.terminate()
             raise
     if any(folder.glob("*.full")):
@@ -63,7 +73,7 @@ def run_workers(folder: Path, worker: Sequence[str], pieces: Sequence[Path]) -> 
 
 @contextlib.contextmanager
 def whole_file(piece: Path, ending: str) -> Iterator[BinaryIO]:
-    """Of a worker: a file beside its piece, which gets its name at the end, where nothing went wrong."""
+    """A file beside a worker's piece, which gets its name at the end, if nothing failed."""
     with _tells_no_room(piece):
         file = open(f"{piece}.{ending}.part", "wb")
     with file:

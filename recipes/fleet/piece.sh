@@ -1,7 +1,7 @@
 #!/bin/sh
-# A worker of lines.sh: sh piece.sh CPE WORD.. PIECE. It runs cpe over the lines of a piece, and leaves what is written in
-# PIECE.out, which gets its name when it is whole. PIECE.refused tells that a line is refused, PIECE.full that there was no room.
-# (A shell, since it begins ten times as fast as Python does.)
+# A worker of lines.sh: sh piece.sh CPE WORD.. PIECE. It runs cpe over the lines of a piece, and writes the output into
+# PIECE.out, which gets its name when it is whole. PIECE.refused shows that a line was refused, and PIECE.full that the
+# disk was full. (This is a shell script because a shell starts ten times as fast as Python.)
 set -u
 cpe=$1 words=$2
 shift 2
@@ -14,7 +14,7 @@ status=$?
 case $status in
 0) ;;
 1) : > "$piece.refused" || exit 4 ;;
-# (a write failed, or the signal came that ends who writes past the limit of a file)
+# (a write failed, or a signal ended a process that writes past the limit of a file)
 4 | 153) : > "$piece.full"; exit 4 ;;
 *) exit "$status" ;;
 esac

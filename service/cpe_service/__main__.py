@@ -6,9 +6,9 @@
     python3 -m cpe_service backup FILE --data DIR
     python3 -m cpe_service take FOLDER --data DIR
 
-It listens on this machine alone, and on another address only if the data folder has a file of tokens. `token` adds a token, and prints it
-once. `backup` copies the database while the service runs. `take` takes feeds from a folder. With `--samples` the service begins with
-the samples of the recipes. docs/SERVICE.md has all of it.
+It listens on this machine alone, and on another address only if the data folder has a file of tokens. `token` adds a
+token, and prints it once. `backup` copies the database while the service runs. `take` takes feeds from a folder. With
+`--samples` the service begins with the samples of the recipes. docs/SERVICE.md has all of it.
 """
 from __future__ import annotations
 
@@ -33,10 +33,10 @@ try:
 except ImportError as fault:
     sys.exit(f"{fault.name} is missing: apt-get install python3-uvicorn python3-starlette")
 
-from cpe_recipes.said import Fatal
+from cpe_recipes.console import Fatal
 
-from . import database, keeper, taking, tokens
-from .app import Settings, made
+from . import database, feed_folder, keeper, tokens
+from .app import Settings, create_app
 
 _MOST_CONNECTIONS = 4_096
 # How long a connection may stay open without a whole head of a request.
@@ -50,7 +50,7 @@ class Patient(H11Protocol):
         super().connection_made(transport)
         self._ended = self._seen = 0
         one = transport.get_extra_info("socket")
-        # (who is gone without a word is found by these)
+        # (this finds clients that vanished without closing the connection)
         one.setsockopt(socket.SOL_SOCKET, socket.SO_KEEPALIVE, 1)
         if hasattr(socket, "TCP_USER_TIMEOUT"):
             one.setsockopt(socket.IPPROTO_TCP, socket.TCP_USER_TIMEOUT, 4_000 * _SECONDS_IDLE)
@@ -73,7 +73,7 @@ class Patient(H11Protocol):
 
 
 class Server(uvicorn.Server):
-    """A server that ends the answers of those who listen to events when it is to end."""
+    """A server that ends the open answers of /events before it ends."""
 
     def __init__(self, config: uvicorn.Config, stop) -> None:  # noqa: ANN001
         super().__init__(config)
@@ -83,7 +83,7 @@ class Server(uvicorn.Server):
         await super().startup(sockets)
         for one in () if self.should_exit else sockets or ():
             host, port = one.getsockname()[:2]
-            # (whoever started it may be gone, which is no reason to end)
+            # (the process that started it may have ended, which is no reason to end)
             with contextlib.suppress(OSError):
                 print(f"cpe_service listens on http://{f'[{host}]' if ':' in host else host}:{port}/", flush=True)
 
@@ -93,8 +93,12 @@ class Server(uvicorn.Server):
 
 
 def _options() -> argparse.ArgumentParser:
-    parser = argparse.ArgumentParser("cpe_service", description="Which machines are affected by which advisories, since when, and why.")
-    parser.add_argument("word", nargs="*", help="token NAME, backup FILE or take FOLDER; without any of these the service runs")
+    parser = argparse.ArgumentParser(
+        "cpe_service", description="Which machines are affected by which advisories, since when, and why."
+    )
+    parser.add_argument(
+        "word", nargs="*", help="token NAME, backup FILE or take FOLDER; without any of these the service runs"
+    )
     parser.add_argument("--data", type=Path, required=True, metavar="DIR", help="the data folder")
     parser.add_argument("--host", default="127.0.0.1", help="the address to listen on")
     parser.add_argument("--port", type=int, default=8765)
@@ -108,8 +112,12 @@ def _options() -> argparse.ArgumentParser:
         ("rate", "requests a second that a client may send"),
         ("days", "days for which changes are kept"),
     ):
-        parser.add_argument(f"--{name}", type=int, default=getattr(Settings, name.replace("-", "_")), metavar="N", help=what)
-    parser.add_argument("--samples", action="store_true", help="begins with the samples of the recipes, if there is no machine yet")
+        parser.add_argument(
+            f"--{name}", type=int, default=getattr(Settings, name.replace("-", "_")), metavar="N", help=what
+        )
+    parser.add_argument(
+        "--samples", action="store_true", help="begins with the samples of the recipes, if there is no machine yet"
+    )
     parser.add_argument("--read", action="store_true", help="with token: the token may only read")
     return parser
 
@@ -122,7 +130,9 @@ def _is_local(host: str) -> bool:
 
 def _settings(given: argparse.Namespace) -> Settings:
     hosts = tuple(given.host_name) or (("127.0.0.1", "localhost", "[::1]") if _is_local(given.host) else ())
-    numbers = {name: getattr(given, name) for name in ("workers", "most_list", "most_feed", "seconds", "wait", "rate", "days")}
+    numbers = {
+        name: getattr(given, name) for name in ("workers", "most_list", "most_feed", "seconds", "wait", "rate", "days")
+    }
     for name, number in numbers.items():
         if number < 1:
             sys.exit(f"--{name.replace('_', '-')} is {number}, and 1 is the least")
@@ -130,16 +140,19 @@ def _settings(given: argparse.Namespace) -> Settings:
 
 
 def _backup(folder: Path, target: Path) -> None:
-    """Copies the database as it is at this moment. Whoever restores it puts the copy in place of the database."""
+    """Copies the database as it is at this moment. To restore it, put the copy in place of the database."""
     if target.exists():
         sys.exit(f"{target} is there already")
-    with contextlib.closing(database.connected(folder, is_reader=True)) as source, contextlib.closing(sqlite3.connect(target)) as copy:
+    with contextlib.closing(database.connect(folder, is_reader=True)) as source, contextlib.closing(
+        sqlite3.connect(target)
+    ) as copy:
         source.backup(copy)
 
 
 @contextlib.contextmanager
 def _alone(folder: Path) -> Iterator[None]:
-    """Whoever runs the service over a data folder is alone there. The system opens the lock again however they end."""
+    """Makes sure that no other service runs over the data folder. The system releases the lock whatever ends the
+    process."""
     with (folder / "lock").open("wb") as lock:
         try:
             fcntl.flock(lock, fcntl.LOCK_EX | fcntl.LOCK_NB)
@@ -150,28 +163,41 @@ def _alone(folder: Path) -> Iterator[None]:
 
 def _run(given: argparse.Namespace) -> None:
     settings = _settings(given)
-    app, service = made(settings)
+    app, service = create_app(settings)
     if not _is_local(given.host) and not service.tokens.are_any():
-        sys.exit(f"{given.host} is no address of this machine alone, and {given.data / tokens.NAME} has no tokens: add one by token NAME")
+        sys.exit(
+            f"{given.host} is no address of this machine alone, and {given.data / tokens.NAME} has no tokens: add one by token NAME"
+        )
     most = resource.getrlimit(resource.RLIMIT_NOFILE)[1]
-    # (where that isn't allowed, the limit stays as it was given)
+    # (if this isn't allowed, the limit stays unchanged)
     with contextlib.suppress(OSError, ValueError):
         resource.setrlimit(resource.RLIMIT_NOFILE, (most if most != resource.RLIM_INFINITY else 65_536, most))
     config = uvicorn.Config(
-        app, given.host, given.port, loop="asyncio", http=Patient, ws="none", lifespan="on", limit_concurrency=_MOST_CONNECTIONS, log_level="warning",
-        access_log=False, server_header=False, proxy_headers=False, timeout_keep_alive=_SECONDS_IDLE,
+        app,
+        given.host,
+        given.port,
+        loop="asyncio",
+        http=Patient,
+        ws="none",
+        lifespan="on",
+        limit_concurrency=_MOST_CONNECTIONS,
+        log_level="warning",
+        access_log=False,
+        server_header=False,
+        proxy_headers=False,
+        timeout_keep_alive=_SECONDS_IDLE,
     )
     Server(config, service.stop).run([config.bind_socket()])
 
 
 def main() -> None:
-    """Runs what the words ask for."""
+    """Runs the command of the command line."""
     given = _options().parse_args()
-    # (the processes of the service run in a folder of their own)
+    # (the processes of the service run in another folder)
     given.data = given.data.resolve()
     try:
         given.data.mkdir(parents=True, exist_ok=True, mode=0o700)
-        database.made(given.data)
+        database.create(given.data)
         match given.word:
             case []:
                 with _alone(given.data):
@@ -183,7 +209,7 @@ def main() -> None:
             case ["take", folder]:
                 keeper.limit_memory()
                 found = []
-                for is_taken, line in taking.take(given.data, Path(folder)):
+                for is_taken, line in feed_folder.take(given.data, Path(folder)):
                     print(line, flush=True)
                     found.append(is_taken)
                 sys.exit(not all(found))

@@ -1,4 +1,5 @@
-"""The server: it lets clients in, reads what they ask, and answers from the database and by its processes. It decides nothing itself."""
+"""The server: it checks clients, reads their requests, and answers from the database and through its processes. It
+decides no verdict itself."""
 from __future__ import annotations
 
 import asyncio
@@ -14,9 +15,9 @@ from datetime import datetime, timezone
 from pathlib import Path
 from typing import Any
 
+from cpe_recipes.console import Fatal
 from cpe_recipes.feeds import Json
 from cpe_recipes.program import Program
-from cpe_recipes.said import Fatal
 from starlette.applications import Starlette
 from starlette.concurrency import run_in_threadpool
 from starlette.exceptions import HTTPException
@@ -24,12 +25,12 @@ from starlette.requests import Request
 from starlette.responses import JSONResponse, RedirectResponse, Response, StreamingResponse
 from starlette.routing import Route as Address
 
-from . import entries, naming, pages, queries, samples
-from .asking import Problem, Rates, Room, body_of, read_path, read_query
-from .database import connected, writing
-from .processes import Gone, Keeper, Worker
+from . import entries, name_forms, pages, queries, samples
+from .database import connect, write_transaction
+from .message_list import strip_paths
+from .processes import Keeper, ProcessEnded, Worker
 from .queries import time_text
-from .quiet import pathless
+from .request_rules import Problem, Rates, Room, body_of, read_path, read_query
 from .routes import ROUTES, Route, openapi
 from .texts import whole
 from .tokens import ANYONE, Client, NoTokens, Tokens
@@ -37,9 +38,10 @@ from .tokens import ANYONE, Client, NoTokens, Tokens
 VERSION = "0.1.0"
 _DAY = 24 * 3600
 _EVENTS = 200
-# How many may listen to /events, how many of them as one client, and after how many seconds they hear that the server is still there.
+# How many clients may listen to /events, how often one client may, and after how many seconds without a change a
+# comment is sent.
 _MOST_LISTENERS, _MOST_OF_CLIENT, _PAUSE = 200, 100, 15
-# How many certificates a worker is asked for at once.
+# How many certificates may be requested from a worker at once.
 _MOST_ASKED = 4
 _BOUNDS = (0.01, 0.05, 0.1, 0.5, 1, 2, 5, 10)
 _SECURITY = {
@@ -52,7 +54,8 @@ _SECURITY = {
 
 @dataclass(frozen=True)
 class Settings:
-    """How the service runs: its data folder, how many workers judge, its limits, and how long it keeps what changed."""
+    """The settings of the service: its data folder, the number of workers, its limits, and how long it keeps
+    changes."""
 
     folder: Path
     workers: int = 2
@@ -68,7 +71,7 @@ class Settings:
 
 @dataclass
 class Numbers:
-    """What the server counts of itself, for /metrics."""
+    """The counters of the server, for /metrics."""
 
     requests: Counter[tuple[str, int]] = field(default_factory=Counter)
     below: Counter[tuple[str, float]] = field(default_factory=Counter)
@@ -83,14 +86,26 @@ class Numbers:
 
     def lines(self) -> list[str]:
         """The lines of these numbers."""
-        found = ["# HELP cpe_requests_total Requests, by what answered them and the status.", "# TYPE cpe_requests_total counter"]
-        found += [f'cpe_requests_total{{route="{name}",status="{status}"}} {count}' for (name, status), count in sorted(self.requests.items())]
+        found = [
+            "# HELP cpe_requests_total Requests, by what answered them and the status.",
+            "# TYPE cpe_requests_total counter",
+        ]
+        found += [
+            f'cpe_requests_total{{route="{name}",status="{status}"}} {count}'
+            for (name, status), count in sorted(self.requests.items())
+        ]
         found += ["# HELP cpe_request_seconds How long requests took.", "# TYPE cpe_request_seconds histogram"]
         for name in sorted(self.seconds):
             count = sum(number for (other, _), number in self.requests.items() if other == name)
-            found += [f'cpe_request_seconds_bucket{{route="{name}",le="{bound:g}"}} {self.below[name, bound]}' for bound in _BOUNDS]
+            found += [
+                f'cpe_request_seconds_bucket{{route="{name}",le="{bound:g}"}} {self.below[name, bound]}'
+                for bound in _BOUNDS
+            ]
             found.append(f'cpe_request_seconds_bucket{{route="{name}",le="+Inf"}} {count}')
-            found += [f'cpe_request_seconds_sum{{route="{name}"}} {self.seconds[name]:.6f}', f'cpe_request_seconds_count{{route="{name}"}} {count}']
+            found += [
+                f'cpe_request_seconds_sum{{route="{name}"}} {self.seconds[name]:.6f}',
+                f'cpe_request_seconds_count{{route="{name}"}} {count}',
+            ]
         return found
 
 
@@ -98,7 +113,7 @@ class Answer(JSONResponse):
     """An answer in JSON."""
 
     def render(self, content: Json) -> bytes:
-        # (names of components are in answers, and may be what has no bytes)
+        # (an answer has names of components, which may contain half a surrogate pair)
         return whole(json.dumps(content, ensure_ascii=False, allow_nan=False, separators=(",", ":"))).encode()
 
 
@@ -109,10 +124,12 @@ class Service:
         self.settings, self.tokens, self.numbers = settings, Tokens(settings.folder), Numbers()
         self._program = Program()
         self._lists, self._feeds = Keeper(settings.folder, "lists"), Keeper(settings.folder, "feeds")
-        self._workers = [Worker(settings.folder, shard, settings.workers, self._notify) for shard in range(settings.workers)]
+        self._workers = [
+            Worker(settings.folder, shard, settings.workers, self._notify) for shard in range(settings.workers)
+        ]
         self._rates = Rates(settings.rate, 2 * settings.rate)
         self._changed = asyncio.Event()
-        # (who waits for the verdicts of which list, and whether something happened since all of them were looked at)
+        # (the lists for whose verdicts clients wait, and whether anything happened since these were last checked)
         self._unsettled: dict[asyncio.Future[None], tuple[str, int]] = {}
         self._is_new, self._looking = False, None
         self._room = Room(4 * settings.most_feed)
@@ -131,11 +148,15 @@ class Service:
             await self._give_samples()
 
     async def _give_samples(self) -> None:
-        """Keeps the samples of the recipes, as a client would send them."""
+        """Sends the samples of the recipes to the keepers, as a client would."""
         for path in samples.feeds():
-            await self._answer(self._feeds, {"do": "feed", "name": "", "is_whole": False, "client": "samples"}, path.read_bytes())
+            await self._answer(
+                self._feeds, {"do": "feed", "name": "", "is_whole": False, "client": "samples"}, path.read_bytes()
+            )
         for path in samples.lists():
-            await self._answer(self._lists, {"do": "put", "name": path.name.split(".")[0], "client": "samples"}, path.read_bytes())
+            await self._answer(
+                self._lists, {"do": "put", "name": path.name.split(".")[0], "client": "samples"}, path.read_bytes()
+            )
 
     async def end(self) -> None:
         """Ends all processes."""
@@ -146,7 +167,7 @@ class Service:
             await process.end()
 
     def stop(self) -> None:
-        """Ends the answers of those who listen to events."""
+        """Ends the open answers of /events."""
         self._is_ending = True
         self._notify()
 
@@ -160,26 +181,26 @@ class Service:
             worker.wake()
 
     async def _prune(self) -> None:
-        """Once a day removes the changes that are older than they are kept."""
+        """Once a day removes the changes that are too old."""
         while True:
             with contextlib.suppress(Exception):
-                await run_in_threadpool(self._pruned)
+                await run_in_threadpool(self._remove_old_changes)
             await asyncio.sleep(_DAY)
 
-    def _pruned(self) -> None:
-        with contextlib.closing(connected(self.settings.folder)) as database, writing(database):
+    def _remove_old_changes(self) -> None:
+        with contextlib.closing(connect(self.settings.folder)) as database, write_transaction(database):
             database.execute("DELETE FROM history WHERE at < ?", (time.time() - self.settings.days * _DAY,))
 
     async def ask(self, question: Callable, *values: Json) -> Any:
         """The answer of the database to a question."""
-        return await run_in_threadpool(self._asked, question, values)
+        return await run_in_threadpool(self._query, question, values)
 
-    def _asked(self, question: Callable, values: Sequence[Json]) -> Any:
-        # (a connection is one thread's at a time, and another thread may take the last one first)
+    def _query(self, question: Callable, values: Sequence[Json]) -> Any:
+        # (only one thread at a time may use a connection, and another thread may have taken the last one meanwhile)
         try:
             database = self._readers.pop()
         except IndexError:
-            database = connected(self.settings.folder, is_reader=True)
+            database = connect(self.settings.folder, is_reader=True)
         try:
             found = question(database, *values)
             return list(found) if hasattr(found, "__next__") else found
@@ -189,12 +210,12 @@ class Service:
     # Who may ask.
 
     def let_in(self, request: Request, is_writing: bool) -> Client:
-        """Who asks. Problem if they may not."""
+        """The client of a request. Problem if it may not send the request."""
         self._check_origin(request)
         try:
             self.tokens.read()
         except NoTokens as fault:
-            # (why is for the log alone, once, since whoever asks has no token that counts)
+            # (the reason is only for the log, once, because this client has no valid token)
             if self._tokens_fault != str(fault):
                 self._tokens_fault = str(fault)
                 print(f"cpe_service: {fault}", flush=True)
@@ -202,13 +223,17 @@ class Service:
         client = self.tokens.client(request.headers.get("authorization", "")) if self.tokens.are_any() else ANYONE
         self._rates.take(_who(client, request), time.monotonic())
         if client is None:
-            raise Problem(401, "a token is needed: Authorization: Bearer TOKEN", {"WWW-Authenticate": 'Basic realm="cpe", charset="UTF-8"'})
+            raise Problem(
+                401,
+                "a token is needed: Authorization: Bearer TOKEN",
+                {"WWW-Authenticate": 'Basic realm="cpe", charset="UTF-8"'},
+            )
         if is_writing and not client.may_write:
             raise Problem(403, f"the token of {client.name} may only read")
         return client
 
     def _check_origin(self, request: Request) -> None:
-        """Whether the request is meant for this server, and not sent by a page of another one."""
+        """Checks that the request is meant for this server, and was not sent by a page of another server."""
         host = request.headers.get("host", "").lower()
         name = host if host.endswith("]") or ":" not in host else host.rpartition(":")[0]
         if self.settings.hosts and name not in self.settings.hosts:
@@ -226,7 +251,7 @@ class Service:
             return await self._answer(keeper, message, body)
 
     async def _answer(self, keeper: Keeper, message: Mapping[str, Json], body: bytes = b"") -> dict[str, Json]:
-        # (a client that leaves doesn't stop what was begun)
+        # (a client that disconnects doesn't stop its request)
         found = await asyncio.shield(asyncio.ensure_future(keeper.ask(dict(message), body)))
         if "refused" in found:
             raise Problem(422, found["refused"])
@@ -237,17 +262,23 @@ class Service:
 
     async def put_machine(self, request: Request, client: Client, machine: str) -> Response:
         """Keeps a list, and waits for its verdicts for some time."""
-        found = await self._keep(self._lists, request, self.settings.most_list, {"do": "put", "name": machine, "client": client.name})
+        found = await self._keep(
+            self._lists, request, self.settings.most_list, {"do": "put", "name": machine, "client": client.name}
+        )
         await self._wait(machine, found["edit"])
         value = await self.ask(queries.machine, machine, "", "", 0, 0)
         if value is None:
             raise Problem(409, f"{machine} was removed meanwhile")
-        value = {key: value[key] for key in ("name", "state", "counts", "edit", "judged", "fault", "leftOut", "remarks") if key in value}
+        value = {
+            key: value[key]
+            for key in ("name", "state", "counts", "edit", "judged", "fault", "leftOut", "remarks")
+            if key in value
+        }
         status = 202 if value["state"] == queries.WAITING else 201 if found["is_new"] else 200
         return Answer(value, status)
 
     async def _wait(self, machine: str, edit: int) -> None:
-        """Waits for the verdicts of a list. They may be there before anyone waits, or take long."""
+        """Waits for the verdicts of a list, for a limited time. They may be there already."""
         future: asyncio.Future[None] = asyncio.get_running_loop().create_future()
         self._unsettled[future] = machine, edit
         self._look()
@@ -258,18 +289,18 @@ class Service:
             del self._unsettled[future]
 
     def _look(self) -> None:
-        """Has all lists that are waited for looked at, once more if that happens already."""
+        """Starts a check of all lists for which clients wait; if one is running already, it runs once more."""
         self._is_new = True
         if self._unsettled and (self._looking is None or self._looking.done()):
             self._looking = asyncio.get_running_loop().create_task(self._settle())
 
     async def _settle(self) -> None:
-        """Answers those who wait and needn't any longer, by one question for all."""
+        """Answers the clients whose verdicts are there, by one query for all."""
         while self._is_new and self._unsettled:
             self._is_new = False
             unsettled = dict(self._unsettled)
             try:
-                settled = await self.ask(queries.settled, [*unsettled.values()])
+                settled = await self.ask(queries.find_done, [*unsettled.values()])
             except Exception as fault:  # noqa: BLE001 (it is the answer to each who waits)
                 _answer_all(unsettled, fault)
             else:
@@ -308,7 +339,9 @@ class Service:
         found, total = await self.ask(queries.machines, q, kind, int(limit), int(offset))
         return await self._with_cautions(request, {"machines": found, "total": total}, int(limit), int(offset))
 
-    async def machine(self, request: Request, _client: Client, machine: str, q: str, kind: str, limit: str, offset: str) -> Json:
+    async def machine(
+        self, request: Request, _client: Client, machine: str, q: str, kind: str, limit: str, offset: str
+    ) -> Json:
         value = await self.ask(queries.machine, machine, q, kind, int(limit), int(offset))
         if value is None:
             raise Problem(404, f"there is no machine {machine}")
@@ -318,21 +351,35 @@ class Service:
         found, total = await self.ask(queries.advisories, q, kind, int(limit), int(offset))
         return await self._with_cautions(request, {"advisories": found, "total": total}, int(limit), int(offset))
 
-    async def advisory(self, request: Request, _client: Client, advisory: str, kind: str, limit: str, offset: str) -> Json:
+    async def advisory(
+        self, request: Request, _client: Client, advisory: str, kind: str, limit: str, offset: str
+    ) -> Json:
         try:
             value = await self.ask(queries.advisory, advisory, kind, int(limit), int(offset))
-        except queries.Unread as fault:
-            raise Problem(503, "the feeds that were accepted aren't read yet; ask again", {"Retry-After": "10"}) from fault
+        except queries.FeedsUnread as fault:
+            raise Problem(
+                503, "the feeds that were accepted aren't read yet; ask again", {"Retry-After": "10"}
+            ) from fault
         if value is None:
             raise Problem(404, f"the feeds have no advisory {advisory}")
         return await self._with_cautions(request, value, int(limit), int(offset))
 
-    async def _with_cautions(self, request: Request, value: dict[str, Json], limit: int, offset: int) -> dict[str, Json]:
-        """The value, with what has to be known beside it."""
+    async def _with_cautions(
+        self, request: Request, value: dict[str, Json], limit: int, offset: int
+    ) -> dict[str, Json]:
+        """The value, with the warnings that belong beside it."""
         return _paged(request, value | await self.ask(queries.cautions), limit, offset)
 
     async def changes(
-        self, request: Request, _client: Client, since: str, until: str, after: str, machine: str, advisory: str, limit: str
+        self,
+        request: Request,
+        _client: Client,
+        since: str,
+        until: str,
+        after: str,
+        machine: str,
+        advisory: str,
+        limit: str,
     ) -> Json:
         values = _time(since, "since"), _time(until, "until"), int(after), machine, advisory, int(limit)
         found = await self.ask(queries.changes, *values)
@@ -348,16 +395,23 @@ class Service:
 
     async def name(self, _request: Request, _client: Client, cpe: str, **more: str) -> Json:
         state = await self.ask(queries.dictionary)
-        return await run_in_threadpool(naming.about, self._program, self.settings.folder, cpe, more["with"]) | state
+        return await run_in_threadpool(name_forms.about, self._program, self.settings.folder, cpe, more["with"]) | state
 
     async def certificate(self, _request: Request, _client: Client, machine: str, advisory: str) -> Json:
         shard = await self.ask(_shard, machine)
         if shard is None:
             raise Problem(404, f"there is no machine {machine}")
-        message = {"do": "certificate", "machine": machine, "id": advisory, "until": time.time() + self.settings.seconds}
-        worker, busy = self._workers[shard % len(self._workers)], Problem(503, "the workers are busy; ask again", {"Retry-After": "30"})
-        # (who asks for certificates doesn't keep lists waiting)
-        if worker.asked() >= _MOST_ASKED:
+        message = {
+            "do": "certificate",
+            "machine": machine,
+            "id": advisory,
+            "until": time.time() + self.settings.seconds,
+        }
+        worker, busy = self._workers[shard % len(self._workers)], Problem(
+            503, "the workers are busy; ask again", {"Retry-After": "30"}
+        )
+        # (certificates must not delay lists)
+        if worker.pending() >= _MOST_ASKED:
             raise busy
         try:
             found = await worker.ask(message, self.settings.seconds)
@@ -371,7 +425,7 @@ class Service:
 
     async def health(self, _request: Request, _client: Client) -> Json:
         value = await self.ask(queries.health)
-        value["trouble"] = list(map(pathless, value["trouble"]))
+        value["trouble"] = list(map(strip_paths, value["trouble"]))
         value["workers"] = len(self._workers)
         value["restarts"] = sum(max(one.restarts, 0) for one in (*self._workers, self._lists, self._feeds))
         return {"version": VERSION, **value}
@@ -380,7 +434,14 @@ class Service:
         lines, seen = [], set()
         queues = (("lists", self._lists), ("feeds", self._feeds))
         own = [("cpe_queue", "Requests that wait to be kept.", {"queue": name}, one.waiting) for name, one in queues]
-        own += [("cpe_process_restarts", "Processes that were started again.", {}, sum(max(one.restarts, 0) for one in self._workers))]
+        own += [
+            (
+                "cpe_process_restarts",
+                "Processes that were started again.",
+                {},
+                sum(max(one.restarts, 0) for one in self._workers),
+            )
+        ]
         own += [("cpe_listeners", "Clients that listen to events.", {}, self._listeners.total())]
         for name, what, labels, value in [*await self.ask(queries.metrics), *own]:
             if name not in seen:
@@ -406,9 +467,9 @@ class Service:
             raise Problem(503, f"this client listens {_MOST_OF_CLIENT} times already", {"Retry-After": "60"})
         first = f"retry: 3000\n: listening behind {min(begin, last_change) or last_change}\n\n"
         if begin > last_change:
-            # (the changes of this number were in a database that a backup replaced)
+            # (a backup replaced the database that had the changes of this number)
             first += f"event: restored\ndata: {json.dumps({'behind': begin, 'last': last_change})}\n\n"
-        return Listening(self._events(min(begin, last_change) or last_change, first), self._listeners, who)
+        return EventStream(self._events(min(begin, last_change) or last_change, first), self._listeners, who)
 
     async def _events(self, last: int, first: str) -> AsyncIterator[str]:
         yield first
@@ -425,8 +486,8 @@ class Service:
                     yield ": still here\n\n"
 
 
-class Listening(StreamingResponse):
-    """Events for a client, who counts as one of those that listen until it ends."""
+class EventStream(StreamingResponse):
+    """Events for a client, which counts as a listener until the response ends."""
 
     def __init__(self, events: AsyncIterator[str], listeners: Counter[str], who: str) -> None:
         super().__init__(events, media_type="text/event-stream")
@@ -443,7 +504,7 @@ class Listening(StreamingResponse):
 
 
 def _who(client: Client | None, request: Request) -> str:
-    """The client, by name or by address, of whom there are limits."""
+    """The name or address of a client, by which its requests are limited."""
     return client.name if client and client is not ANYONE else f"at {request.client.host if request.client else ''}"
 
 
@@ -467,7 +528,7 @@ def _table(database: Any, name: str) -> str | None:
 
 
 def _paged(request: Request, value: dict[str, Json], limit: int, offset: int) -> dict[str, Json]:
-    """The value, with the address of the next ones."""
+    """The value, with the address of the next page of results."""
     if offset + limit < value["total"]:
         value["next"] = str(request.url.include_query_params(offset=offset + limit).replace(scheme="", netloc=""))
     return value
@@ -499,13 +560,15 @@ def _endpoint(service: Service, route: Route) -> Callable:
         begin = time.monotonic()
         response: Response | None = None
         try:
-            response = await _answered(service, route, request)
+            response = await _answer_request(service, route, request)
         except Problem as fault:
             response = _problem(fault, request)
-        except Gone:
-            response = _problem(Problem(503, "a process of the service ended meanwhile; ask again", {"Retry-After": "5"}), request)
+        except ProcessEnded:
+            response = _problem(
+                Problem(503, "a process of the service ended meanwhile; ask again", {"Retry-After": "5"}), request
+            )
         except Fatal as fault:
-            response = _problem(Problem(503, pathless(str(fault))), request)
+            response = _problem(Problem(503, strip_paths(str(fault))), request)
         except OSError as fault:
             response = _problem(Problem(503, f"the system refuses it: {os.strerror(fault.errno or 0)}"), request)
         except Exception as fault:  # noqa: BLE001 (whatever it is, the client gets an answer, and the log has it)
@@ -521,7 +584,7 @@ def _endpoint(service: Service, route: Route) -> Callable:
     return endpoint
 
 
-async def _answered(service: Service, route: Route, request: Request) -> Response:
+async def _answer_request(service: Service, route: Route, request: Request) -> Response:
     client = service.let_in(request, route.is_writing)
     values = {**read_path(request, route.parameters), **read_query(request, route.parameters)}
     found = await getattr(service, route.name)(request, client, **values)
@@ -534,23 +597,28 @@ async def _answered(service: Service, route: Route, request: Request) -> Respons
 
 async def _http_fault(request: Request, fault: HTTPException) -> Response:
     known = {404: "there is no such address; /openapi.json lists them", 405: f"{request.method} isn't taken here"}
-    return _problem(Problem(fault.status_code, known.get(fault.status_code, str(fault.detail)), getattr(fault, "headers", None)), request)
+    return _problem(
+        Problem(fault.status_code, known.get(fault.status_code, str(fault.detail)), getattr(fault, "headers", None)),
+        request,
+    )
 
 
 async def _front(_request: Request) -> Response:
     return RedirectResponse("/machines")
 
 
-def made(settings: Settings) -> tuple[Starlette, Service]:
+def create_app(settings: Settings) -> tuple[Starlette, Service]:
     """The application, and the service behind it."""
     service = Service(settings)
     addresses = [Address("/", _front), *(Address(f"/assets/{name}", _asset_of(name)) for name in pages.ASSETS)]
     for route in ROUTES:
-        # (an id is what feeds have, a slash too)
+        # (the id of an advisory is any text of a feed, and may have a slash)
         path = route.path.replace("{advisory}", "{advisory:path}")
         addresses.append(Address(path, _endpoint(service, route), methods=[route.method]))
     handlers = {HTTPException: _http_fault}
-    app = Starlette(routes=addresses, exception_handlers=handlers, on_startup=[service.start], on_shutdown=[service.end])
+    app = Starlette(
+        routes=addresses, exception_handlers=handlers, on_startup=[service.start], on_shutdown=[service.end]
+    )
     app.router.redirect_slashes = False
     return app, service
 
@@ -558,6 +626,8 @@ def made(settings: Settings) -> tuple[Starlette, Service]:
 def _asset_of(name: str) -> Callable:
     async def asset(_request: Request) -> Response:
         body, kind = pages.ASSETS[name]
-        return Response(body, media_type=kind, headers={"Cache-Control": "max-age=3600", "X-Content-Type-Options": "nosniff"})
+        return Response(
+            body, media_type=kind, headers={"Cache-Control": "max-age=3600", "X-Content-Type-Options": "nosniff"}
+        )
 
     return asset

@@ -1,4 +1,5 @@
-"""Which machines a worker judges at this moment, so no other worker judges the same ones. A claim ends with its process at the latest."""
+"""Which machines a worker judges at this moment, so no other worker judges the same ones. A claim ends with its process
+at the latest."""
 from __future__ import annotations
 
 import fcntl
@@ -10,7 +11,7 @@ NAME = "claims"
 
 
 class Claims:
-    """The claims of a process: locks of bytes of a file, of which each has the number of a machine."""
+    """The claims of a process: locks on bytes of a file; the place of a byte is the number of a machine."""
 
     def __init__(self, folder: Path) -> None:
         self._file = os.open(folder / NAME, os.O_RDWR | os.O_CREAT, 0o600)

@@ -1,10 +1,10 @@
-"""The database: what was accepted, what was judged of it, and which verdicts changed when.
+"""The database: what was accepted, the verdicts, and which verdicts changed when.
 
-Each thing that was accepted is an edit: a list that was put or deleted, a feed, or a table of settings. Edits have numbers that grow.
-The ground is all that isn't a list. A machine has the edit of its list (`put`), and the two edits of which its verdicts are: that of its
-list (`judged_put`) and that of the ground (`judged_ground`). It waits while one of these is older than the edit that counts now. So the
-work that is left is always in the database, and a process that is started again continues with it. If there was no result then, what is
-shown is of the two edits before (`result_put`, `result_ground`).
+Everything that was accepted is an edit: a list that was put or deleted, a feed, or a table of settings. The numbers of
+edits grow. The ground is everything except lists. A machine has the edit of its list (`put`). Its verdicts have two
+edits: that of their list (`judged_put`), and that of their ground (`judged_ground`). The machine waits while one of
+these is older than the current one. So the database always has the remaining work, and a restarted process continues
+with it. If judging had no result, the shown verdicts are those of two earlier edits (`result_put`, `result_ground`).
 """
 from __future__ import annotations
 
@@ -22,10 +22,11 @@ VERSION = 3
 # How long a writer waits for another one.
 _SECONDS = 300
 
-# The edits that change what each machine is judged by.
+# The kinds of edits that change the ground.
 GROUND = ("feed", "names", "letters", "suppression", "settled")
 
-# How many machines have a verdict of a kind is counted where verdicts are written, since there may be millions of these.
+# The number of machines for each kind of verdict is kept up to date by triggers, because there may be millions of
+# verdicts.
 _ONE_MORE = "INSERT INTO affected VALUES (new.advisory, new.kind, 1) ON CONFLICT DO UPDATE SET machines = machines + 1;"
 _ONE_LESS = (
     "UPDATE affected SET machines = machines - 1 WHERE advisory = old.advisory AND kind = old.kind; "
@@ -68,9 +69,13 @@ CREATE INDEX records_by_key ON records (kind, key);
 CREATE INDEX records_by_feed ON records (feed);
 CREATE TABLE tables (name TEXT PRIMARY KEY, text TEXT NOT NULL);
 CREATE TABLE notes (name TEXT PRIMARY KEY, text TEXT NOT NULL);
-""".replace("{ONE_MORE}", _ONE_MORE).replace("{ONE_LESS}", _ONE_LESS)
+""".replace(
+    "{ONE_MORE}", _ONE_MORE
+).replace(
+    "{ONE_LESS}", _ONE_LESS
+)
 _STATEMENTS = [one for one in _SCHEMA.split(";\n") if one.strip()]
-# What makes this version of the one before: what is new, and what it counts.
+# The statements that make this version of the database from version 2.
 _SINCE_2 = [
     "DROP INDEX verdicts_by_advisory",
     *(one for one in _STATEMENTS if "verdicts_by_advisory" in one or "affected" in one),
@@ -79,7 +84,7 @@ _SINCE_2 = [
 
 
 class Database(sqlite3.Connection):
-    """A connection, and for one that writes the file whose lock is its turn to write."""
+    """A connection; if it writes, also the file whose lock is its turn to write."""
 
     turn: IO[bytes] | None = None
 
@@ -93,11 +98,16 @@ class OtherVersion(Exception):
     """The data folder is of another version of the service."""
 
 
-def connected(folder: Path, is_reader: bool = False) -> Database:
-    """A connection to the database of a data folder. What a writer committed is on the disk."""
+def connect(folder: Path, is_reader: bool = False) -> Database:
+    """A connection to the database of a data folder. A writer's commits are on the disk."""
     mode = "ro" if is_reader else "rwc"
     found = sqlite3.connect(
-        f"{(folder / NAME).resolve().as_uri()}?mode={mode}", _SECONDS, uri=True, isolation_level=None, check_same_thread=False, factory=Database
+        f"{(folder / NAME).resolve().as_uri()}?mode={mode}",
+        _SECONDS,
+        uri=True,
+        isolation_level=None,
+        check_same_thread=False,
+        factory=Database,
     )
     found.row_factory = sqlite3.Row
     if not is_reader:
@@ -108,9 +118,9 @@ def connected(folder: Path, is_reader: bool = False) -> Database:
     return found
 
 
-def made(folder: Path) -> None:
-    """Makes the database of a data folder, if there is none, or this version of one of the version before."""
-    with contextlib.closing(connected(folder)) as database, writing(database):
+def create(folder: Path) -> None:
+    """Creates the database of a data folder, if there is none, or converts one of the earlier version."""
+    with contextlib.closing(connect(folder)) as database, write_transaction(database):
         version = database.execute("PRAGMA user_version").fetchone()[0]
         if version == VERSION:
             return
@@ -122,7 +132,7 @@ def made(folder: Path) -> None:
 
 
 @contextlib.contextmanager
-def writing(database: Database) -> Iterator[Database]:
+def write_transaction(database: Database) -> Iterator[Database]:
     """A transaction that writes: all of it, or nothing if an exception ends it."""
     with _in_turn(database.turn):
         with _transaction(database):
@@ -131,8 +141,8 @@ def writing(database: Database) -> Iterator[Database]:
 
 @contextlib.contextmanager
 def _in_turn(turn: IO[bytes] | None) -> Iterator[None]:
-    """Waits for its turn to write. (SQLite looks now and then whether nobody writes, so where some write often another may wait for long.
-    The system opens the lock again if a process ends.)"""
+    """Waits for the turn to write. (SQLite itself only polls for a writer's end, so among frequent writers one may wait
+    for long. If a process ends, the system releases its lock.)"""
     if turn is None:
         yield
         return
@@ -157,8 +167,8 @@ def _transaction(database: Database) -> Iterator[None]:
 
 
 @contextlib.contextmanager
-def reading(database: sqlite3.Connection) -> Iterator[sqlite3.Connection]:
-    """A transaction in which all that is read is of one moment."""
+def read_transaction(database: sqlite3.Connection) -> Iterator[sqlite3.Connection]:
+    """A transaction in which everything that is read is of one moment."""
     database.execute("BEGIN")
     try:
         yield database
@@ -181,22 +191,24 @@ def ground_of(database: sqlite3.Connection) -> int:
     return database.execute(f"SELECT coalesce(max(id), 0) FROM edits WHERE kind IN ({marks})").fetchone()[0]
 
 
-def note(database: sqlite3.Connection, name: str, text: str) -> None:
+def write_note(database: sqlite3.Connection, name: str, text: str) -> None:
     """Keeps a text under a name."""
-    database.execute("INSERT INTO notes VALUES (?, ?) ON CONFLICT (name) DO UPDATE SET text = excluded.text", (name, text))
+    database.execute(
+        "INSERT INTO notes VALUES (?, ?) ON CONFLICT (name) DO UPDATE SET text = excluded.text", (name, text)
+    )
 
 
-def noted(database: sqlite3.Connection, name: str, otherwise: str = "") -> str:
+def read_note(database: sqlite3.Connection, name: str, otherwise: str = "") -> str:
     """The text under a name."""
     row = database.execute("SELECT text FROM notes WHERE name = ?", (name,)).fetchone()
     return otherwise if row is None else row[0]
 
 
-def packed(data: bytes) -> bytes:
+def pack(data: bytes) -> bytes:
     """Bytes as the database keeps them."""
     return zlib.compress(data, 3)
 
 
-def unpacked(data: bytes) -> bytes:
+def unpack(data: bytes) -> bytes:
     """Bytes that the database keeps."""
     return zlib.decompress(data)

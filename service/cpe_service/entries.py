@@ -1,4 +1,5 @@
-"""The dictionary as people search it: a separate file, which the first worker writes again after each change of the dictionary."""
+"""The dictionary for searches: a separate file, which the first worker writes again after each change of the
+dictionary."""
 from __future__ import annotations
 
 import contextlib
@@ -18,18 +19,18 @@ from .texts import whole
 
 NAME = "names.db"
 _WORD = re.compile(r"\w+")
-# Of how many steps of deprecations a chain is drawn.
+# At most this many steps of deprecations of a chain are followed.
 _MOST_STEPS = 1_000
 
 
 def write(folder: Path, records: Sequence[str]) -> None:
-    """Writes the file, unless it is of these records already. Whoever reads sees the old one or the new one, whole."""
+    """Writes the file, unless it already has these records. Readers see the old file or the new one, whole."""
     digest = hashlib.sha256()
     for record in records:
         digest.update(record.encode(errors="replace"))
     sum, path = digest.hexdigest(), folder / NAME
     if path.exists():
-        with contextlib.closing(opened(folder)) as before, contextlib.suppress(sqlite3.Error):
+        with contextlib.closing(open_entries(folder)) as before, contextlib.suppress(sqlite3.Error):
             if before.execute("SELECT sum FROM about").fetchone()[0] == sum:
                 return
     beside = folder / f".{NAME}.{os.getpid()}"
@@ -46,7 +47,9 @@ def _fill(database: sqlite3.Connection, records: Iterable[str], sum: str) -> Non
     database.execute("PRAGMA journal_mode = OFF")
     database.execute("BEGIN")
     database.execute("CREATE TABLE about (sum TEXT NOT NULL)")
-    database.execute("CREATE TABLE entries (id INTEGER PRIMARY KEY, name TEXT NOT NULL, title TEXT NOT NULL, record TEXT NOT NULL, change TEXT)")
+    database.execute(
+        "CREATE TABLE entries (id INTEGER PRIMARY KEY, name TEXT NOT NULL, title TEXT NOT NULL, record TEXT NOT NULL, change TEXT)"
+    )
     database.execute("CREATE VIRTUAL TABLE words USING fts5 (text, content = '', tokenize = 'unicode61')")
     numbers: dict[str, int] = {}
     for record in records:
@@ -70,20 +73,20 @@ def _words_of(name: str) -> str:
     return " ".join(part.replace("\\", "").replace("_", " ") for part in parts if part not in (names.ANY, names.NA))
 
 
-def opened(folder: Path) -> sqlite3.Connection:
-    """The file, to read it."""
+def open_entries(folder: Path) -> sqlite3.Connection:
+    """Opens the file for reading."""
     found = sqlite3.connect(f"{(folder / NAME).resolve().as_uri()}?mode=ro", uri=True, check_same_thread=False)
     found.row_factory = sqlite3.Row
     return found
 
 
 def search(folder: Path, text: str, limit: int, offset: int) -> tuple[list[dict[str, Json]], int]:
-    """The entries that have all of these words, or words that begin so, best first; and how many there are."""
+    """The entries with all these words, or with words that begin with them, best first; and how many there are."""
     words = _WORD.findall(text.replace("_", " ").lower())
     if not words or not (folder / NAME).exists():
         return [], 0
     wanted = " ".join(f'"{word}"*' for word in words)
-    with contextlib.closing(opened(folder)) as database:
+    with contextlib.closing(open_entries(folder)) as database:
         rows = database.execute(
             "SELECT name, title, change FROM words JOIN entries ON entries.id = words.rowid WHERE words MATCH ? "
             "ORDER BY change IS NOT NULL, bm25(words), name LIMIT ? OFFSET ?",
@@ -99,22 +102,27 @@ def _found(row: sqlite3.Row) -> dict[str, Json]:
 
 
 def chain(folder: Path, program: Program, name: str) -> tuple[dict[str, list[str]], list[str]]:
-    """To which names deprecated ones lead, and what `cpe resolve` says of the chain of a name, over the entries to which it may lead."""
+    """The successors of deprecated names, and the answer of `cpe resolve` about the chain of a name, over the entries
+    to which it may lead."""
     found: dict[str, str] = {}
     changes: dict[str, str] = {}
     if (folder / NAME).exists():
-        with contextlib.closing(opened(folder)) as database:
+        with contextlib.closing(open_entries(folder)) as database:
             _follow(database, name, found, changes)
     lines = program.run(["resolve"], [*found.values(), *changes.values(), record_text({"do": "chain", "name": name})])
     return {here: _successors(change) for here, change in changes.items()}, lines
 
 
 def _follow(database: sqlite3.Connection, name: str, found: dict[str, str], changes: dict[str, str]) -> None:
-    """Puts the entries of a chain, and its deprecations."""
+    """Adds the entries of a chain, and its deprecations."""
     waiting = [name]
     while waiting and len(found) < _MOST_STEPS:
         here = waiting.pop()
-        row = None if here in found else database.execute("SELECT record, change FROM entries WHERE name = ?", (here,)).fetchone()
+        row = (
+            None
+            if here in found
+            else database.execute("SELECT record, change FROM entries WHERE name = ?", (here,)).fetchone()
+        )
         if row is not None:
             found[here] = row["record"]
             if row["change"]:

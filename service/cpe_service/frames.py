@@ -10,15 +10,15 @@ Message = dict[str, Any]
 _HEAD = struct.Struct(">II")
 
 
-def framed(message: Message, body: bytes = b"") -> bytes:
-    """A message as it is sent."""
+def encode(message: Message, body: bytes = b"") -> bytes:
+    """The bytes of a message."""
     text = json.dumps(message).encode()
     return _HEAD.pack(len(text), len(body)) + text + body
 
 
 def write(stream: IO[bytes], message: Message, body: bytes = b"") -> None:
     """Sends a message."""
-    stream.write(framed(message, body))
+    stream.write(encode(message, body))
     stream.flush()
 
 
@@ -32,7 +32,7 @@ def read(stream: IO[bytes]) -> tuple[Message, bytes] | None:
     return (json.loads(text), body) if len(body) == body_size and len(text) == text_size else None
 
 
-async def received(stream: asyncio.StreamReader) -> tuple[Message, bytes]:
+async def receive(stream: asyncio.StreamReader) -> tuple[Message, bytes]:
     """The next message. asyncio.IncompleteReadError at the end."""
     text_size, body_size = _HEAD.unpack(await stream.readexactly(_HEAD.size))
     text = await stream.readexactly(text_size)

@@ -1,6 +1,8 @@
-"""The verdicts of machines over a ground: `scan.py`'s own steps, of which those that no machine changes are done once (kept.py).
+"""Judges machines by a ground, by the steps of `scan.py`; the steps that are the same for all machines are done once
+(judge_cache.py).
 
-If a machine was judged by an older ground, those advisories alone are asked that changed since then (changed.py).
+If a machine was judged by an older ground, only the advisories are evaluated that changed since then
+(ground_changes.py).
 """
 from __future__ import annotations
 
@@ -10,26 +12,26 @@ from dataclasses import dataclass, replace
 
 from cpe_recipes import affected
 from cpe_recipes.components import Machine
-from cpe_recipes.deciding import Deciding
+from cpe_recipes.explanations import Explainer
 from cpe_recipes.feeds import Json
-from cpe_recipes.naming import name_machines, wanted_names
-from cpe_recipes.outcome import Found, Hanging, json_of, machines_with_verdicts
+from cpe_recipes.outcome import MachineOutcome, OutcomeReasons, json_of, machines_with_verdicts
+from cpe_recipes.package_names import name_machines, wanted_names
 from cpe_recipes.program import Program
 from cpe_recipes.verdicts import Machine as Verdicts
 
-from .changed import Basis, Changed, Order, part_of
 from .ground import Ground
-from .kept import KeptScan
-from .quiet import Quiet
+from .ground_changes import Basis, GroundChange, Order, part_of
+from .judge_cache import CachedScan
+from .message_list import MessageList
 
 ACCEPTED = "accepted"
 
 
 @dataclass(frozen=True)
-class Judged:
-    """The result of a machine: the row as `scan.py --json --why` has it, what was left out of its items, the kinds of its verdicts by
-    their advisories, except those that are FALSE, and who judged it. If `ids` is there, it has the verdicts of these advisories alone, and
-    the others are as they were."""
+class MachineResult:
+    """The result of a machine: its row as in `scan.py --json --why`, what was left out, the kinds of its verdicts by
+    their advisories, except FALSE, and the judge. If `ids` is given, it has only the verdicts of these advisories, and
+    all others are unchanged."""
 
     name: str
     row: dict[str, Json]
@@ -44,20 +46,22 @@ class Judge:
     """Judges machines by a ground."""
 
     def __init__(self, program: Program, ground: Ground, whole: Judge | None = None) -> None:
-        """If `whole` is given, it judges by all advisories, of which the ground has some."""
+        """If `whole` is given, it judges by all advisories, and this ground has some of them."""
         self.ground, self._program = ground, program
-        self._scan = KeptScan(program, ground, whole._scan if whole else None)
-        self._deciding = self._scan.deciding
-        self._about = affected.About(ground.known.details, ground.suppressed, Hanging(ground.known, ()))
-        self._asked = frozenset(ground.known.ids.advisories)
+        self._scan = CachedScan(program, ground, whole._scan if whole else None)
+        self._explainer = self._scan.explainer
+        self._about = affected.AdvisoryContext(
+            ground.feed_data.details, ground.suppressions, OutcomeReasons(ground.feed_data, ())
+        )
+        self._asked = frozenset(ground.feed_data.ids.advisories)
         self._parts: dict[frozenset[str], Judge] = {}
         self._basis: Basis | None = None
 
     @property
     def basis(self) -> Basis | None:
-        """What is kept of the ground after it."""
+        """The data of the ground that is kept for comparisons."""
         if self._basis is None:
-            self._basis = Basis.of(self.ground, self._scan.names.wanted, self._scan.names.feed)
+            self._basis = Basis.of(self.ground, self._scan.names.fact_attributes, self._scan.names.feed)
         return self._basis
 
     @functools.cached_property
@@ -65,49 +69,60 @@ class Judge:
         """The order of the verdicts of a machine."""
         return Order(self.ground, self._about)
 
-    def judge(self, machines: Sequence[Machine], asked: Deciding | None = None) -> list[Judged]:
-        """The results of the machines. If it is given, `asked` is asked in place of what says which items decide."""
-        said = Quiet()
-        return [self._judged(*of_one, said) for of_one in zip(*self._rows(machines, said, asked))]
+    def judge(self, machines: Sequence[Machine], asked: Explainer | None = None) -> list[MachineResult]:
+        """The results of the machines. `asked`, if given, explains the verdicts."""
+        messages = MessageList()
+        return [self._result_of(*of_one, messages) for of_one in zip(*self._rows(machines, messages, asked))]
 
-    def judge_changed(self, machines: Sequence[Machine], changed: Changed) -> list[Judged | None]:
-        """The results of the advisories that changed since the machines were judged. None for one of which all has to be judged again."""
-        said, part = Quiet(), self._part(changed.ids)
-        found, *rest = part._rows(machines, said, None)
+    def judge_changed(self, machines: Sequence[Machine], changed: GroundChange) -> list[MachineResult | None]:
+        """The results for the advisories that changed since the machines were judged. None for a machine that has to be
+        judged again completely."""
+        messages, part = MessageList(), self._part(changed.ids)
+        outcomes, *rest = part._rows(machines, messages, None)
         return [
-            None if changed.may_rename(one, self.ground.letters) else replace(part._judged(one, *of_one, said), judge=self, ids=changed.ids)
-            for one, *of_one in zip(found, *rest)
+            None
+            if changed.may_rename(one, self.ground.letters)
+            else replace(part._result_of(one, *of_one, messages), judge=self, ids=changed.ids)
+            for one, *of_one in zip(outcomes, *rest)
         ]
 
     def _part(self, ids: frozenset[str]) -> Judge:
-        """Judges by these advisories alone."""
+        """A judge of these advisories alone."""
         if ids not in self._parts:
             self._end_parts()
             self._parts[ids] = Judge(self._program, part_of(self.ground, ids), self)
         return self._parts[ids]
 
-    def _rows(self, machines: Sequence[Machine], said: Quiet, asked: Deciding | None) -> tuple[list[Found], list[Verdicts], list[Json]]:
-        """What is found of the machines, with their verdicts, and as rows."""
+    def _rows(
+        self, machines: Sequence[Machine], messages: MessageList, asked: Explainer | None
+    ) -> tuple[list[MachineOutcome], list[Verdicts], list[Json]]:
+        """The outcomes of the machines, their verdicts, and their rows."""
         ground = self.ground
-        self._scan.deciding = asked or self._deciding
-        unnamed = name_machines(machines, ground.names, self._scan.names.entries.of(wanted_names(machines, ground.names)))
-        found = self._scan.machines(machines)
-        self._scan.tell_items(found, said, "")
-        verdicts = machines_with_verdicts(ground.known, self._scan.bare, found)
-        # (which lines settle nothing can be said of all machines together alone)
-        ground.settled.settle(verdicts, Quiet())
-        self._about.hanging = Hanging(ground.known, found)
-        return found, verdicts, json_of(ground.known, found, verdicts, self._about, unnamed)["machines"]
+        self._scan.explainer = asked or self._explainer
+        unnamed = name_machines(
+            machines, ground.names, self._scan.names.entries.of(wanted_names(machines, ground.names))
+        )
+        outcomes = self._scan.machines(machines)
+        self._scan.report_items(outcomes, messages, "")
+        verdicts = machines_with_verdicts(ground.feed_data, self._scan.bare, outcomes)
+        # (lines that settle nothing can only be found with all machines, so they aren't reported here)
+        ground.settlements.settle(verdicts, MessageList())
+        self._about.verdict_reasons = OutcomeReasons(ground.feed_data, outcomes)
+        return outcomes, verdicts, json_of(ground.feed_data, outcomes, verdicts, self._about, unnamed)["machines"]
 
-    def _judged(self, found: Found, machine: Verdicts, row: dict[str, Json], said: Quiet) -> Judged:
-        kinds = {one["id"]: ACCEPTED if "accepted" in one else machine.kind(one["id"]) for one in row.get("verdicts", ())}
+    def _result_of(
+        self, outcome: MachineOutcome, machine: Verdicts, row: dict[str, Json], messages: MessageList
+    ) -> MachineResult:
+        kinds = {
+            one["id"]: ACCEPTED if "accepted" in one else machine.kind(one["id"]) for one in row.get("verdicts", ())
+        }
         kinds = {id: kind for id, kind in kinds.items() if kind != "FALSE"}
-        name = found.machine.name
-        left_out = [{"id": id, "reason": reason} for id, reason, _ in said.noted if id == name]
-        return Judged(name, row, {"leftOut": left_out, "remarks": []}, kinds, found.has_items(), self)
+        name = outcome.machine.name
+        left_out = [{"id": id, "reason": reason} for id, reason, _ in messages.noted if id == name]
+        return MachineResult(name, row, {"leftOut": left_out, "remarks": []}, kinds, outcome.has_items(), self)
 
-    def now(self, advisory: str, has_items: bool) -> tuple[str, str]:
-        """The verdict of an advisory that isn't among the kinds of a machine: FALSE, or none with the reason."""
+    def current_verdict(self, advisory: str, has_items: bool) -> tuple[str, str]:
+        """The verdict of an advisory that isn't among a machine's kinds: FALSE, or none with the reason."""
         if not has_items:
             return "none", "no items"
         return ("FALSE", "") if advisory in self._asked else ("none", self.ground.why_none(advisory))

@@ -1,4 +1,5 @@
-"""The answers as pages for people: the same values as the JSON has. They are plain tables and forms, which work without scripts.
+"""The answers as pages for people: the same values as the JSON has. They are plain tables and forms, which work without
+scripts.
 
 All text of the data is escaped. A page may load nothing except the style and the script of the service itself.
 """
@@ -9,8 +10,8 @@ import urllib.parse
 from collections.abc import Iterator, Mapping, Sequence
 from pathlib import Path
 
+from cpe_recipes.console import escape
 from cpe_recipes.feeds import Json
-from cpe_recipes.said import shown
 from starlette.requests import Request
 
 from . import RECIPES
@@ -25,7 +26,13 @@ ASSETS = {
     "style.css": ((RECIPES / "report.css").read_bytes() + (_HERE / "pages.css").read_bytes(), "text/css"),
     "live.js": ((_HERE / "live.js").read_bytes(), "text/javascript"),
 }
-_LINKS = (("/machines", "Machines"), ("/advisories", "Advisories"), ("/changes", "Changes"), ("/names", "Names"), ("/health", "Health"))
+_LINKS = (
+    ("/machines", "Machines"),
+    ("/advisories", "Advisories"),
+    ("/changes", "Changes"),
+    ("/names", "Names"),
+    ("/health", "Health"),
+)
 _LEVELS = ((9.0, "critical"), (7.0, "high"), (4.0, "medium"), (0.0, "low"))
 _MEANINGS = (
     ("TRUE", "the machine is affected"),
@@ -39,27 +46,27 @@ _MOST_SHOWN = 6
 
 
 def is_wanted(request: Request) -> bool:
-    """Whether who asks wants a page, as browsers do."""
+    """Whether the client wants a page, as browsers do."""
     accepted = request.headers.get("accept", "")
     return "text/html" in accepted and not accepted.startswith("application/json")
 
 
 def text(data: Json) -> str:
     """A text of the data as HTML."""
-    return html.escape(shown(str(data)))
+    return html.escape(escape(str(data)))
 
 
 def page(name: str, value: Mapping[str, Json], asked: Mapping[str, str]) -> str:
     """The page of an answer."""
-    return "".join(_framed(name, _TITLES[name](asked), _PAGES[name](value, asked)))
+    return "".join(_frame(name, _TITLES[name](asked), _PAGES[name](value, asked)))
 
 
 def problem(value: Mapping[str, Json]) -> str:
-    """The page of a request that is refused."""
-    return "".join(_framed("", str(value["title"]), [f'<p class="none">{text(value["detail"])}.</p>\n']))
+    """The page of a refused request."""
+    return "".join(_frame("", str(value["title"]), [f'<p class="none">{text(value["detail"])}.</p>\n']))
 
 
-def _framed(name: str, title: str, pieces: Sequence[str] | Iterator[str]) -> Iterator[str]:
+def _frame(name: str, title: str, pieces: Sequence[str] | Iterator[str]) -> Iterator[str]:
     here = {"machine": "machines", "certificate": "machines", "advisory": "advisories", "name": "names"}.get(name, name)
     yield f'<!DOCTYPE html>\n<html lang="en">\n<head>\n<meta charset="utf-8">\n<title>{text(title)} - cpe</title>\n'
     yield '<meta name="viewport" content="width=device-width, initial-scale=1">\n<meta name="color-scheme" content="light dark">\n'
@@ -90,7 +97,9 @@ def _query(path: str, **values: str) -> str:
     return f"{path}?{urllib.parse.urlencode(values)}"
 
 
-def _table(header: Sequence[str], rows: Iterator[Sequence[str]] | Sequence[Sequence[str]], caption: str) -> Iterator[str]:
+def _table(
+    header: Sequence[str], rows: Iterator[Sequence[str]] | Sequence[Sequence[str]], caption: str
+) -> Iterator[str]:
     """A table of cells that are HTML; the first cell of a row is its header."""
     yield f'<div class="wide" tabindex="0" role="region" aria-label="{text(caption)}"><table><caption>{text(caption)}</caption>\n<thead><tr>'
     yield "".join(f'<th scope="col">{text(one)}' for one in header) + "</thead>\n<tbody>\n"
@@ -100,7 +109,7 @@ def _table(header: Sequence[str], rows: Iterator[Sequence[str]] | Sequence[Seque
 
 
 def _form(path: str, asked: Mapping[str, str], *fields: tuple[str, str]) -> Iterator[str]:
-    """A form of texts and kinds, whose answer is the same page."""
+    """A form with texts and kinds, which leads to the same page."""
     yield f'<form action="{html.escape(path)}" method="get" role="search">\n'
     for name, label in fields:
         if name == "kind":
@@ -112,7 +121,9 @@ def _form(path: str, asked: Mapping[str, str], *fields: tuple[str, str]) -> Iter
 
 
 def _more(value: Mapping[str, Json]) -> str:
-    return f'<p><a rel="next" href="{html.escape(value["next"])}">Show the next ones</a></p>\n' if "next" in value else ""
+    return (
+        f'<p><a rel="next" href="{html.escape(value["next"])}">Show the next ones</a></p>\n' if "next" in value else ""
+    )
 
 
 def _kind(kind: str) -> str:
@@ -143,27 +154,37 @@ def _time(value: Json) -> str:
 
 
 def _list(texts: Sequence[Json]) -> str:
-    """Some texts, of which those behind the first ones are folded."""
+    """Some texts; all after the first ones are folded."""
     lines = [f"<li>{text(one)}" for one in texts]
     folded = f"<details><summary>{len(lines) - _MOST_SHOWN:,} more</summary><ul>{''.join(lines[_MOST_SHOWN:])}</ul></details>"
     return f"<ul>{''.join(lines[:_MOST_SHOWN])}</ul>{folded if len(lines) > _MOST_SHOWN else ''}"
 
 
 def _missing(title: str, texts: Sequence[Json]) -> Iterator[str]:
-    """What was not read, which is never left unsaid."""
+    """What was not read, which each page shows."""
     if texts:
         yield f'<section class="missing"><h2>{text(title)} <small>{len(texts):,}</small></h2>{_list(texts)}</section>\n'
 
 
 _UNJUDGED = (
-    ("waiting", "1 machine is", "machines are", "not judged yet by the newest list or feeds, so what is shown is older, or missing"),
-    ("faults", "1 machine has", "machines have", "no result of the newest list (state fault), so what is shown is older, or missing"),
+    (
+        "waiting",
+        "1 machine is",
+        "machines are",
+        "not judged yet by the newest list or feeds, so what is shown is older, or missing",
+    ),
+    (
+        "faults",
+        "1 machine has",
+        "machines have",
+        "no result of the newest list (state fault), so what is shown is older, or missing",
+    ),
     ("noItems", "1 machine has", "machines have", "no items, so there are no verdicts"),
 )
 
 
 def _waits(value: Mapping[str, Json]) -> Iterator[str]:
-    """What has to be known beside a list of verdicts."""
+    """What has to be shown beside a list of verdicts."""
     found = []
     for key, of_one, of_more, what in _UNJUDGED:
         if count := value.get(key):
@@ -179,10 +200,22 @@ def _waits(value: Mapping[str, Json]) -> Iterator[str]:
 def _health(value: Mapping[str, Json], _asked: Mapping[str, str]) -> Iterator[str]:
     yield from _waits(value | {"feedsLeftOut": 0})
     yield from _missing("Trouble", value["trouble"])
-    yield from _missing("Feeds of which pages are missing", [f"{one['kind']} {one['name']}, since {one['at']}" for one in value["feedsWaiting"]])
-    yield from _missing("Not read of the feeds and tables", [f"{one['id']}: {one['reason']}" for one in value.get("leftOut", ())])
-    names = (("machines", "Machines"), ("waiting", "Machines that wait"), ("faults", "Machines without a result"), ("workers", "Workers"))
-    rows = [(called, f"{value[name]:,}") for name, called in (*names, ("restarts", "Processes that were started again"))]
+    yield from _missing(
+        "Feeds of which pages are missing",
+        [f"{one['kind']} {one['name']}, since {one['at']}" for one in value["feedsWaiting"]],
+    )
+    yield from _missing(
+        "Not read of the feeds and tables", [f"{one['id']}: {one['reason']}" for one in value.get("leftOut", ())]
+    )
+    names = (
+        ("machines", "Machines"),
+        ("waiting", "Machines that wait"),
+        ("faults", "Machines without a result"),
+        ("workers", "Workers"),
+    )
+    rows = [
+        (called, f"{value[name]:,}") for name, called in (*names, ("restarts", "Processes that were started again"))
+    ]
     rows += [(f"Last feed of the {text(one['kind'])}", _time(one["last"])) for one in value["feeds"]]
     yield from _table(("What", "Now"), rows, "The state of the service")
     if value.get("remarks"):
@@ -190,9 +223,13 @@ def _health(value: Mapping[str, Json], _asked: Mapping[str, str]) -> Iterator[st
 
 
 def _older_names(value: Mapping[str, Json]) -> Iterator[str]:
-    """That there is no dictionary yet, or a newer one."""
+    """A note if there is no dictionary yet, or a newer one."""
     if (state := value["dictionary"]) != "current":
-        what = "No dictionary was given yet" if state == "none" else "The newest dictionary isn't read yet, so names may be missing, or older"
+        what = (
+            "No dictionary was given yet"
+            if state == "none"
+            else "The newest dictionary isn't read yet, so names may be missing, or older"
+        )
         yield f'<p class="none">{what}.</p>\n'
 
 
@@ -200,7 +237,12 @@ def _machines(value: Mapping[str, Json], asked: Mapping[str, str]) -> Iterator[s
     yield from _waits(value)
     yield from _form("/machines", asked, ("q", "Name"), ("kind", "With a verdict"))
     rows = (
-        (_link(_path("machines", one["name"]), one["name"]), text(one["state"]), _counts(one["counts"]), _time(one["judged"]))
+        (
+            _link(_path("machines", one["name"]), one["name"]),
+            text(one["state"]),
+            _counts(one["counts"]),
+            _time(one["judged"]),
+        )
         for one in value["machines"]
     )
     yield from _table(("Machine", "State", "Verdicts", "Judged (UTC)"), rows, f"{value['total']:,} machines")
@@ -226,18 +268,34 @@ def _machine(value: Mapping[str, Json], asked: Mapping[str, str]) -> Iterator[st
 
 
 def _verdict(machine: str, one: Mapping[str, Json]) -> tuple[str, ...]:
-    why = [*([f"accepted: {one['accepted']}"] if "accepted" in one else ()), *([f"settled: {one['settled']}"] if "settled" in one else ())]
+    why = [
+        *([f"accepted: {one['accepted']}"] if "accepted" in one else ()),
+        *([f"settled: {one['settled']}"] if "settled" in one else ()),
+    ]
     why += [*one.get("hangsOn", ()), *one.get("decidedBy", ()), *one.get("remarks", ())]
     certificate = _link(_path("certificates", machine, one["id"]), f"the certificate of {one['id']}")
     advisory = _link(_path("advisories", one["id"]), one["id"])
-    return advisory, _kind(_kind_of(one)), _score(one), _time(one.get("since")), text(one.get("title", "")), f"{_list(why)}{certificate}"
+    return (
+        advisory,
+        _kind(_kind_of(one)),
+        _score(one),
+        _time(one.get("since")),
+        text(one.get("title", "")),
+        f"{_list(why)}{certificate}",
+    )
 
 
 def _advisories(value: Mapping[str, Json], asked: Mapping[str, str]) -> Iterator[str]:
     yield from _waits(value)
     yield from _form("/advisories", asked, ("q", "Id"), ("kind", "With a verdict"))
     rows = (
-        (_link(_path("advisories", one["id"]), one["id"]), _score(one), _counts(one["counts"]), _time(one["since"]), text(one.get("title", "")))
+        (
+            _link(_path("advisories", one["id"]), one["id"]),
+            _score(one),
+            _counts(one["counts"]),
+            _time(one["since"]),
+            text(one.get("title", "")),
+        )
         for one in value["advisories"]
     )
     header = ("Advisory", "Score", "Machines", "First since (UTC)", "Title")
@@ -256,8 +314,13 @@ def _advisory(value: Mapping[str, Json], asked: Mapping[str, str]) -> Iterator[s
     yield f"<p>{_link(_query('/changes', advisory=value['id']), 'What changed of it')}.</p>\n"
     yield from _form(_path("advisories", value["id"]), asked, ("kind", "Verdict"))
     rows = (
-        (_link(_path("machines", one["name"]), one["name"]), _kind(one["verdict"]), text(one["state"]), _time(one["since"]),
-         _link(_path("certificates", one["name"], value["id"]), f"the certificate of {one['name']}"))
+        (
+            _link(_path("machines", one["name"]), one["name"]),
+            _kind(one["verdict"]),
+            text(one["state"]),
+            _time(one["since"]),
+            _link(_path("certificates", one["name"], value["id"]), f"the certificate of {one['name']}"),
+        )
         for one in value["machines"]
     )
     yield from _table(("Machine", "Verdict", "State", "Since (UTC)", "Why"), rows, f"{value['total']:,} machines")
@@ -269,8 +332,14 @@ def _changes(value: Mapping[str, Json], asked: Mapping[str, str]) -> Iterator[st
     fields = (("since", "Since (2026-12-01)"), ("until", "Until"), ("machine", "Machine"), ("advisory", "Advisory"))
     yield from _form("/changes", asked, *fields)
     rows = (
-        (_time(one["at"]), _link(_path("machines", one["machine"]), one["machine"]), _link(_path("advisories", one["advisory"]), one["advisory"]),
-         f"{_kind(one['before'])} to {_kind(one['after'])}", text(one["cause"]), text(one.get("reason", "")))
+        (
+            _time(one["at"]),
+            _link(_path("machines", one["machine"]), one["machine"]),
+            _link(_path("advisories", one["advisory"]), one["advisory"]),
+            f"{_kind(one['before'])} to {_kind(one['after'])}",
+            text(one["cause"]),
+            text(one.get("reason", "")),
+        )
         for one in value["changes"]
     )
     header = ("Time (UTC)", "Machine", "Advisory", "Verdict", "Changed by", "Reason")
@@ -282,7 +351,11 @@ def _names(value: Mapping[str, Json], asked: Mapping[str, str]) -> Iterator[str]
     yield from _older_names(value)
     yield from _form("/names", asked, ("q", "Words of a name or title"))
     rows = (
-        (_link(_query("/name", cpe=one["name"]), one["name"]), text(one["title"]), _list(one.get("successors", ())) if one["deprecated"] else "")
+        (
+            _link(_query("/name", cpe=one["name"]), one["name"]),
+            text(one["title"]),
+            _list(one.get("successors", ())) if one["deprecated"] else "",
+        )
         for one in value["names"]
     )
     yield from _table(("Name", "Title", "Deprecated, and leads to"), rows, f"{value['total']:,} names")
@@ -306,11 +379,13 @@ _FORMS = (("formattedString", "formatted string"), ("uri", "URI"), ("text", "tex
 def _chain_words(chain: Mapping[str, Json]) -> str:
     if not chain["isEntry"]:
         return "No entry of the dictionary has this name."
-    return "It is deprecated." if len(chain["steps"]) > 1 or not chain["ends"] else "It is an entry, and not deprecated."
+    return (
+        "It is deprecated." if len(chain["steps"]) > 1 or not chain["ends"] else "It is an entry, and not deprecated."
+    )
 
 
 def _chain(chain: Mapping[str, Json], name: str, seen: set[str]) -> Iterator[str]:
-    """A chain as a tree: a name, and below it those to which its deprecation leads."""
+    """A chain as a tree: a name, and below it the successors of its deprecation."""
     step = next((one for one in chain["steps"] if one["name"] == name), None)
     if step is None or name in seen:
         return
@@ -327,7 +402,11 @@ def _compared(value: Mapping[str, Json], other: Mapping[str, Json]) -> Iterator[
         (text(attribute), text(value["attributes"][attribute]), _kind(relation), text(other["attributes"][attribute]))
         for attribute, relation in other["relations"].items()
     ]
-    yield from _table(("Attribute", "The name", "Is to", "The other"), rows, f"The name is {other['relation']} to {other['formattedString']}")
+    yield from _table(
+        ("Attribute", "The name", "Is to", "The other"),
+        rows,
+        f"The name is {other['relation']} to {other['formattedString']}",
+    )
 
 
 _STATES = {
@@ -353,8 +432,15 @@ def text_lines(lines: Sequence[str]) -> str:
 
 
 _PAGES = {
-    "machines": _machines, "machine": _machine, "advisories": _advisories, "advisory": _advisory, "changes": _changes, "names": _names,
-    "name": _name, "certificate": _certificate, "health": _health,
+    "machines": _machines,
+    "machine": _machine,
+    "advisories": _advisories,
+    "advisory": _advisory,
+    "changes": _changes,
+    "names": _names,
+    "name": _name,
+    "certificate": _certificate,
+    "health": _health,
 }
 _WITH_LEGEND = ("machines", "machine", "advisories", "advisory", "changes")
 _TITLES = {

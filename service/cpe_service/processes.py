@@ -1,4 +1,5 @@
-"""The processes of the service, as the server sees them. One that ends is started again, and continues from the database."""
+"""The processes of the service, as the server uses them. A process that ends is started again, and continues from the
+database."""
 from __future__ import annotations
 
 import asyncio
@@ -13,25 +14,25 @@ from . import frames
 from .frames import Message
 
 _HERE = Path(__file__).resolve().parents[1]
-# How long a process that ended is waited for before the next one, at first and at most.
+# The pause before a process that ended is started again, at first and at most.
 _FIRST_PAUSE, _LONGEST_PAUSE = 0.1, 5.0
 
-# What a pipe to a process that ended raises, by the loop that runs.
-_GONE = (OSError, RuntimeError, asyncio.IncompleteReadError)
+# The faults that a pipe to an ended process raises, by event loop.
+_PIPE_FAULTS = (OSError, RuntimeError, asyncio.IncompleteReadError)
 
 
-class Gone(Exception):
+class ProcessEnded(Exception):
     """A process ended before it answered."""
 
 
-async def _started(words: Sequence[str]) -> asyncio.subprocess.Process:
+async def _start(words: Sequence[str]) -> asyncio.subprocess.Process:
     return await asyncio.create_subprocess_exec(
         sys.executable, "-B", "-m", *words, stdin=asyncio.subprocess.PIPE, stdout=asyncio.subprocess.PIPE, cwd=_HERE
     )
 
 
 class Keeper:
-    """The process that keeps what is sent. It does one thing after the other."""
+    """A process that keeps what is sent. It handles one message after the other."""
 
     def __init__(self, folder: Path, name: str) -> None:
         self._words, self._name = ("cpe_service.keeper", str(folder)), name
@@ -40,37 +41,38 @@ class Keeper:
         self.waiting = self.restarts = 0
 
     async def ask(self, message: Message, body: bytes = b"") -> Message:
-        """Its answer. If it ended, it is asked once more: by its id it knows what it kept already. Gone if it ended again."""
+        """Its answer. If it ends, the message is sent once more; its id prevents that it is kept twice. ProcessEnded if
+        it ends again."""
         message = {**message, "id": secrets.token_hex(16), "keeper": self._name}
         self.waiting += 1
         try:
             async with self._turn:
                 for _ in range(2):
-                    with contextlib.suppress(*_GONE):
-                        return await self._asked(message, body)
+                    with contextlib.suppress(*_PIPE_FAULTS):
+                        return await self._exchange(message, body)
                     await self._end()
                     self.restarts += 1
         finally:
             self.waiting -= 1
-        raise Gone
+        raise ProcessEnded
 
-    async def _asked(self, message: Message, body: bytes) -> Message:
+    async def _exchange(self, message: Message, body: bytes) -> Message:
         if self._process is None:
-            self._process = await _started(self._words)
+            self._process = await _start(self._words)
         process = self._process
         assert process.stdin is not None and process.stdout is not None
         try:
-            process.stdin.write(frames.framed(message, body))
+            process.stdin.write(frames.encode(message, body))
             await process.stdin.drain()
-            return (await frames.received(process.stdout))[0]
+            return (await frames.receive(process.stdout))[0]
         except asyncio.CancelledError:
-            # (its answer would be taken for that of who asks next)
+            # (otherwise the next message would get this answer)
             await self._end()
             raise
 
     async def _end(self) -> None:
         if self._process is not None:
-            await _ended(self._process)
+            await _kill(self._process)
             self._process = None
 
     async def end(self) -> None:
@@ -79,7 +81,7 @@ class Keeper:
 
 
 class Worker:
-    """A process that judges the machines of a shard. Each time that it has done something, `notify` is called."""
+    """A process that judges the machines of a shard. `notify` is called whenever it has judged some."""
 
     def __init__(self, folder: Path, shard: int, shards: int, notify: Callable[[], None]) -> None:
         self._words = ("cpe_service.worker", str(folder), str(shard), str(shards))
@@ -91,24 +93,24 @@ class Worker:
         self.restarts = -1
 
     def start(self) -> None:
-        """Starts the process, again and again."""
+        """Starts the process, and again whenever it ends."""
         self._task = asyncio.get_running_loop().create_task(self._run())
 
     async def _run(self) -> None:
         pause = _FIRST_PAUSE
         while True:
             self.restarts += 1
-            self._process = await _started(self._words)
-            with contextlib.suppress(*_GONE):
+            self._process = await _start(self._words)
+            with contextlib.suppress(*_PIPE_FAULTS):
                 assert self._process.stdout is not None
                 while True:
-                    message, _ = await frames.received(self._process.stdout)
+                    message, _ = await frames.receive(self._process.stdout)
                     pause = _FIRST_PAUSE
                     self._take(message)
-            await _ended(self._process)
+            await _kill(self._process)
             for future in self._answers.values():
                 if not future.done():
-                    future.set_exception(Gone())
+                    future.set_exception(ProcessEnded())
             self._answers.clear()
             await asyncio.sleep(pause)
             pause = min(2 * pause, _LONGEST_PAUSE)
@@ -120,28 +122,28 @@ class Worker:
             future.set_result(message)
 
     def wake(self) -> None:
-        """Has it look what waits."""
+        """Makes it look for waiting machines."""
         self._send({"do": "wake"})
 
     def _send(self, message: Message) -> bool:
         if self._process is None or self._process.stdin is None or self._process.returncode is not None:
             return False
-        with contextlib.suppress(*_GONE):
-            self._process.stdin.write(frames.framed(message))
+        with contextlib.suppress(*_PIPE_FAULTS):
+            self._process.stdin.write(frames.encode(message))
             return True
         return False
 
-    def asked(self) -> int:
-        """How many of its answers are waited for."""
+    def pending(self) -> int:
+        """How many answers are pending."""
         return len(self._answers)
 
     async def ask(self, message: Message, seconds: float) -> Message:
-        """Its answer. Gone if it ends before, asyncio.TimeoutError if it takes longer."""
+        """Its answer. ProcessEnded if it ends before, asyncio.TimeoutError if it takes longer."""
         number = next(self._numbers)
         future = self._answers[number] = asyncio.get_running_loop().create_future()
         if not self._send({**message, "number": number}):
             del self._answers[number]
-            raise Gone
+            raise ProcessEnded
         try:
             return await asyncio.wait_for(future, seconds)
         finally:
@@ -154,10 +156,10 @@ class Worker:
             with contextlib.suppress(asyncio.CancelledError):
                 await self._task
         if self._process is not None:
-            await _ended(self._process)
+            await _kill(self._process)
 
 
-async def _ended(process: asyncio.subprocess.Process) -> None:
+async def _kill(process: asyncio.subprocess.Process) -> None:
     with contextlib.suppress(ProcessLookupError):
         process.kill()
     await process.wait()

@@ -1,17 +1,20 @@
-"""The addresses of the service, each with its parameters; the OpenAPI page is made of this table."""
+"""The addresses of the service, each with its parameters; the OpenAPI page is made from this table."""
 from __future__ import annotations
 
 from collections.abc import Mapping
 from dataclasses import dataclass
 
-from .asking import Parameter
 from .queries import KINDS
+from .request_rules import Parameter
 
 _TIME = r"[0-9]{1,12}(\.[0-9]{1,6})?|[0-9]{4}-[0-9]{2}-[0-9]{2}(T[0-9]{2}:[0-9]{2}(:[0-9]{2}(\.[0-9]{1,6})?)?(Z|[+-][0-9]{2}:[0-9]{2})?)?"
 
 MACHINE = Parameter(
-    "machine", "the name of a machine: letters, digits and _.@+:~-, the first of them a letter, a digit or _",
-    r"[A-Za-z0-9_][A-Za-z0-9_.@+:~-]*", 200, in_path=True,
+    "machine",
+    "the name of a machine: letters, digits and _.@+:~-, the first of them a letter, a digit or _",
+    r"[A-Za-z0-9_][A-Za-z0-9_.@+:~-]*",
+    200,
+    in_path=True,
 )
 ADVISORY = Parameter("advisory", "the id of an advisory", r"[^\x00-\x1f\x7f]+", 300, in_path=True)
 TABLE = Parameter("table", "names, letters, suppress or settled", "names|letters|suppress|settled", in_path=True)
@@ -27,14 +30,17 @@ OF_ADVISORY = Parameter("advisory", "the id of an advisory")
 WORDS = Parameter("q", "the words to search for")
 CPE = Parameter("cpe", "a CPE name", r"[^\x00-\x1f\x7f]+", 2_000, None)
 WITH = Parameter("with", "another CPE name, to compare", r"[^\x00-\x1f\x7f]*", 2_000)
-FEED = Parameter("feed", "a name for the fetch, a new one for each, if its pages are sent one by one", r"[A-Za-z0-9_.-]*", 100)
+FEED = Parameter(
+    "feed", "a name for the fetch, a new one for each, if its pages are sent one by one", r"[A-Za-z0-9_.-]*", 100
+)
 NUMBER = Parameter("number", "the number of a feed", "[0-9]{1,18}", 18, in_path=True)
 IS_WHOLE = Parameter("whole", "true if the feed replaces all of its kind", "true|false", 5, "false")
 
 
 @dataclass(frozen=True)
 class Route:
-    """An address: the method, the path, the name of what answers it, what it does, and its parameters. `body` is what is sent."""
+    """An address: the method, the path, the method of Service that answers it, its description, and its parameters.
+    `body` describes the request's body."""
 
     method: str
     path: str
@@ -51,19 +57,70 @@ class Route:
 
 ROUTES = (
     Route("GET", "/machines", "machines", "lists the machines", (Q, KIND, LIMIT, OFFSET)),
-    Route("PUT", "/machines/{machine}", "put_machine", "keeps the software list of a machine, and judges it", (MACHINE,), "a software list"),
+    Route(
+        "PUT",
+        "/machines/{machine}",
+        "put_machine",
+        "keeps the software list of a machine, and judges it",
+        (MACHINE,),
+        "a software list",
+    ),
     Route("DELETE", "/machines/{machine}", "delete_machine", "removes a machine", (MACHINE,)),
-    Route("GET", "/machines/{machine}", "machine", "shows the verdicts of a machine, each with what it depends on", (MACHINE, Q, KIND, LIMIT, OFFSET)),
-    Route("GET", "/advisories", "advisories", "lists the advisories with a verdict that isn't FALSE", (Q, KIND, LIMIT, OFFSET)),
-    Route("GET", "/advisories/{advisory}", "advisory", "shows the machines of an advisory, and since when", (ADVISORY, KIND, LIMIT, OFFSET)),
-    Route("GET", "/changes", "changes", "lists the changes of verdicts", (SINCE, UNTIL, AFTER, OF_MACHINE, OF_ADVISORY, LIMIT)),
+    Route(
+        "GET",
+        "/machines/{machine}",
+        "machine",
+        "shows the verdicts of a machine, each with what it depends on",
+        (MACHINE, Q, KIND, LIMIT, OFFSET),
+    ),
+    Route(
+        "GET",
+        "/advisories",
+        "advisories",
+        "lists the advisories with a verdict that isn't FALSE",
+        (Q, KIND, LIMIT, OFFSET),
+    ),
+    Route(
+        "GET",
+        "/advisories/{advisory}",
+        "advisory",
+        "shows the machines of an advisory, and since when",
+        (ADVISORY, KIND, LIMIT, OFFSET),
+    ),
+    Route(
+        "GET",
+        "/changes",
+        "changes",
+        "lists the changes of verdicts",
+        (SINCE, UNTIL, AFTER, OF_MACHINE, OF_ADVISORY, LIMIT),
+    ),
     Route("GET", "/names", "names", "searches the dictionary by words, best first", (WORDS, LIMIT, OFFSET)),
     Route("GET", "/name", "name", "has a name in all forms, where it leads, and its relation to another", (CPE, WITH)),
-    Route("GET", "/certificates/{machine}/{advisory}", "certificate", "makes the certificate of a verdict, and checks it", (MACHINE, ADVISORY)),
-    Route("POST", "/feeds", "feeds", "takes a page of a feed, or several in an archive", (FEED, IS_WHOLE), "pages of NVD's API 2.0, or CVE records"),
+    Route(
+        "GET",
+        "/certificates/{machine}/{advisory}",
+        "certificate",
+        "makes the certificate of a verdict, and checks it",
+        (MACHINE, ADVISORY),
+    ),
+    Route(
+        "POST",
+        "/feeds",
+        "feeds",
+        "takes a page of a feed, or several in an archive",
+        (FEED, IS_WHOLE),
+        "pages of NVD's API 2.0, or CVE records",
+    ),
     Route("DELETE", "/feeds/{number}", "delete_feed", "removes a feed that waits for pages", (NUMBER,)),
     Route("GET", "/tables/{table}", "table", "has a table of settings", (TABLE,)),
-    Route("PUT", "/tables/{table}", "put_table", "keeps a table of settings", (TABLE,), "the lines of the table, as scan.py reads them"),
+    Route(
+        "PUT",
+        "/tables/{table}",
+        "put_table",
+        "keeps a table of settings",
+        (TABLE,),
+        "the lines of the table, as scan.py reads them",
+    ),
     Route("GET", "/health", "health", "has whether all that was accepted is judged", ()),
     Route("GET", "/metrics", "metrics", "has numbers in the text form of Prometheus", ()),
     Route("GET", "/events", "events", "sends each change of a verdict at once (server-sent events)", (AFTER,)),
@@ -85,14 +142,20 @@ def openapi(version: str) -> Mapping:
         if route.body:
             operation["requestBody"] = {"required": True, "description": route.body, "content": {"*/*": {}}}
         paths.setdefault(route.path, {})[route.method.lower()] = operation
-    problem = {"type": "object", "properties": {key: {"type": "string"} for key in ("type", "title", "detail")} | {"status": {"type": "integer"}}}
+    problem = {
+        "type": "object",
+        "properties": {key: {"type": "string"} for key in ("type", "title", "detail")}
+        | {"status": {"type": "integer"}},
+    }
     content = {"application/problem+json": {"schema": problem}}
     return {
         "openapi": "3.0.3",
         "info": {"title": "cpe: which machines are affected by which advisories", "version": version},
         "paths": paths,
         "components": {
-            "responses": {"problem": {"description": "why the request is refused, in one sentence", "content": content}},
+            "responses": {
+                "problem": {"description": "why the request is refused, in one sentence", "content": content}
+            },
             "securitySchemes": {word: {"type": "http", "scheme": word} for word in ("bearer", "basic")},
         },
     }

@@ -1,4 +1,4 @@
-"""The samples of the recipes with which a service may begin, to look at it."""
+"""The samples of the recipes, with which a service may begin."""
 from __future__ import annotations
 
 from pathlib import Path
@@ -15,5 +15,5 @@ def feeds() -> list[Path]:
 
 
 def lists() -> list[Path]:
-    """The software lists of the samples, each of a machine that is called as its file."""
+    """The software lists of the samples; each belongs to a machine with the name of its file."""
     return sorted(path for path in _FOLDER.iterdir() if path.name.endswith(_FORMS))

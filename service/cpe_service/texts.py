@@ -1,4 +1,4 @@
-"""Texts as the database and the answers have them."""
+"""Texts of the database and the answers."""
 from __future__ import annotations
 
 import re
@@ -7,5 +7,6 @@ _HALF = re.compile("[\ud800-\udfff]")
 
 
 def whole(text: str) -> str:
-    """The text, which has bytes then: half a character of two, which JSON can spell, is written as `scan.py` writes it."""
+    """The text in a form that has bytes: half a surrogate pair, which JSON can have, is written as `scan.py` writes
+    it."""
     return text if text.isascii() else _HALF.sub("\ufffd", text)

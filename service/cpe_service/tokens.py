@@ -1,4 +1,5 @@
-"""Who may do what: a file of tokens, one a line, each the name of a client, `read` or `write`, and the SHA-256 of its token."""
+"""The permissions of clients: a file with a token in each line: the name of a client, `read` or `write`, and the
+SHA-256 of its token."""
 from __future__ import annotations
 
 import base64
@@ -11,28 +12,28 @@ import secrets
 from dataclasses import dataclass
 from pathlib import Path
 
-from cpe_recipes.said import why
+from cpe_recipes.console import describe_fault
 
 NAME = "tokens"
 READ, WRITE = "read", "write"
-# In place of what is known of a file that was there, and is no more.
+# Marks a file that was removed.
 _GONE = 0, 0
 _LINE = re.compile(r"([A-Za-z0-9_.@-]{1,100}) (read|write) ([0-9a-f]{64})")
 
 
 class NoTokens(Exception):
-    """The file isn't one of tokens, in words why."""
+    """Why the file isn't a file of tokens."""
 
 
 @dataclass(frozen=True)
 class Client:
-    """Who asks: a name, and whether it may change something."""
+    """A client: its name, and whether it may write."""
 
     name: str
     may_write: bool
 
 
-# Whoever asks where there is no file of tokens; then the service listens on this machine alone.
+# Any client, if there is no file of tokens; then the service listens on this machine alone.
 ANYONE = Client("anyone", True)
 
 
@@ -46,11 +47,11 @@ class Tokens:
         self.read()
 
     def read(self) -> None:
-        """Reads the file if it changed. NoTokens if a line is none; then nobody is let in by what was read before."""
+        """Reads the file if it changed. NoTokens if a line is wrong; then the earlier tokens aren't valid either."""
         try:
             about = os.stat(self._path)
         except FileNotFoundError:
-            # (a file that is removed while the service runs lets nobody in)
+            # (if the file is removed while the service runs, nobody may send requests)
             self._seen, self._clients = self._seen and _GONE, []
             return
         seen = about.st_mtime_ns, about.st_size
@@ -59,11 +60,11 @@ class Tokens:
             self._clients, self._seen = list(map(_client, _lines(self._path))), seen
 
     def are_any(self) -> bool:
-        """Whether there is a file of tokens, or was one since the service runs."""
+        """Whether there is a file of tokens, or was one since the service started."""
         return self._seen is not None
 
     def client(self, header: str) -> Client | None:
-        """Who has the token of a header `Authorization`. All tokens are compared, each in the same time."""
+        """The client with the token in a header `Authorization`. All tokens are compared, each in the same time."""
         token = hashlib.sha256(_token(header)).digest()
         found = None
         for sum, client in self._clients:
@@ -76,7 +77,7 @@ def _lines(path: Path) -> list[tuple[int, str]]:
     try:
         lines = path.read_text(encoding="utf-8").splitlines()
     except OSError as fault:
-        raise NoTokens(f"{path.name} can not be read: {why(fault)}") from fault
+        raise NoTokens(f"{path.name} can not be read: {describe_fault(fault)}") from fault
     except ValueError as fault:
         raise NoTokens(f"{path.name} can not be read: it is no UTF-8") from fault
     return [(number, line.strip()) for number, line in enumerate(lines, 1) if line.strip() and not line.startswith("#")]
@@ -104,7 +105,7 @@ def _token(header: str) -> bytes:
 
 
 def add(folder: Path, name: str, may_write: bool) -> str:
-    """A new token, whose line is added to the file."""
+    """Adds a line for a new token to the file, and returns the token."""
     token = secrets.token_urlsafe(32)
     line = f"{name} {WRITE if may_write else READ} {hashlib.sha256(token.encode()).hexdigest()}"
     if _LINE.fullmatch(line) is None:

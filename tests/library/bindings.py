@@ -1,6 +1,6 @@
 #!/usr/bin/env python3
-"""What the library for C answers to Python: bindings.py, for each call and each error; or bindings.py WORD [SECOND], which gives the
-lines of standard input to a session, and writes its answers."""
+"""What the library for C answers to Python: bindings.py, for each call and each error; or bindings.py WORD [SECOND],
+which gives the lines of standard input to a session, and writes its answers."""
 import sys
 
 import cpe

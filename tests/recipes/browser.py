@@ -1,8 +1,8 @@
 #!/usr/bin/env python3
 """Looks at pages of report.py in headless Chromium: python3 browser.py CHROMIUM FOLDER. A line for each that is right.
 
-The filter is asked by the address. Odd names would load from a server that listens here; that nobody asks it is looked at too.
-The status is 1 where something is wrong.
+The filter is asked by the address. Odd names would load from a server that listens here; that nobody asks it is looked
+at too. The status is 1 where something is wrong.
 """
 import html
 import http.server
@@ -19,9 +19,10 @@ RECIPES = Path(__file__).resolve().parents[2] / "recipes"
 MACHINES = 10_000
 # A page of many machines opens in 2 seconds on an idle machine; a check may run beside others.
 MOST_SECONDS = 10
-# The milliseconds of its own time after which the browser tells what stands there; where a busy machine was too slow, it is asked again.
+# The milliseconds of its own time after which the browser writes the page; if a busy machine was too slow, it is asked
+# again.
 LOOKS = (1_000, 10_000, 60_000)
-# What is put into a copy of a page, to look at it from inside; the page itself lets no other script run.
+# This script is put into a copy of a page, to measure it from inside; the page itself lets no other script run.
 INSIDE = """<script>addEventListener("load", () => requestAnimationFrame(() => setTimeout(() => {
 const root = document.documentElement;
 document.title = `${Math.round(performance.now())} ${root.scrollWidth} ${innerWidth}`;
@@ -29,7 +30,7 @@ parent.postMessage(document.title, "*"); })))</script></body>"""
 # A telephone is narrower than any window of Chromium.
 TELEPHONE = """<!DOCTYPE html><title></title><script>onmessage = (event) => { document.title = event.data; }</script>
 <iframe src="PAGE" width="360" height="800"></iframe>"""
-# In a frame that lets no script run, what its reader sees of a page, in the order in which it stands there, below the window too.
+# In a frame without scripts: what a reader sees of a page, in the order on the page, also below the window.
 WITHOUT_SCRIPTS = """<!DOCTYPE html><title></title><iframe sandbox="allow-same-origin" srcdoc="PAGE" width="360" height="800"></iframe>
 <script>addEventListener("load", () => {
 const page = frames[0].document, seen = document.createElement("pre");
@@ -44,7 +45,7 @@ class Browser:
         self.asked, self.wrong = [], 0
 
     def page(self, name, value):
-        """A page of this table, and its address."""
+        """The page of a table, and its address."""
         scan, path = self._folder / f"{name}.json", self._folder / f"{name}.html"
         scan.write_text(json.dumps(value), encoding="utf-8")
         with path.open("wb") as out:
@@ -55,7 +56,7 @@ class Browser:
         return path
 
     def inside(self, path):
-        """A copy of the page that tells in its title how long it took, how wide it is, and how wide its window."""
+        """A copy of the page whose title says how long it took, how wide it is, and how wide its window."""
         text = path.read_text(encoding="utf-8")
         copy = path.with_suffix(".inside.html")
         lines = [line for line in text.replace("</body>", INSIDE).split("\n") if "Content-Security-Policy" not in line]
@@ -63,19 +64,19 @@ class Browser:
         return copy
 
     def on_telephone(self, path):
-        """A page in which such a copy stands as narrow as on a telephone, and that has its title."""
+        """A page that has such a copy, as narrow as on a telephone, and the copy's title."""
         around = path.with_suffix(".telephone.html")
         around.write_text(TELEPHONE.replace("PAGE", self.inside(path).name), encoding="utf-8")
         return around
 
     def without_scripts(self, path):
-        """A page that tells what is seen of this one where no script runs."""
+        """A page that shows what is seen of this one without scripts."""
         around = path.with_suffix(".quiet.html")
         around.write_text(WITHOUT_SCRIPTS.replace("PAGE", html.escape(path.read_text(encoding="utf-8"))), encoding="utf-8")
         return around
 
     def look(self, path, fragment="", after=LOOKS[0]):
-        """The page as it stands in the browser when it is there."""
+        """The page in the browser after it was loaded."""
         words = ["--headless", "--disable-gpu", "--no-first-run", "--disable-background-networking", "--disable-component-update"]
         words += [f"--user-data-dir={self._folder}/browser", "--window-size=1200,900", f"--virtual-time-budget={after}"]
         if os.geteuid() == 0:
@@ -92,7 +93,7 @@ class Browser:
             print(f"WRONG: {what}: {str(found)[:300]} in place of {str(wanted)[:300]}")
 
     def serve(self):
-        """The address of a server that notes who asks it."""
+        """The address of a server that notes all requests."""
         asked = self.asked
 
         class Noting(http.server.BaseHTTPRequestHandler):
@@ -175,7 +176,7 @@ def reads_without_scripts(browser):
 
 
 def title_of(browser, copy):
-    """The numbers that a copy of a page tells in its title."""
+    """The numbers in the title of a copy of a page."""
     for after in LOOKS:
         words = browser.look(copy, after=after).split("<title>")[1].split("<")[0].split()
         if len(words) == 3 and all(word.isdigit() for word in words):

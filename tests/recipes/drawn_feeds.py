@@ -1,5 +1,5 @@
-"""Feeds in NVD's form, drawn at random from few names, so that they meet, with odd records among them; what changes of them day by day;
-and machines with items that are odd too."""
+"""Random feeds in NVD's form. Their few names are shared, and some of their records are odd. They change from day to
+day. And machines, some with odd items."""
 import datetime
 import json
 import random
@@ -11,7 +11,7 @@ MEMBERS = {"products": "NVD_CPE", "vulnerabilities": "NVD_CVE", "matchStrings": 
 
 
 class Feeds:
-    """The records of today. Each day some change, come or aren't there any more."""
+    """The records of today. Each day some of them change, are added or are removed."""
 
     def __init__(self, seed, products=40, advisories=60):
         self.draw, self.day = random.Random(seed), 0
@@ -28,7 +28,7 @@ class Feeds:
         return self.draw.randrange(number) == 0
 
     def now(self):
-        # (some are of the same time, so that it isn't known which is later)
+        # (some records have the same time, so that it isn't known which is later)
         time = datetime.datetime(2024, 1, 1, self.draw.randrange(2)) + datetime.timedelta(self.day)
         return time.isoformat(timespec="milliseconds")
 
@@ -70,7 +70,7 @@ class Feeds:
             names = [self.name() for _ in range(2)] + [name.replace(":*:", f":{first}:", 1)]
             string = {"matchCriteriaId": key, "criteria": name, "lastModified": self.now(), "matches": [{"cpeName": one} for one in names]}
             if self.is_one_of(4):
-                # (lists are found by the id of their match, whatever is said of its name)
+                # (lists are found by the id of their match, whatever its name is)
                 string["criteria"] = self.draw.choice([None, 5, names[0], self.name("*"), self.draw.choice(ODD_NAMES)])
             self.matches[key] = {"matchString": string}
         return {"vulnerable": is_vulnerable, "criteria": name, **bounds, "matchCriteriaId": key}
@@ -90,7 +90,8 @@ class Feeds:
         return {"nodes": nodes, "operator": self.draw.choice(["AND", "OR"]), "negate": self.is_one_of(20)}
 
     def configuration_of_devices(self):
-        """One with a vulnerable operating system, firmware or hardware, mostly on something else."""
+        """A configuration with a vulnerable operating system, firmware or hardware, mostly with something else beside
+        it."""
         def node(is_vulnerable, parts):
             matches = [self.match(is_vulnerable and not self.is_one_of(8), self.draw.choice(parts)) for _ in range(self.draw.randint(1, 2))]
             return {"operator": self.draw.choice(["OR", "OR", "AND"]), "negate": self.is_one_of(20), "cpeMatch": matches}
@@ -121,7 +122,7 @@ class Feeds:
         self.records[number] = {"dataType": "CVE_RECORD", "dataVersion": "5.1", "cveMetadata": metadata, "containers": {"cna": cna}}
 
     def whole(self, folder, size=25):
-        """Pages of all records, of each kind. What is returned are their paths, by the kinds."""
+        """Writes pages of all records, and returns their paths, by kind."""
         kinds = {"products": self.products, "vulnerabilities": self.advisories, "matchStrings": self.matches}
         found = {kind: self._written(folder, kind, list(records.values()), size) for kind, records in kinds.items()}
         self.pages += 1
@@ -131,7 +132,7 @@ class Feeds:
         return found
 
     def changed(self, folder):
-        """A day later: pages of what changed since then."""
+        """A day later: pages of the changed records."""
         self.day += 1
         changed = {"products": {}, "vulnerabilities": {}, "matchStrings": {}}
         before = set(self.matches)
@@ -158,7 +159,7 @@ class Feeds:
         return paths
 
     def machines(self, path, count=5, is_odd=True):
-        """A file of machines. The first ones have items of which vendor or product are known in part."""
+        """A file of machines. The first machines have items whose vendor or product is known in part."""
         lines = []
         for number in range(count):
             items = [self.name() for _ in range(self.draw.randint(1, 4))]

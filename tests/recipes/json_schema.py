@@ -1,5 +1,5 @@
-"""Checks a value by a JSON Schema, of which it knows the words that the schemas beside it use. A word that it doesn't know is an error,
-so that no rule is passed over."""
+"""Checks a value by a JSON Schema. It knows the keywords of the schemas beside it; any other keyword is an error, so
+that no rule is ignored."""
 import json
 import re
 from pathlib import Path
@@ -8,12 +8,12 @@ _SCHEMAS = Path(__file__).resolve().parent / "schemas"
 _TYPES = {"object": dict, "array": list, "string": str, "boolean": bool, "integer": int, "number": (int, float)}
 _FORMATS = {
     "date-time": re.compile(r"\d{4}-\d{2}-\d{2}T\d{2}:\d{2}:\d{2}(\.\d+)?(Z|[+-]\d{2}:\d{2})"),
-    # (of RFC 3986 and 3987 the letters alone)
+    # (only the characters of RFC 3986 and 3987)
     "uri": re.compile(r"[A-Za-z][A-Za-z0-9+.-]*:([A-Za-z0-9._~:/?#\[\]@!$&'()*+,;=-]|%[0-9A-Fa-f]{2})*"),
     "uri-reference": re.compile(r"([A-Za-z0-9._~:/?#\[\]@!$&'()*+,;=-]|%[0-9A-Fa-f]{2})*"),
     "iri": re.compile(r"[A-Za-z][A-Za-z0-9+.-]*:([A-Za-z0-9._~:/?#\[\]@!$&'()*+,;=\u00a0-\U0010ffff-]|%[0-9A-Fa-f]{2})*"),
 }
-# What says nothing of values.
+# Keywords that don't restrict values.
 _NOTES = {"$schema", "$comment", "$defs", "title", "description"}
 
 
@@ -22,12 +22,12 @@ def schema(name):
 
 
 def faults(value, name):
-    """What is wrong with a value by the schema of this name, each with its place."""
+    """The faults of a value by the schema of this name, each with its place."""
     return faults_by(value, schema(name))
 
 
 def faults_by(value, root):
-    """What is wrong with a value by this schema, each with its place."""
+    """The faults of a value by this schema, each with its place."""
     return list(_Checker(root).faults(value, root, ""))
 
 

@@ -1,4 +1,5 @@
-"""What the tests of names for packages share: a small dictionary, advisories on it, and scans of lists of package URLs."""
+"""Shared by the tests of names for packages: a small dictionary, advisories on it, and scans of lists of package
+URLs."""
 import json
 import subprocess
 
@@ -37,7 +38,7 @@ class NamedCase(RecipeCase):
         self.feeds = ["--dictionary", self.file("dictionary.json", page("products", *products)), "--advisories", self.file("advisories.json", page("vulnerabilities", *advisories))]
 
     def verdicts(self, *words, purls=(), components=(), names=None):
-        """The status, the verdicts that aren't FALSE by their ids with the last column, and what is said."""
+        """The status, the verdicts that aren't FALSE by their ids with the last column, and the messages."""
         listing = self.file("m.json", listed(*({"purl": purl} for purl in purls), *components))
         given = [] if names is None else ["--names", self.file("names.txt", names)]
         status, lines, said = self.scan(*self.feeds, "--lists", listing, *given, *words)
@@ -45,7 +46,7 @@ class NamedCase(RecipeCase):
         return status, {row[2]: row[1] for row in rows}, lines, said
 
     def run_hint(self, hint, status=0):
-        """The lines of the command of a hint, as it is printed."""
+        """The output of the command in a hint, run as it is printed."""
         command = hint.partition("; to list them: ")[2]
         run = subprocess.run(["sh", "-c", command], capture_output=True, text=True, check=False)
         self.assertEqual(run.returncode, status, (command, run.stderr))

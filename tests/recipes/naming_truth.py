@@ -1,8 +1,8 @@
 """Packages whose product of NVD is known by hand, beside a dictionary: how many get the right name first.
 
-`naming/truth.txt` has the packages, and `naming/dictionary.txt` the products; both say how their lines are read. Beside these products
-are the names of the Official CPE Dictionary of which bench/official-names.txt is a sample. What names a package is the recipes' own code
-(cpe_recipes/naming.py).
+`naming/truth.txt` has the packages, and `naming/dictionary.txt` the products; both say how their lines are read. Beside
+these products are the names of the Official CPE Dictionary of which bench/official-names.txt is a sample. What names a
+package is the recipes' own code (cpe_recipes/naming.py).
 """
 import json
 import sys
@@ -17,14 +17,14 @@ from cpe_recipes import names, package_urls  # noqa: E402
 from cpe_recipes.components import Component, Machine  # noqa: E402
 from cpe_recipes.lists import kinds  # noqa: E402
 from cpe_recipes.names_table import Product, Tables, read_tables  # noqa: E402
-from cpe_recipes.naming import Naming  # noqa: E402
+from cpe_recipes.package_names import PackageNamer  # noqa: E402
 
 RIGHT, WRONG, NONE = "right first", "wrong first", "none"
 
 
 @dataclass(frozen=True)
 class Package:
-    """A package, and the products by which NVD may know it; none where NVD has none."""
+    """A package, and the products by which NVD may know it; none if NVD has none."""
 
     purl: str
     products: tuple[str, ...]
@@ -33,7 +33,7 @@ class Package:
         return Component(self.purl, (), kinds.of_purl(self.purl), self.purl)
 
     def without_source(self):
-        """The same as a list has it that doesn't say of which source package it was built."""
+        """The same package in a list that doesn't name its source package."""
         front, _, query = self.purl.partition("?")
         kept = "&".join(pair for pair in query.split("&") if pair and not pair.startswith("upstream="))
         return Package(f"{front}?{kept}" if kept else front, self.products)
@@ -41,7 +41,7 @@ class Package:
 
 @dataclass
 class Counted:
-    """How many packages came to each outcome, and those that aren't right, with what came first."""
+    """How many packages have each outcome, and those that aren't right, with their first name."""
 
     outcomes: Counter = field(default_factory=Counter)
     others: list = field(default_factory=list)
@@ -77,7 +77,7 @@ def records():
 
 
 def count(some, tables, dictionary):
-    """What comes of these packages by these tables and this dictionary."""
+    """The outcome of these packages by these tables and this dictionary."""
     counted = Counted()
     for one, named in _named(some, tables, dictionary):
         first = _first(named)
@@ -89,19 +89,19 @@ def count(some, tables, dictionary):
 
 
 def of_several(some, tables, dictionary):
-    """Those of these packages for which the dictionary has more than one product."""
+    """The packages for which the dictionary has several products."""
     return [one for one, named in _named(some, tables, dictionary) if len(named.lines) > 1]
 
 
 def _named(some, tables, dictionary):
-    """The packages, each with what is known of its names."""
+    """The packages, each with its names."""
     machine = Machine("m", [one.component() for one in some])
-    naming = Naming(tables, [machine], dictionary)
-    return [(one, naming.named(one.component())) for one in some]
+    naming = PackageNamer(tables, [machine], dictionary)
+    return [(one, naming.names_of(one.component())) for one in some]
 
 
 def is_listed(package, tables):
-    """Whether a table says what the package is."""
+    """Whether a table has a line for the package."""
     return tables.find(package_urls.read(package.purl)) is not None
 
 
@@ -113,15 +113,15 @@ NO_TABLES = Tables([])
 
 
 def _first(named):
-    """The product that comes first, as truth.txt spells it; empty where there is none."""
+    """The first product, as truth.txt spells it; empty if there is none."""
     found = named.names or tuple(one.name for one in named.supposed)
     return Product(*names.components(found[0])[: names.PRODUCT + 1]).words() if found else ""
 
 
 def _name(product, version, target):
     parts = product.split(":") if product.startswith(("o:", "h:")) else ["a", *product.split(":")]
-    spelled = [target if target == names.ANY else names.spelled(target), names.ANY, names.ANY]
-    return names.joined([*parts, names.spelled(version), *[names.ANY] * 4, *spelled])
+    spelled = [target if target == names.ANY else names.quote(target), names.ANY, names.ANY]
+    return names.join([*parts, names.quote(version), *[names.ANY] * 4, *spelled])
 
 
 def _lines(name):

@@ -1,12 +1,14 @@
 #!/usr/bin/env python3
-"""Compares each order of versions with the tool whose order it is, on random pairs: python3 orders_against_tools.py [PAIRS [PROGRAM]].
+"""Compares each order of versions with the tool whose order it is, on random pairs: python3 orders_against_tools.py
+[PAIRS [PROGRAM]].
 
     cpe advise (PROGRAM, or what CPE names); dpkg --compare-versions, and Dpkg::Version of the same source; Python's rpm, packaging
     and semver; golang.org/x/mod/semver and go-apk-version, by Go; ComparableVersion of maven-artifact, by Java
 
-It prints for each how many pairs were compared, how many are of versions, and those where the two differ. Then it asks the tools
-about versions of which no kind is told, and prints how many of their answers aren't among those that versions.py has for possible.
-What isn't installed is skipped, and said. The status is 1 where anything differs or lacks.
+It prints for each how many pairs were compared, how many are of versions, and those on which the two differ. Then it
+asks the tools about versions without a kind, and prints how many of their answers aren't among those that versions.py
+considers possible. A tool that isn't installed is skipped, which is reported. The status is 1 if anything differs or is
+missing.
 """
 import os
 import pathlib
@@ -27,7 +29,7 @@ from cpe_recipes.readings import without_epoch  # noqa: E402
 from cpe_recipes.versions import orders as possible  # noqa: E402
 
 SEED = 54
-# A process for each pair takes long, so of so many pairs dpkg itself is asked for one.
+# A process for each pair takes long, so dpkg itself compares only one of this many pairs.
 PAIRS_OF_DPKG = 50
 GOCODE = "/usr/share/gocode"
 MAVEN = "/usr/share/maven/lib/maven-artifact-3.x.jar"
@@ -35,7 +37,7 @@ MOST_ARGUMENTS = 20_000
 
 
 class Missing(Exception):
-    """A tool that isn't here."""
+    """A tool that isn't installed."""
 
 
 def needs(*tools):
@@ -45,7 +47,7 @@ def needs(*tools):
 
 
 class Drawn:
-    """Random versions of bits, of which the two of a pair are often nearly the same."""
+    """Random versions; the two of a pair are often nearly the same."""
 
     def __init__(self, count, bits, fronts=("",), ends=("",)):
         self.draw = random.Random(SEED)
@@ -78,7 +80,7 @@ def run(command, text, **more):
 
 
 def signs(lines):
-    """Of lines of -1, 0, 1 or a word that it is none the order, or None."""
+    """The orders in lines that are -1, 0 or 1; None for a line that says that a text is no version."""
     return [int(line) if line in ("-1", "0", "1") else None for line in lines]
 
 
@@ -92,7 +94,7 @@ def by_cpe(pairs):
     product = "cpe:2.3:a:v:p:*:*:*:*:*:*:*:*"
     lines = []
     for one, other in pairs:
-        name = f"cpe:2.3:a:v:p:{names.spelled(one)}:*:*:*:*:*:*:*"
+        name = f"cpe:2.3:a:v:p:{names.quote(one)}:*:*:*:*:*:*:*"
         lines.append(record_text({"do": "item", "name": name}))
         for more in ({"end": other, "end-excluded": True}, {"end": other}):
             lines.append(record_text({"do": "advisory", "id": "r", "name": product, **more}))
@@ -105,7 +107,7 @@ def by_cpe(pairs):
 
 def by_dpkg(pairs):
     needs("dpkg")
-    # (its status is 2 for what is no version)
+    # (its status is 2 if a text is no version)
     script = 'while read -r a b; do dpkg --compare-versions "$a" lt "$b" 2> /dev/null; case $? in 0) echo -1; continue ;; ' \
         '2) echo none; continue ;; esac; if dpkg --compare-versions "$a" eq "$b"; then echo 0; else echo 1; fi; done'
     return signs(run(["sh", "-c", script], lines_of(pairs)))
@@ -218,7 +220,7 @@ def by_maven(pairs):
     found = []
     for start in range(0, len(pairs), MOST_ARGUMENTS):
         part = pairs[start : start + MOST_ARGUMENTS]
-        # (it compares each with the one before it)
+        # (it compares each version with the one before it)
         lines = run(["java", "-jar", MAVEN, *(text for pair in part for text in pair)], "")
         told = [line.split() for line in lines if re.match(r"   \S+ (<|==|>) \S+$", line)]
         found += [{"<": -1, "==": 0, ">": 1}[words[1]] for words in told[::2]]
@@ -226,13 +228,14 @@ def by_maven(pairs):
 
 
 def begins_with_a_digit(pair):
-    """Whether Dpkg::Version takes both for versions; dpkg itself warns, and compares them. (It takes -1 for an option, and +1:0 for
-    an epoch.)"""
+    """Whether Dpkg::Version accepts both as versions; dpkg itself only warns. (It reads -1 as an option, and +1:0 as an
+    epoch.)"""
     return all(text[0].isdigit() and text.rpartition(":")[2][:1].isdigit() for text in pair)
 
 
 def versions_here(pairs, order):
-    """Those that the order reads. (go-apk-version reads numbers of no digit too, and none of more than 18.)"""
+    """The versions that the order can read. (go-apk-version also reads numbers without digits, and none of more than
+    18.)"""
     pairs = [pair for pair in pairs if not any(re.search("[0-9]{19}", text) for text in pair)]
     return [(one, other) for one, other in pairs if order.compare(one, other) is not None]
 
@@ -260,15 +263,15 @@ def trials(count):
     yield "golang.org/x/mod/semver", golang.ORDER, by_go("golang.org/x/mod/semver", GO_SEMVER), short.pairs
     by_go_apk = by_go("github.com/knqyf263/go-apk-version", GO_APK)
     yield "go-apk-version", apk.SECOND, by_go_apk, versions_here(alpine.pairs, apk.SECOND)
-    # (the order of apk-tools 3 is that of 2 where no number behind a dot begins with a zero)
+    # (the orders of apk-tools 2 and 3 agree if no number after a dot begins with a zero)
     without_zeros = [pair for pair in alpine.pairs if not any(".0" in text for text in pair)]
     yield "go-apk-version, without zeros", apk.THIRD, by_go_apk, versions_here(without_zeros, apk.THIRD)
     yield "Maven", maven.ORDER, by_maven, java.pairs
 
 
 def of_no_kind(count):
-    """Each tool with pairs that it may be asked for, of versions of which no kind is told. An epoch or a v that only one has is
-    dropped, since that decides nothing."""
+    """Each tool with pairs of versions without a kind. An epoch or a v that only one version has is removed, because it
+    decides nothing."""
     bits = [*NUMBERS, *WORDS, "~", "+", "-", "k", "-1", "-24.el9", "_", "^"]
     fronts = ["", "1", "1.0.0", "2.1.0-", "1:1", "32:2", "v1", "1.0.0-rc."]
     pairs = [without_epoch(one, other) for one, other in Drawn(count, bits, fronts, ("", "", "-1", "+b1", ".post1")).pairs]

@@ -1,4 +1,4 @@
-"""What the tests of report.py share: a table with odd names in it, and a page as its reader sees it."""
+"""Shared by the tests of report.py: a table with odd names, and a page as its reader sees it."""
 import html.parser
 
 LONG = "long-" + "x" * 5_000
@@ -7,7 +7,7 @@ VOID = {"meta", "br", "input"}
 
 
 def hostile(address):
-    """Names that would load something, run, or leave their place, if they were HTML."""
+    """Names that would load or run something, or escape from their element, if they were read as HTML."""
     return [
         f"<script>document.title='broken';fetch('{address}/a')</script>",
         f"<img src={address}/b onerror=\"document.title='broken'\">",
@@ -35,7 +35,8 @@ def table(*machines, asked=10, left_out=()):
 
 
 def odd_table(address):
-    """Machines, advisories, titles, reasons, links and left-out ids that are all such names, beside two plain machines."""
+    """Machines, advisories, titles, reasons, links and left-out ids that all have such names, beside two plain
+    machines."""
     names = hostile(address)
     told = {"title": "OpenSSL: some identifiers take long.", "score": 6.5}
     plain = [verdict("CVE-1", "TRUE", **told), verdict("CVE-2", "UNKNOWN", title="Vim", score=9.8, hangsOn=["only zeros decide"])]
@@ -49,7 +50,7 @@ def odd_table(address):
 
 
 class Page(html.parser.HTMLParser):
-    """The elements of a page, its rows, and what of it is shown."""
+    """The elements of a page, its rows, and the parts of it that are shown."""
 
     def __init__(self, text):
         super().__init__()

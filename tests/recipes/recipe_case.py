@@ -1,4 +1,4 @@
-"""What the tests of recipes share: a folder for their files, what was said, and the program where it is there."""
+"""Shared by the tests of recipes: a folder for their files, the messages, and the program if it is there."""
 import json
 import os
 import shutil
@@ -23,7 +23,7 @@ ENDING = (signal.SIGTERM, signal.SIGINT, signal.SIGHUP)
 
 
 def obey_signals():
-    """Has a new process obey these signals, also where whoever runs the tests lets them pass, as nohup does."""
+    """Makes a new process obey these signals, even if the tests themselves run with nohup."""
     for number in ENDING:
         signal.signal(number, signal.SIG_DFL)
 
@@ -37,7 +37,7 @@ class RecipeCase(unittest.TestCase):
         folder = tempfile.TemporaryDirectory()
         self.addCleanup(folder.cleanup)
         self.folder = Path(folder.name)
-        self.said = Heard()
+        self.messages = Heard()
 
     def file(self, name, data):
         """A file of bytes, of a text, of records (a list), or of a value of JSON."""
@@ -50,14 +50,14 @@ class RecipeCase(unittest.TestCase):
         return str(path)
 
     def recipe(self, name, *words, **how):
-        """The status of a short recipe, its lines, and the lines that it says."""
+        """The status of a short recipe, its lines, and its messages."""
         run = subprocess.run(
             ["sh", str(RECIPES / f"{name}.sh"), *words], capture_output=True, text=True, stdin=subprocess.DEVNULL, **how
         )
         return run.returncode, run.stdout.splitlines(), run.stderr.splitlines()
 
     def scan(self, *words):
-        """The status of scan.py, its lines, and the lines that it says."""
+        """The status of scan.py, its lines, and its messages."""
         run = subprocess.run(
             [sys.executable, str(RECIPES / "scan.py"), *words], capture_output=True, text=True, stdin=subprocess.DEVNULL, check=False
         )

@@ -1,4 +1,4 @@
-"""What stands in for the program and for standard error in the tests of the recipes."""
+"""Replacements for the program and for standard error in the tests of the recipes."""
 import json
 import re
 import sys
@@ -7,25 +7,25 @@ from pathlib import Path
 RECIPES = Path(__file__).resolve().parents[2] / "recipes"
 sys.path.insert(0, str(RECIPES))
 
-from cpe_recipes.said import Said  # noqa: E402
+from cpe_recipes.console import Messages  # noqa: E402
 
 # Names as the tests write them: formatted strings in which nothing is quoted.
 _NAME = re.compile(r"cpe:2\.3(:[^: ]+){11}")
 
 
-class Heard(Said):
-    """What was said, kept."""
+class Heard(Messages):
+    """Keeps all messages."""
 
     def __init__(self):
         super().__init__()
         self.told = []
 
-    def _say(self, line, is_whole=False):
+    def _write(self, line, is_whole=False):
         self.told.append(line)
 
 
 class Names:
-    """Of the program that it refuses what is no name; it takes all else."""
+    """Replaces the program: it refuses texts that are no names, and accepts all else."""
 
     def lines(self, words, records):
         assert words == ["resolve"]

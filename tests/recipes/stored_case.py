@@ -1,5 +1,5 @@
-"""What the tests of stores share: what a recipe writes and says, a run that is killed, records and pages, and a store that was filled in a
-drawn way."""
+"""Shared by the tests of stores: the output and messages of a recipe, a run that is killed, records and pages, and a
+randomly filled store."""
 import io
 import json
 import os
@@ -11,21 +11,22 @@ from drawn_feeds import MEMBERS, Feeds
 from test_portions import advisory
 
 from cpe_recipes import scan, store
-from cpe_recipes.kept import Kept
+from cpe_recipes.store_file import StoreFile
 
 OPTIONS = {"products": "--dictionary", "vulnerabilities": "--advisories", "matchStrings": "--matches"}
 
 
 def ran(run, words):
-    """The status of a recipe, what it writes, and the lines that it says."""
+    """The status of a recipe, its output, and its messages."""
     streams = {1: io.BytesIO(), 2: io.BytesIO()}
-    with mock.patch("cpe_recipes.said.os.write", side_effect=lambda to, data: streams[to].write(data)):
+    with mock.patch("cpe_recipes.console.os.write", side_effect=lambda to, data: streams[to].write(data)):
         status = run(words)
     return status, streams[1].getvalue().decode(), streams[2].getvalue().decode().splitlines()
 
 
 def killed(words, moment):
-    """Runs store.py in a process that is killed when it has asked the store so often; whether it was killed before its end."""
+    """Runs store.py in a process that is killed after this many edits of the store, and returns whether it was killed
+    before its end."""
     process = os.fork()
     if process == 0:
         asked = 0
@@ -37,9 +38,9 @@ def killed(words, moment):
                 os.kill(os.getpid(), signal.SIGKILL)
             return put(self, *given)
 
-        put = Kept.put
+        put = StoreFile.put
         try:
-            with mock.patch.object(Kept, "put", ask):
+            with mock.patch.object(StoreFile, "put", ask):
                 ran(store.run, words)
         finally:
             os._exit(0)
@@ -64,7 +65,7 @@ def page(kind, *records, start=0, total=None):
 
 
 class Sequence:
-    """A store that was filled in a drawn way, and the pages in the order in which they were added."""
+    """A randomly filled store, and its pages in the order in which they were added."""
 
     def __init__(self, seed, folder):
         self.folder, self.feeds = Path(folder), Feeds(seed)
@@ -76,13 +77,13 @@ class Sequence:
         self.add(self.feeds.whole(self.folder))
 
     def add(self, pages):
-        """Adds pages in drawn portions, in runs of which some are killed and begun again."""
+        """Adds pages in random portions; some runs are killed and started again."""
         paths = [(kind, path) for kind, of_kind in pages.items() for path in of_kind]
         while paths:
             count = self.draw.randint(1, 9)
             for kind, path in paths[:count]:
                 data = Path(path).read_bytes()
-                # (one of the same bytes is the same page)
+                # (a page with the same bytes is the same page)
                 if data not in self.bytes:
                     self.bytes.add(data)
                     self.added[kind].append(path)
@@ -96,7 +97,7 @@ class Sequence:
         ran(store.run, words)
 
     def day(self):
-        """A day later: a window of changes, perhaps with a page that is there or an older one; sometimes all pages again."""
+        """A day later: a window of changes, perhaps with a known or an older page; sometimes all pages again."""
         what = self.draw.randrange(6)
         self.add(self.feeds.whole(self.folder) if what == 0 else self.feeds.changed(self.folder))
         if what == 1:
@@ -105,19 +106,19 @@ class Sequence:
             self.add({kind: [self._spelled_otherwise(self.draw.choice(of_kind))] for kind, of_kind in self.added.items()})
 
     def _spelled_otherwise(self, path):
-        """A page that was added before, in other bytes."""
+        """An added page, in other bytes."""
         self.feeds.pages += 1
         other = self.folder / f"page-{self.feeds.pages}.json"
         other.write_text(json.dumps(json.loads(Path(path).read_text()), indent=1))
         return str(other)
 
     def scanned(self, *words):
-        """What a scan from the store writes, and what one of all pages does."""
+        """The output of a scan from the store, and of a scan of all pages."""
         pages = [word for kind, paths in self.added.items() for word in (OPTIONS[kind], *paths)]
         return ran(scan.run, ["--store", self.store, *words]), ran(scan.run, [*pages, *words])
 
 
 def of_verdicts(said):
-    """What is said, except of pages: that something comes more than once; and without the commands to copy."""
+    """The messages, except those about pages and about several records of an id; without the commands to copy."""
     lines = (line.split("; to list them: ")[0] for line in said)
     return sorted(line for line in lines if " more than once" not in line and "page-" not in line)

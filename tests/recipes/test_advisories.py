@@ -1,4 +1,4 @@
-"""What becomes of NVD's advisories."""
+"""How NVD's advisories become statements."""
 import itertools
 import json
 import random
@@ -10,8 +10,8 @@ sys.path.insert(0, str(Path(__file__).resolve().parent))
 
 from stand_in import Heard, Names  # noqa: E402 (it knows where the recipes are)
 from cpe_recipes.advisories import Range, base_id, convert, details, parts  # noqa: E402
+from cpe_recipes.console import Fatal  # noqa: E402
 from cpe_recipes.feeds import FormFault, Page, record_text  # noqa: E402
-from cpe_recipes.said import Fatal  # noqa: E402
 
 
 def name(product, version="*"):
@@ -31,12 +31,12 @@ def cve(*configurations, id="CVE-2024-99999", **more):
 
 
 def converted(*vulnerabilities, is_decided=True):
-    said = Heard()
-    return convert([Page("it.json", "vulnerabilities", list(vulnerabilities))], Names(), said, is_decided), said
+    messages = Heard()
+    return convert([Page("it.json", "vulnerabilities", list(vulnerabilities))], Names(), messages, is_decided), messages
 
 
 def outcome(*vulnerabilities, is_decided=True):
-    """The tests of the statements, and what is left out."""
+    """The tests of the statements, and the messages about what is left out."""
     found, _ = converted(*vulnerabilities, is_decided=is_decided)
     return [json.loads(one.record)["test"] for one in found.candidates if one.record], [one.reason for one in found.candidates if one.reason]
 
@@ -70,7 +70,7 @@ class Logic(unittest.TestCase):
             self.assertEqual((tests, left), ([{"op": "OR", "of": [{"op": "OR", "of": [inner]}]}], []))
         tests, _ = outcome(cve({"nodes": [beside]}))
         logic = {"op": "OR", "of": [{"op": "OR", "negate": True, "of": [fact("c", "3"), inner]}]}
-        # (it could hold without what is vulnerable, so that is asked for beside it)
+        # (it could hold without the vulnerable product, so the statement also asks for that)
         self.assertEqual(tests[0]["of"], [{"op": "AND", "of": [logic, {"op": "OR", "of": [fact("c", "3"), fact("a", "1")]}]}])
 
     def test_nodes_that_are_none(self):
@@ -188,11 +188,11 @@ class Faults(unittest.TestCase):
                 self.assertEqual((len(tests), len(left)), (1, 1))
 
     def test_an_empty_page_is_remarked(self):
-        said, empty = Heard(), Page("empty.json", "vulnerabilities", [])
-        found = convert([empty, Page("it.json", "vulnerabilities", [cve({"nodes": [node(match("a", "1"))]})])], Names(), said, True)
-        self.assertEqual((len(found.candidates), said.told), (1, []))
-        found.tell_empty_pages(said)
-        self.assertEqual(said.told, ["remark empty.json: no vulnerabilities in it"])
+        messages, empty = Heard(), Page("empty.json", "vulnerabilities", [])
+        found = convert([empty, Page("it.json", "vulnerabilities", [cve({"nodes": [node(match("a", "1"))]})])], Names(), messages, True)
+        self.assertEqual((len(found.candidates), messages.told), (1, []))
+        found.report_empty_pages(messages)
+        self.assertEqual(messages.told, ["remark empty.json: no vulnerabilities in it"])
 
     def test_empty_pages_alone_are_fatal(self):
         with self.assertRaises(Fatal) as caught:

@@ -1,11 +1,12 @@
-"""Tables of verdicts: what is whole, what is shown, accepted, and hung on; and what changed between two."""
+"""Tables of verdicts: whether they are whole, and their shown, accepted and open verdicts; and the changes between
+two."""
 import json
 import subprocess
 import unittest
 
 from recipe_case import RECIPES, RecipeCase
 
-from cpe_recipes.said import Fatal
+from cpe_recipes.console import Fatal
 from cpe_recipes.verdicts import read_verdicts
 
 TABLE = "refused 3 json\nverdict a FALSE\nverdicts 3\nverdict a TRUE\nverdict b FALSE\nverdict c UNKNOWN\n"

@@ -1,5 +1,6 @@
-"""A machine's verdicts are its own: they are the same alone, among other machines, in any order, and in a fleet. All by the program that
-CPE names; without it these tests are skipped. CPE_FLEETS is how many fleets are drawn, and CPE_SEED the first of their seeds."""
+"""A machine's verdicts don't depend on other machines: they are the same alone, among others, in any order, and in a
+fleet. The tests need the program that CPE names, and are skipped without it. CPE_FLEETS is how many fleets are drawn,
+and CPE_SEED the first of their seeds."""
 import os
 import unittest
 from collections import Counter
@@ -7,7 +8,7 @@ from collections import Counter
 from test_scan import Drawn, name, of_fleet, ranged, scanned, statement, truths
 
 from cpe_recipes.advisories import Range
-from cpe_recipes.cases import Known
+from cpe_recipes.cases import FeedData
 from cpe_recipes.components import Component, Machine
 
 FLEETS, SEED = int(os.environ.get("CPE_FLEETS", "20")), int(os.environ.get("CPE_SEED", "1"))
@@ -23,7 +24,7 @@ def negated(*children):
 
 
 class DrawnParts(Drawn):
-    """Names of all parts, versions that are the same in two spellings, packages of distributions, and components with two names."""
+    """Names of all parts, versions with two spellings, packages of distributions, and components with two names."""
 
     PRODUCTS, VERSIONS = ["p", "q"], ["1.0", "v1.0", "1.1", "2.0", "*"]
 
@@ -31,7 +32,7 @@ class DrawnParts(Drawn):
         return super().name(versions).replace(":a:", f":{self.draw.choice('aaoh')}:", 1)
 
     def child(self, depth):
-        """The test of NVD's configurations, and some that go deeper; a check stays open now and then."""
+        """The test of NVD's configurations, and some that are nested deeper; now and then a check has no result."""
         kind = self.draw.random()
         if depth and kind < 0.55:
             of = [self.child(depth - 1) for _ in range(self.draw.randint(1, 3))]
@@ -46,14 +47,14 @@ class DrawnParts(Drawn):
         return [Machine(f"m{k}", [self.component(versions) for _ in range(self.draw.randint(1, 4))]) for k in range(8)]
 
     def listed(self):
-        """What the match feed lists for some ranges."""
+        """The lists of the match feed for some ranges."""
         return {key: [self.name(["1.0", "2.0"])] for key in self.ranges if self.draw.random() < 0.2}
 
 
 @unittest.skipUnless(os.environ.get("CPE"), "CPE names no program")
 class Alone(unittest.TestCase):
     def check(self, known, machines, listed=None):
-        """The verdicts of the machines, which are the same alone, and in the order that is turned round."""
+        """Checks that the verdicts of the machines are the same alone, and in the reverse order."""
         made, found = scanned(known, machines, listed)
         all_of_them = [truths(known, made, one) for one in found]
         turned = [Machine(one.name, reversed(one.components)) for one in reversed(machines)]
@@ -68,17 +69,17 @@ class Alone(unittest.TestCase):
         old, new = Range("OLD", name("v", "p"), "0.5", "2.0", end_excluded=True), Range("NEW", name("v", "p"), "3.0", "4.0")
         asks = [statement("OLD", ranged(old)), statement("NEW", ranged(new)), statement("NOT-OLD", ranged(old), negate=True)]
         asks += [statement("NOT-NEW", ranged(new), negate=True), statement("NAME", {"fact": name("v", "p", "1.0")})]
-        known = Known([], asks, {"OLD": old, "NEW": new}, {}, {})
+        feed_data = FeedData([], asks, {"OLD": old, "NEW": new}, {}, {})
         wanted = {"OLD": "TRUE", "NEW": "FALSE", "NOT-OLD": "FALSE", "NOT-NEW": "TRUE", "NAME": "TRUE"}
         plain, other = name("v", "p", "1.0"), name("v", "p", "v1.0")
         deb = Component(names=(name("v", "p", "1.0-2"),), kind="deb")
         machines = [Machine(f"m{k}", has) for k, has in enumerate([[plain], [other], [deb], [plain, other], [other, deb], [deb, plain]])]
-        self.assertEqual(self.check(known, machines), [wanted] * len(machines))
+        self.assertEqual(self.check(feed_data, machines), [wanted] * len(machines))
 
     def test_a_spelling_that_may_be_in_a_range_is_unknown_where_that_is_negated(self):
         one = Range("ONE", name("v", "p"), "1.0", "1.0")
-        known = Known([], [statement("NOT", ranged(one), negate=True), statement("NAME", {"fact": name("v", "p", "1.0")})], {"ONE": one}, {}, {})
-        found = self.check(known, [Machine("a", [name("v", "p", "1.0-2")]), Machine("b", [name("v", "p", "1.0")]), Machine("c", [name("v", "p", "2.0")])])
+        feed_data = FeedData([], [statement("NOT", ranged(one), negate=True), statement("NAME", {"fact": name("v", "p", "1.0")})], {"ONE": one}, {}, {})
+        found = self.check(feed_data, [Machine("a", [name("v", "p", "1.0-2")]), Machine("b", [name("v", "p", "1.0")]), Machine("c", [name("v", "p", "2.0")])])
         self.assertEqual([one["NOT"] for one in found], ["UNKNOWN", "FALSE", "TRUE"])
 
     def test_a_part_of_which_a_list_is_silent_beside_what_is_negated(self):
@@ -88,17 +89,17 @@ class Alone(unittest.TestCase):
         far = Range("FAR", name("w", "far"), None, "1")
         asks = [statement("NOT", board, {"op": "OR", "of": [system, negated(app)]}, op="AND"), statement("FAR", ranged(far))]
         asks += [statement("OPEN", board, {"op": "OR", "of": [system, open_check]}, op="AND"), statement("BOTH", board, system, op="AND")]
-        known = Known([], asks, {"FAR": far}, {}, {"BAD": "a name that is none"})
+        feed_data = FeedData([], asks, {"FAR": far}, {}, {"BAD": "a name that is none"})
         other_system, other_board = of_part("o", "other", "1"), of_part("h", "other", "1")
         has = [[other_system], [other_system, of_part("a", "app", "1")], [other_system, other_board], [name("w", "q", "1")]]
         machines = [Machine(f"m{k}", names) for k, names in enumerate(has)]
-        found = self.check(known, machines)
+        found = self.check(feed_data, machines)
         ids = ("NOT", "OPEN", "BOTH")
         wanted = [["UNKNOWN", "UNKNOWN", "FALSE"], ["FALSE", "UNKNOWN", "FALSE"], ["FALSE"] * 3, ["FALSE"] * 3]
         self.assertEqual([[one[id] for id in ids] for one in found], wanted)
-        made, found_of_all = scanned(known, machines, is_all_asked=True)
-        self.assertEqual([truths(known, made, one) for one in found_of_all], found)
-        self.assertEqual([{line.split()[1]: line.split()[2] for line in lines} for lines in of_fleet(known, machines, False)], found)
+        made, found_of_all = scanned(feed_data, machines, is_all_asked=True)
+        self.assertEqual([truths(feed_data, made, one) for one in found_of_all], found)
+        self.assertEqual([{line.split()[1]: line.split()[2] for line in lines} for lines in of_fleet(feed_data, machines, False)], found)
 
     def test_drawn_fleets(self):
         counts, ranges = Counter(), 0

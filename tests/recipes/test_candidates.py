@@ -14,11 +14,11 @@ from recipe_case import RecipeCase, fs  # noqa: E402 (it knows where the recipes
 from cpe_recipes import names_table, package_urls  # noqa: E402
 from cpe_recipes.candidates import candidates_of, forms_of  # noqa: E402
 from cpe_recipes.components import Component, Machine  # noqa: E402
+from cpe_recipes.console import Fatal  # noqa: E402
 from cpe_recipes.feeds import FormFault  # noqa: E402
 from cpe_recipes.names_table import Product, Tables, read_table  # noqa: E402
-from cpe_recipes.naming import name_machines  # noqa: E402
+from cpe_recipes.package_names import name_machines  # noqa: E402
 from cpe_recipes.product_index import ByName, ProductIndex  # noqa: E402
-from cpe_recipes.said import Fatal  # noqa: E402
 
 TOMCAT = "pkg:deb/debian/tomcat9@9.0.43-2~deb11u6?arch=all&distro=debian-11&upstream=tomcat9"
 

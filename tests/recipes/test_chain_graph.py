@@ -4,12 +4,12 @@ import subprocess
 import unittest
 
 from recipe_case import RecipeCase, fs, needs_cpe
-from cpe_recipes.chain_graph import graph, quoted
+from cpe_recipes.chain_graph import graph, quote
 
 
 class Lines(unittest.TestCase):
     def test_quoting(self):
-        self.assertEqual(quoted('a\\:b"c'), '"a\\\\:b\\"c"')
+        self.assertEqual(quote('a\\:b"c'), '"a\\\\:b\\"c"')
 
     def test_graph(self):
         steps = {"a": "NAME_CORRECTION", "b": "active", "c": "NAME_REMOVAL", "d": ""}

@@ -1,4 +1,4 @@
-"""What CVE records of format 5 say of names, and how they stand beside NVD's."""
+"""The names in CVE records of format 5, and how these records are combined with NVD's."""
 import itertools
 import json
 import unittest
@@ -6,16 +6,16 @@ import unittest
 from recipe_case import RecipeCase, fs
 from stand_in import Heard, Names
 
-from cpe_recipes import cve5, feeds, whole
+from cpe_recipes import completeness, cve5, feeds
 from cpe_recipes.advisories import convert
-from cpe_recipes.said import Fatal
+from cpe_recipes.console import Fatal
 
 ID, NAME = "CVE-2024-1001", fs("acme", "tool")
 NO_DEFAULT = "the status of versions that the record doesn't list is unknown"
 
 
 def record(*affected, id=ID, state="PUBLISHED", adp=(), modified="2024-03-01T10:00:00.000Z", **cna):
-    """A record as cvelistV5 has it."""
+    """A record of cvelistV5."""
     metadata = {"cveId": id, "assignerOrgId": "8254265b", "state": state, "datePublished": "2024-02-01T10:00:00.000Z", "dateUpdated": modified}
     own = {"providerMetadata": {"orgId": "8254265b"}, "affected": list(affected), "descriptions": [{"lang": "en-US", "value": "A tool."}], **cna}
     return {"dataType": "CVE_RECORD", "dataVersion": "5.1", "cveMetadata": metadata, "containers": {"cna": own, "adp": list(adp)}}
@@ -36,7 +36,7 @@ def applicable(*matches):
 
 class Records(unittest.TestCase):
     def matches(self, *affected, **more):
-        """The matches that become of what is affected: bounds in short, or the doubt."""
+        """The matches of an `affected` member: short bounds, or the doubt."""
         cve = cve5.vulnerability(record(*affected, **more))["cve"]
         found = [match for one in cve["configurations"] for node in one["nodes"] for match in node["cpeMatch"]]
         short = {"versionStartIncluding": "from", "versionEndIncluding": "to", "versionEndExcluding": "before"}
@@ -129,10 +129,10 @@ class Mixed(RecipeCase):
         return {"totalResults": 1, "startIndex": 0, "resultsPerPage": 1, "format": "NVD_CVE", "version": "2.0", "vulnerabilities": [{"cve": cve}]}
 
     def ends(self, *values):
-        """The ends of the ranges of what is converted."""
-        self.said = Heard()
+        """The ends of the ranges of a converted record."""
+        self.messages = Heard()
         paths = [self.file(f"{number}.json", json.dumps(value)) for number, value in enumerate(values, 1)]
-        self.found = convert(whole.pages(paths, self.said, ("vulnerabilities",), strict=True), Names(), self.said, True)
+        self.found = convert(completeness.pages(paths, self.messages, ("vulnerabilities",), strict=True), Names(), self.messages, True)
         return [one.end for one in self.found.ranges.values()]
 
     def test_of_one_id_nvds_where_it_is_analysed_and_else_the_records_own(self):
@@ -140,7 +140,7 @@ class Mixed(RecipeCase):
         for analysed, order in itertools.product((True, False), (1, -1)):
             nvd = self.nvd({"versionEndExcluding": "2.0"}) if analysed else self.nvd(status="Undergoing Analysis", modified="2025-01-01")
             self.assertEqual(self.ends(*(own, nvd)[::order]), ["2.0" if analysed else "1.1"])
-            self.assertEqual((self.said.told, self.found.states.unanalysed), ([], {}))
+            self.assertEqual((self.messages.told, self.found.states.unanalysed), ([], {}))
         self.assertEqual(self.ends(own, self.nvd(status="Rejected")), ["1.1"])
 
     def test_where_neither_has_names_nvds_status_is_told(self):
@@ -162,13 +162,13 @@ class Mixed(RecipeCase):
         self.assertEqual([one["op"] for one in test], ["AND", "AND"])
         key = test[1]["of"][1]["check"]["id"]
         self.assertEqual(self.found.stand_ins, {key: f"{NAME}: no order is stated of its versions from 2.0 to 3.0 (no versionType)"})
-        self.assertEqual((len(self.found.candidates), self.said.status()), (1, 0))
+        self.assertEqual((len(self.found.candidates), self.messages.status()), (1, 0))
 
     def test_lists_and_lines_of_records(self):
         one, two = record(affected(version("1.0"))), record(affected(version("1.2")), id="CVE-2024-1002")
         self.assertEqual(self.ends([one, two]), ["1.0", "1.2"])
         path = self.file("all.jsonl", [one, two])
-        self.assertEqual([page.kind for page in feeds.pages([path], self.said, ("vulnerabilities",))], [feeds.RECORDS] * 2)
+        self.assertEqual([page.kind for page in feeds.pages([path], self.messages, ("vulnerabilities",))], [feeds.RECORDS] * 2)
 
     def test_what_is_no_record_is_told(self):
         for bad in ([], [7], [record(), 7], {"dataType": "CVE"}, {"containers": {}}):
@@ -178,7 +178,7 @@ class Mixed(RecipeCase):
             with self.subTest(bad), self.assertRaisesRegex(Fatal, "a CVE record of version .*, and 5 is what is read"):
                 self.ends({**record(), "dataVersion": bad})
         with self.assertRaisesRegex(Fatal, "no products"):
-            list(whole.pages([self.file("1.json", record())], self.said, ("products",)))
+            list(completeness.pages([self.file("1.json", record())], self.messages, ("products",)))
         self.ends({**record(), "cveMetadata": 7}, self.nvd({"versionEndExcluding": "2.0"}))
         self.assertEqual([one.reason for one in self.found.candidates if one.reason], ["not of the published form"])
 

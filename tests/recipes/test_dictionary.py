@@ -5,7 +5,7 @@ import unittest
 from recipe_case import RecipeCase
 
 from cpe_recipes import dictionary
-from cpe_recipes.said import Fatal
+from cpe_recipes.console import Fatal
 
 
 def product(name, **members):
@@ -16,7 +16,7 @@ class Feeds(RecipeCase):
     def records(self, *feeds):
         paths = [self.file(f"{number}.json", feed) for number, feed in enumerate(feeds, 1)]
         return [
-            (one.id, json.loads(one.record) if one.record else one.reason) for one in dictionary.candidates_of(paths, self.said)
+            (one.id, json.loads(one.record) if one.record else one.reason) for one in dictionary.candidates_of(paths, self.messages)
         ]
 
     def products(self, *products):
@@ -94,7 +94,7 @@ class Feeds(RecipeCase):
 
     def test_a_feed_without_records(self):
         self.assertEqual(len(self.records({"products": [], "totalResults": 0}, {"products": [product("x")], "totalResults": 1})), 1)
-        self.assertEqual(self.said.told, ["remark 1.json: no products in it"])
+        self.assertEqual(self.messages.told, ["remark 1.json: no products in it"])
         with self.assertRaises(Fatal) as caught:
             self.records({"matchStrings": []})
         self.assertEqual(str(caught.exception), "1.json: no matchStrings in it")

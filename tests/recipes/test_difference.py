@@ -1,4 +1,5 @@
-"""What a scan from a store takes of an earlier one, and what it decides again; what is kept, and what changed from day to day."""
+"""What a scan from a store takes from an earlier one, and what it decides again; what is kept, and what changed from
+day to day."""
 import gzip
 import itertools
 import json
@@ -12,9 +13,9 @@ from stored_case import cve, page, product, ran
 from test_portions import match
 
 from cpe_recipes import scan, store
+from cpe_recipes.console import Fatal
 from cpe_recipes.difference import Difference
-from cpe_recipes.kept import FILE
-from cpe_recipes.said import Fatal
+from cpe_recipes.store_file import FILE
 
 HERE, OTHER = fs("v", "p", "1.0"), fs("w", "q", "1.0")
 LATER = "2024-02-01T00:00:00.000"
@@ -33,15 +34,15 @@ class Daily(RecipeCase):
         self.assertEqual(ran(store.run, ["add", "--store", self.store, *paths])[0], 0)
 
     def scan(self, *words, status=0):
-        """The verdicts that a scan writes, what it says, and how many statements it decided again; None if it decided all."""
-        asked, prepared = [], Difference.prepared
+        """The verdicts of a scan, its messages, and the statements that it decided again; None if it decided all."""
+        asked, prepared = [], Difference.plan
 
         def noted(difference, ids):
             found = prepared(difference, ids)
-            asked.append(found and [one.id for one in found.found.known.statements])
+            asked.append(found and [one.id for one in found.extract.feed_data.statements])
             return found
 
-        with mock.patch.object(Difference, "prepared", noted):
+        with mock.patch.object(Difference, "plan", noted):
             found, written, said = ran(scan.run, ["--json", "--store", self.store, "--machines", self.machines, *words])
         self.assertEqual(found, status, said)
         rows = [(of["name"], one["id"][-1], one["verdict"]) for of in json.loads(written)["machines"] for one in of.get("verdicts", ())]
@@ -64,12 +65,12 @@ class Daily(RecipeCase):
         first, said, _ = self.scan()
         for words in (["--strict"], ["--why"], ["--hardware", "none"], ["--letters", self.file("letters", "v:p\n")], ["--fresh"], ["--all"]):
             self.assertEqual(self.scan(*words)[2], None, words)
-        with mock.patch("cpe_recipes.earlier.maker", lambda: "other recipes"):
+        with mock.patch("cpe_recipes.earlier_scans.recipes_checksum", lambda: "other recipes"):
             self.assertEqual(self.scan(), (first, said, None))
-        with mock.patch("cpe_recipes.earlier.shutil.which", lambda _: __file__):
+        with mock.patch("cpe_recipes.earlier_scans.shutil.which", lambda _: __file__):
             self.assertEqual(self.scan(), (first, said, None))
         self.assertEqual(self.scan(), (first, said, []))
-        # (what isn't known to scans before changes none)
+        # (a file that an earlier scan didn't know changes nothing)
         self.assertEqual(self.scan("--settled", self.file("settled", ""), "--partial", "--large")[2], [])
 
     def test_files_that_can_not_be_read(self):
@@ -90,7 +91,7 @@ class Daily(RecipeCase):
         self.assertEqual(self.scan()[::2], ([("m", "2", "TRUE"), ("n", "1", "TRUE")], None))
 
     def test_what_can_not_be_kept(self):
-        with mock.patch("cpe_recipes.earlier.os.replace", side_effect=OSError(28, "No space left on device")):
+        with mock.patch("cpe_recipes.earlier_scans.os.replace", side_effect=OSError(28, "No space left on device")):
             rows, said, _ = self.scan()
         self.assertEqual(rows, [("m", "1", "TRUE"), ("n", "2", "TRUE")])
         self.assertIn("the verdicts could not be kept (No space left on device), so the next scan decides all of them", said[-1])
@@ -106,13 +107,14 @@ class Daily(RecipeCase):
         self.add(page("vulnerabilities", cve(4, match(HERE))))
         self.assertEqual([self.scan("--machines", path)[2] for path in (one, other)], [["CVE-2024-0004"]] * 2)
         self.assertEqual(self.scan()[::2], ([*both[0][:1], ("m", "4", "TRUE"), both[0][1]], ["CVE-2024-0004"]))
-        # (a machine more, and it is the same fleet)
+        # (with one machine more it is still the same fleet)
         self.file("machines", f"m {HERE}\nn {OTHER}\no {OTHER}\n")
         self.scan()
         self.assertEqual(len(self.fleets()), 3)
 
     def list_other(self):
-        """Has a match list an item of the second machine, so that it has the name of another product, and with it that product's advisory."""
+        """Makes a match list an item of the second machine. So the item gets the name of another product, and that
+        product's advisory concerns it."""
         listed = {"matchString": {"matchCriteriaId": "K", "criteria": fs("x", "r"), "matches": [{"cpeName": OTHER}]}}
         self.add(page("vulnerabilities", cve(5, ranged(fs("x", "r"))), cve(6, match(fs("x", "r", "1.0")))), page("matchStrings", listed))
         self.assertEqual(self.scan()[0], [("m", "1", "TRUE"), *(("n", id, "TRUE") for id in "256")])
@@ -129,13 +131,13 @@ class Daily(RecipeCase):
         self.assertEqual(self.scan()[0], wanted)
 
     def test_an_advisory_that_changed_otherwise(self):
-        """Its verdict is decided again, though it names what it named before."""
+        """Its verdict is decided again, though it has the same names."""
         self.scan()
         self.add(page("vulnerabilities", cve(1, match(HERE), match(fs("v", "p", "2.0")), modified=LATER)))
         self.assertEqual(self.scan()[::2], ([("m", "1", "TRUE"), ("n", "2", "TRUE")], ["CVE-2024-0001"]))
 
     def test_an_item_in_another_order(self):
-        """Its machine is decided again, on which remarks have the order of items."""
+        """Its machine is decided again, because remarks follow the order of items."""
         self.file("machines", f"m {HERE} {OTHER}\n")
         both = [("m", "1", "TRUE"), ("m", "2", "TRUE")]
         self.assertEqual(self.scan()[0], both)
@@ -143,7 +145,7 @@ class Daily(RecipeCase):
         self.assertEqual(self.scan()[::2], (both, ["CVE-2024-0001", "CVE-2024-0002"]))
 
     def test_an_item_of_a_part_that_a_machine_had_not(self):
-        """Then its list isn't silent of operating systems any more, so what depends on one is decided again."""
+        """Then its list names an operating system, so verdicts that depend on one are decided again."""
         system = fs("o", "s", "1.0").replace(":a:", ":o:")
         on_system = cve(5, match(HERE))
         beside = {"operator": "OR", "negate": False, "cpeMatch": [match(system) | {"vulnerable": False, "matchCriteriaId": "S"}]}
@@ -158,14 +160,15 @@ class Daily(RecipeCase):
         self.add(page("vulnerabilities", cve(5, match(fs("y", "s")), modified=LATER)), *pages)
 
     def test_a_match_that_no_advisory_asks_for_any_more(self):
-        """Then nothing leads from the product of the match to the item that it listed, nor back; and an advisory that did not change has
-        another verdict."""
+        """Then nothing connects the match's product with the item that it listed, and an advisory that did not change
+        has another verdict."""
         self.list_other()
         self.ask_for_the_match_no_more()
         self.assertEqual(self.scan()[::2], ([("m", "1", "TRUE"), ("n", "2", "TRUE")], ["CVE-2024-0002", "CVE-2024-0006"]))
 
     def test_a_name_that_an_item_had_before(self):
-        """Its advisories are decided again too: of an item that is touched by something else, and of one that its machine hasn't any more."""
+        """The advisories of its earlier names are decided again too: for an item that something else touches, and for
+        one that its machine has lost."""
         self.list_other()
         self.ask_for_the_match_no_more(page("products", product(OTHER, LATER)))
         self.assertEqual(self.scan()[::2], ([("m", "1", "TRUE"), ("n", "2", "TRUE")], ["CVE-2024-0002", "CVE-2024-0006"]))
@@ -182,7 +185,7 @@ class Daily(RecipeCase):
         # (each item has both names now)
         wanted = [(machine, id, "TRUE") for machine in "mn" for id in "12"]
         self.assertEqual(self.scan()[::2], (wanted, ["CVE-2024-0001", "CVE-2024-0002"]))
-        # (so what comes on one of the names concerns the other item too, also if no machine has the first)
+        # (so an advisory on one of the names concerns the other item too, even if no machine has the first)
         for id, name, item in (("7", HERE, OTHER), ("8", OTHER, HERE)):
             self.file("machines", f"of-{id} {item}\n")
             before = self.scan()[0]
@@ -190,7 +193,7 @@ class Daily(RecipeCase):
             self.assertEqual(self.scan()[::2], ([*before, (f"of-{id}", id, "TRUE")], [f"CVE-2024-000{id}"]))
 
     def test_a_list_by_which_a_version_is_in_a_range(self):
-        """The item has no other product by it, and the verdict is another one."""
+        """The list gives the item no other product, but another verdict."""
         self.add(page("vulnerabilities", cve(5, ranged(fs("w", "q")) | {"versionEndIncluding": "0.5"})))
         self.assertEqual(self.scan()[0], [("m", "1", "TRUE"), ("n", "2", "TRUE")])
         listed = {"matchString": {"matchCriteriaId": "K", "criteria": fs("w", "q"), "matches": [{"cpeName": OTHER}]}}
@@ -213,7 +216,7 @@ class Daily(RecipeCase):
             lambda: self.file("machines", f"n {OTHER}\no {HERE}\np {OTHER}\n"),
         ]):
             change()
-            with mock.patch("cpe_recipes.keeping.now", lambda: days[day]):
+            with mock.patch("cpe_recipes.scan_recorder.current_time", lambda: days[day]):
                 self.scan()
         wanted = [
             [days[1], "new m CVE-2024-0004 none TRUE"],

@@ -1,4 +1,5 @@
-"""A scan from a store that takes verdicts of an earlier one writes what one does that decides all, whatever was added, changed or killed.
+"""A scan from a store that takes verdicts of an earlier one has the same output as a scan that decides all, whatever
+was added, changed or killed.
 
 DIFFERENCE_SEQUENCES is how many sequences are drawn (24 if it isn't set), and DIFFERENCE_FIRST the first one of them.
 """
@@ -17,7 +18,7 @@ from stored_case import killed, ran
 
 from cpe_recipes import names_table, scan, store
 from cpe_recipes.difference import Difference
-from cpe_recipes.earlier import Fleets
+from cpe_recipes.earlier_scans import EarlierScans
 
 SEQUENCES = int(os.environ.get("DIFFERENCE_SEQUENCES", "24"))
 FIRST = int(os.environ.get("DIFFERENCE_FIRST", "0"))
@@ -25,8 +26,8 @@ FORMS = ([], ["--why"], ["--strict", "--hardware", "none"], ["--platform", "cpe:
 
 
 class Plain(Feeds):
-    """Feeds of more products, with few odd records and few deprecations, so that what changes doesn't touch all of them; names say of
-    versions, updates and more what others say otherwise."""
+    """Feeds of more products, with few odd records and few deprecations, so that a change touches only some of them.
+    Names have other versions, updates and so on than other names."""
 
     def name(self, version=None, part="a"):
         if version is None:
@@ -41,7 +42,7 @@ class Plain(Feeds):
             match = super().match(is_vulnerable, part)
             if match["criteria"] not in ODD_NAMES or self.is_one_of(8):
                 break
-        # (of two advisories with one id of a match, each scan decides all)
+        # (if two advisories share the id of a match, each scan decides all)
         if not self.is_one_of(400):
             key = f"K{self.draw.randrange(10**9)}"
             if match["matchCriteriaId"] in self.matches:
@@ -64,7 +65,7 @@ class Plain(Feeds):
 
     def changed(self, folder):
         pages = super().changed(folder)
-        # (mostly one kind has changed)
+        # (mostly one kind of feed has changed)
         return pages if self.is_one_of(3) else {kind: pages[kind] for kind in self.draw.sample(sorted(pages), min(len(pages), 1))}
 
 
@@ -115,10 +116,10 @@ class Fleet:
 
 
 def scan_killed(words, folder, moment):
-    """Runs a scan that is killed where it keeps what it decided: before it, or in the middle of the file."""
+    """Runs a scan that is killed while it keeps its decisions: before the file, or in the middle of it."""
     process = os.fork()
     if process == 0:
-        name = ("cpe_recipes.earlier.os.replace", "cpe_recipes.keeping.Fleets.put")[moment]
+        name = ("cpe_recipes.earlier_scans.os.replace", "cpe_recipes.scan_recorder.EarlierScans.put")[moment]
         try:
             with mock.patch(name, side_effect=lambda *_: os.kill(os.getpid(), signal.SIGKILL)):
                 ran(scan.run, words)
@@ -159,20 +160,20 @@ class Sequence:
             self.fleet.day()
 
     def scanned(self, form):
-        """What a scan writes and keeps that takes what it can, and one that decides all."""
-        # (of a run that was killed pages may be missing)
+        """The output and the kept file of a scan that takes what it can, and of one that decides all."""
+        # (a killed run may have left out pages)
         words = ["--json", "--partial", "--store", self.store, "--machines", self.fleet.written(), *form]
         if self.draw.randrange(8) == 0:
             self.kills += scan_killed(words, self.folder, self.draw.randrange(2))
-        kept, prepared = [], Difference.prepared
-        put = Fleets.put
+        kept, prepared = [], Difference.plan
+        put = EarlierScans.put
 
         def counted(difference, ids):
             found = prepared(difference, ids)
             if found is not None:
                 self.scans += 1
                 self.taken += sum(map(len, found.rows.values()))
-                self.again += len(found.found.known.statements)
+                self.again += len(found.extract.feed_data.statements)
             return found
 
         def noted(fleets, fleet, before, said):
@@ -180,22 +181,22 @@ class Sequence:
             if len(kept) == 1:
                 put(fleets, fleet, before, said)
 
-        with mock.patch.object(Fleets, "put", noted), mock.patch.object(Difference, "prepared", counted):
+        with mock.patch.object(EarlierScans, "put", noted), mock.patch.object(Difference, "plan", counted):
             found, wanted = ran(scan.run, words), ran(scan.run, [*words, "--fresh"])
         return (found, kept[:1]), (wanted, kept[1:])
 
 
 def rows_of(fleets):
-    """What is kept of machines, and of the names of items, of fleets; without the time and what changed."""
+    """The kept machines and names of items, without the time and the changes."""
     found = []
     for one in fleets:
         machines = {name: json.loads(json.dumps([then.keys, then.parts, then.has_items, then.rows])) for name, then in one.machines.items()}
-        found.append((machines, one.called, one.successors, one.leads.found, one.leads.refused, one.is_whole))
+        found.append((machines, one.item_names, one.successors, one.leads.found, one.leads.refused, one.is_whole))
     return found
 
 
 @needs_cpe
-# (which never changes, and takes as long as all else)
+# (the table never changes, and reading it takes as long as all else)
 @mock.patch("cpe_recipes.names_table.read_table", functools.cache(names_table.read_table))
 class Sequences(unittest.TestCase):
     maxDiff = 4_000

@@ -1,5 +1,4 @@
-"""How each recipe ends: where there is no room for what it writes, where a name begins with a hyphen or a page is packed, and
-where there is no file."""
+"""How each recipe ends: on a full disk, with names that begin with a hyphen, with packed pages, and without a file."""
 import gzip
 import shutil
 import subprocess
@@ -73,7 +72,7 @@ class Ends(RecipeCase):
         def check(name, words):
             plain = self.run_in("", name, words)
             packed = self.run_in("", name, [word if word.startswith("--") else f"-{word}.gz" for word in words])
-            # (a machine is called as its list is)
+            # (a machine has the name of its list)
             wanted = (
                 plain.stdout.replace("cyclonedx", "-cyclonedx")
                 if words[0] == "--machines" and name == "inventory"

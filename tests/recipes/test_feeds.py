@@ -11,7 +11,7 @@ sys.path.insert(0, str(Path(__file__).resolve().parent))
 
 from stand_in import Heard  # noqa: E402 (it knows where the recipes are)
 from cpe_recipes import feeds  # noqa: E402
-from cpe_recipes.said import Fatal  # noqa: E402
+from cpe_recipes.console import Fatal  # noqa: E402
 
 
 class Pages(unittest.TestCase):
@@ -19,7 +19,7 @@ class Pages(unittest.TestCase):
         folder = tempfile.TemporaryDirectory()
         self.addCleanup(folder.cleanup)
         self.folder = Path(folder.name)
-        self.said = Heard()
+        self.messages = Heard()
 
     def file(self, name, data):
         path = self.folder / name
@@ -27,7 +27,7 @@ class Pages(unittest.TestCase):
         return str(path)
 
     def read(self, *paths, kinds=("rows",), strict=False):
-        return [(page.name, page.kind, page.records) for page in feeds.pages(paths, self.said, kinds, strict)]
+        return [(page.name, page.kind, page.records) for page in feeds.pages(paths, self.messages, kinds, strict)]
 
     def test_a_line_ends_where_cpe_ends_it_alone(self):
         odd = "a\u2028b\u2029c\x85d\x0be\x0cf\x1cg\x1dh\x1ei\rj"
@@ -37,7 +37,7 @@ class Pages(unittest.TestCase):
     def test_pages_of_files_in_their_order(self):
         one, two = self.file("one.json", '{"rows":[1]}'), self.file("two.json", '{"others":[2],"rows":7}')
         self.assertEqual(self.read(one, two, kinds=("rows", "others")), [("one.json", "rows", [1]), ("two.json", "others", [2])])
-        self.assertEqual(self.said.told, [])
+        self.assertEqual(self.messages.told, [])
 
     def test_a_packed_page_and_several_in_one_file(self):
         packed = self.file("one.json.gz", gzip.compress(b'{"rows":[1]}'))
@@ -67,16 +67,16 @@ class Pages(unittest.TestCase):
             with self.subTest(reason), self.assertRaises(Fatal) as caught:
                 self.read(path)
             self.assertTrue(str(caught.exception).startswith(f"{Path(path).name}: {reason}"), caught.exception)
-        self.assertEqual(self.said.told, [])
+        self.assertEqual(self.messages.told, [])
 
     def test_a_bad_page_beside_a_good_one_is_left_out(self):
         good = self.file("good.json", '{"rows":[1]}')
         for reason, path in self.bad().items():
-            self.said.told.clear()
+            self.messages.told.clear()
             with self.subTest(reason):
                 self.assertEqual([rows for _, _, rows in self.read(path, good)], [[1]])
-                self.assertEqual(len(self.said.told), 1)
-                self.assertTrue(self.said.told[0].startswith(f"left out {Path(path).name}: {reason}"))
+                self.assertEqual(len(self.messages.told), 1)
+                self.assertTrue(self.messages.told[0].startswith(f"left out {Path(path).name}: {reason}"))
                 with self.assertRaises(Fatal):
                     self.read(good, path, strict=True)
 
@@ -87,7 +87,7 @@ class Pages(unittest.TestCase):
 
     def test_what_stands_before_a_fault_comes_out(self):
         self.assertEqual([rows for _, _, rows in self.read(self.file("two.json", '{"rows":[1]} {"rows":'))], [[1]])
-        self.assertEqual(len(self.said.told), 1)
+        self.assertEqual(len(self.messages.told), 1)
 
     def test_a_record_without_an_id_has_its_place(self):
         page = feeds.Page("it.json", "rows", [{"id": "a"}, {}, "text", {"id": 7}])

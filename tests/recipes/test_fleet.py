@@ -1,4 +1,4 @@
-"""Fleets: what the workers are asked, what is told of machines, and what is left where one ends early."""
+"""Fleets: the questions to the workers, the messages about machines, and what is left if a worker ends early."""
 import os
 import signal
 import subprocess
@@ -8,10 +8,10 @@ import unittest
 from recipe_case import CPE, RECIPES, RecipeCase, fs, needs_cpe, obey_signals
 
 from cpe_recipes import fleet, names
+from cpe_recipes.arguments import read_arguments
+from cpe_recipes.console import Fatal
 from cpe_recipes.program import Program
-from cpe_recipes.said import Fatal
-from cpe_recipes.session import Asked, Session
-from cpe_recipes.words import read_words
+from cpe_recipes.session import MachineQuestion, Session
 
 OPENSSL = fs("openssl", "openssl", "1.1.1t")
 RANGE = {
@@ -29,41 +29,41 @@ RESULT = {"do": "check", "system": "NVD", "href": "cpeMatch", "id": 'key "1"', "
 class Sessions(RecipeCase):
     def session(self, records=None):
         path = self.file("records", records or STATEMENTS)
-        self.known = fleet.read_records(Program(CPE), path, self.said).known
-        session = Session(CPE, self.known)
+        self.fleet_data = fleet.read_records(Program(CPE), path, self.messages).fleet_data
+        session = Session(CPE, self.fleet_data)
         self.addCleanup(session.end)
         return session
 
     def test_what_was_decided_holds_for_its_machine_alone(self):
         session = self.session()
         key = 'key "1"'
-        self.assertEqual(session.ask(Asked("a", [OPENSSL], [(key, "TRUE")])).lines, ["a ranged TRUE", "a named TRUE"])
-        self.assertEqual(session.ask(Asked("b", [OPENSSL])).lines, ["b ranged UNKNOWN", "b named TRUE"])
+        self.assertEqual(session.ask(MachineQuestion("a", [OPENSSL], [(key, "TRUE")])).lines, ["a ranged TRUE", "a named TRUE"])
+        self.assertEqual(session.ask(MachineQuestion("b", [OPENSSL])).lines, ["b ranged UNKNOWN", "b named TRUE"])
         self.assertEqual(
-            session.ask(Asked("c", ["cpe:/a:openssl:openssl:3"], [(key, "FALSE")])).lines, ["c ranged FALSE", "c named FALSE"]
+            session.ask(MachineQuestion("c", ["cpe:/a:openssl:openssl:3"], [(key, "FALSE")])).lines, ["c ranged FALSE", "c named FALSE"]
         )
 
     def test_an_item_that_is_known_in_part_leaves_open_what_hangs_on_it(self):
         part = "cpe:/a:openssl:openssl:1.1.1%02"
         session = self.session()
-        self.assertEqual(session.ask(Asked("a", [part], [('key "1"', "FALSE")])).lines, ["a ranged FALSE", "a named UNKNOWN"])
-        self.assertEqual(session.ask(Asked("b", [part, OPENSSL])).lines, ["b ranged UNKNOWN", "b named TRUE"])
+        self.assertEqual(session.ask(MachineQuestion("a", [part], [('key "1"', "FALSE")])).lines, ["a ranged FALSE", "a named UNKNOWN"])
+        self.assertEqual(session.ask(MachineQuestion("b", [part, OPENSSL])).lines, ["b ranged UNKNOWN", "b named TRUE"])
 
     def test_what_is_no_item_is_left_out_of_its_machine(self):
         session = self.session()
-        told = session.ask(Asked("a", ["cpe:/a:x%zz", "CPE:/A:OpenSSL:OpenSSL:1.1.1t", OPENSSL, 'cpe:/"\\']))
+        told = session.ask(MachineQuestion("a", ["cpe:/a:x%zz", "CPE:/A:OpenSSL:OpenSSL:1.1.1t", OPENSSL, 'cpe:/"\\']))
         self.assertEqual(told.left_out, [("cpe:/a:x%zz", "name name 9"), ('cpe:/"\\', "name name 5")])
         self.assertEqual(told.lines, ["a ranged UNKNOWN", "a named TRUE"])
 
     def test_a_machine_without_items_has_no_verdicts(self):
         session = self.session()
         for items in ([], ["cpe:/a:x%zz", "cpe:/a:%02"]):
-            told = session.ask(Asked("a", items))
+            told = session.ask(MachineQuestion("a", items))
             self.assertEqual((told.lines, told.has_items, len(told.left_out)), (["a no items"], False, len(items)))
-        self.assertEqual(session.ask(Asked("b", [OPENSSL])).lines, ["b ranged UNKNOWN", "b named TRUE"])
+        self.assertEqual(session.ask(MachineQuestion("b", [OPENSSL])).lines, ["b ranged UNKNOWN", "b named TRUE"])
 
     def test_a_result_that_is_no_result_is_told(self):
-        told = self.session().ask(Asked("a", [OPENSSL], [("key", "PERHAPS")]))
+        told = self.session().ask(MachineQuestion("a", [OPENSSL], [("key", "PERHAPS")]))
         self.assertEqual(told.left_out, [("check key", "member result")])
         self.assertEqual(told.lines, ["a ranged UNKNOWN", "a named TRUE"])
 
@@ -71,18 +71,18 @@ class Sessions(RecipeCase):
         session = self.session(
             [*STATEMENTS, {"do": "statement", "id": "not", "test": {"op": "OR", "negate": True, "of": [{"fact": OPENSSL}]}}]
         )
-        maybe = names.marked(OPENSSL, (names.ATTRIBUTES.index("other"),))
-        asked = Asked("a", ["cpe:/a:x:y"], [('key "1"', "FALSE")], [maybe])
+        maybe = names.blank(OPENSSL, (names.ATTRIBUTES.index("other"),))
+        asked = MachineQuestion("a", ["cpe:/a:x:y"], [('key "1"', "FALSE")], [maybe])
         self.assertEqual(session.ask(asked).lines, ["a ranged FALSE", "a named UNKNOWN", "a not UNKNOWN"])
-        asked = Asked("b", ["cpe:/a:x:y"], [(f"not {OPENSSL}", "FALSE")])
+        asked = MachineQuestion("b", ["cpe:/a:x:y"], [(f"not {OPENSSL}", "FALSE")])
         self.assertEqual(session.ask(asked).lines, ["b ranged FALSE", "b named FALSE", "b not TRUE"])
 
     def asked_of(self, records, machines, *words):
         """The lines of a fleet over these machines, by a session."""
         program, path = Program(CPE), self.file("records", records)
-        read = read_words([path, self.file("machines", machines), *words], fleet.OPTIONS, fleet.USAGE)
-        asked = fleet.read_fleet(program, read, self.said)
-        session = Session(CPE, asked.known)
+        arguments = read_arguments([path, self.file("machines", machines), *words], fleet.OPTIONS, fleet.USAGE)
+        asked = fleet.read_fleet(program, arguments, self.messages)
+        session = Session(CPE, asked.fleet_data)
         self.addCleanup(session.end)
         return [line for machine in asked.machines for line in session.ask(machine).lines if "ranged" not in line]
 
@@ -93,7 +93,7 @@ class Sessions(RecipeCase):
         asks = [{"do": "statement", "id": "gone", "mode": "follow", "test": {"op": "OR", "of": fact}}]
         asks.append({"do": "statement", "id": "not", "mode": "follow", "test": {"op": "OR", "negate": True, "of": fact}})
         lines = self.asked_of([*entries, *asks, *STATEMENTS], f"a {gone} {OPENSSL}\nb {OPENSSL}\nc {gone}\n")
-        self.assertEqual(self.said.told, [f"remark under a removed name {machine} {gone}" for machine in "ac"])
+        self.assertEqual(self.messages.told, [f"remark under a removed name {machine} {gone}" for machine in "ac"])
         wanted = {"a": ["TRUE", "UNKNOWN", "TRUE"], "b": ["FALSE", "TRUE", "TRUE"], "c": ["TRUE", "UNKNOWN", "FALSE"]}
         self.assertEqual(
             lines, [f"{name} {id} {truth}" for name, of in wanted.items() for id, truth in zip(("gone", "not", "named"), of)]
@@ -108,19 +108,19 @@ class Sessions(RecipeCase):
         session = self.session()
         session._run.kill()
         with self.assertRaises((OSError, EOFError)):
-            session.ask(Asked("a", [OPENSSL]))
+            session.ask(MachineQuestion("a", [OPENSSL]))
 
     def test_answers_to_the_records_are_none_to_machines(self):
         session = self.session([{"do": "verdict", "id": "named"}, *STATEMENTS, {"do": "lookup", "name": OPENSSL}, {"do": "none"}])
-        self.assertEqual((self.known.answers, self.known.statements), (3, ["ranged", "named"]))
-        self.assertEqual(self.said.told, ["left out records line 5: member do"])
-        self.assertEqual(session.ask(Asked("b", [OPENSSL])).lines, ["b ranged UNKNOWN", "b named TRUE"])
+        self.assertEqual((self.fleet_data.answers, self.fleet_data.statements), (3, ["ranged", "named"]))
+        self.assertEqual(self.messages.told, ["left out records line 5: member do"])
+        self.assertEqual(session.ask(MachineQuestion("b", [OPENSSL])).lines, ["b ranged UNKNOWN", "b named TRUE"])
 
 
 @needs_cpe
 class Records(RecipeCase):
     def read(self, data):
-        return fleet.read_records(Program(CPE), self.file("records", data), self.said)
+        return fleet.read_records(Program(CPE), self.file("records", data), self.messages)
 
     def fatal(self, data):
         with self.assertRaises(Fatal) as caught:
@@ -144,18 +144,18 @@ class Records(RecipeCase):
             b'{"do":"entry","name":"cpe:/a:v:p","title":"\\\xff"}\r\n\n'
             + b'{"do":"statement","id":"s","test":{"op":"OR","of":[{"fact":"cpe:/a"}]}}'
         )
-        known = self.read(lines).known
+        known = self.read(lines).fleet_data
         self.assertEqual(known.lines.count(b"\n"), 3)
         session = Session(CPE, known)
         self.addCleanup(session.end)
-        self.assertEqual(session.ask(Asked("m", ["cpe:/a:v:p"])).lines, ["m s TRUE"])
+        self.assertEqual(session.ask(MachineQuestion("m", ["cpe:/a:v:p"])).lines, ["m s TRUE"])
 
     def test_decided_lines(self):
         path = self.file("decided", "a\tkey 1\tTRUE\r\nb\tkey 1\tFALSE\na\tkey 2\tFALSE\n")
-        self.assertEqual(fleet.read_decided(path), {"a": [("key 1", "TRUE"), ("key 2", "FALSE")], "b": [("key 1", "FALSE")]})
+        self.assertEqual(fleet.read_results(path), {"a": [("key 1", "TRUE"), ("key 2", "FALSE")], "b": [("key 1", "FALSE")]})
         for bad in ("a\tkey\n", "a\tkey\tUNKNOWN\n", "\n", "a key TRUE\n"):
             with self.assertRaises(Fatal):
-                fleet.read_decided(self.file("decided", bad))
+                fleet.read_results(self.file("decided", bad))
 
 
 @needs_cpe

@@ -1,5 +1,5 @@
-"""The forms of --format: what each says of a result, by hand, and by the rules of its published schema; texts that would run in a
-spreadsheet or link; what was not read; times."""
+"""The forms of --format: their contents by hand, and the rules of their published schemas; texts that a spreadsheet
+would run or that would become links; what was not read; times."""
 import copy
 import csv
 import io
@@ -14,12 +14,12 @@ import json_schema
 from pages import hostile, machine, odd_table, verdict
 from recipe_case import RECIPES, SAMPLES, RecipeCase, needs_cpe
 
+from cpe_recipes.arguments import FLAG, read_arguments
+from cpe_recipes.console import Fatal
 from cpe_recipes.formats import NAMES, OPTIONS, Form, csv_rows, cyclonedx_vex, openvex, sarif
 from cpe_recipes.formats.gaps import Gaps
 from cpe_recipes.formats.links import address
 from cpe_recipes.formats.stamp import published, stamp
-from cpe_recipes.said import Fatal
-from cpe_recipes.words import FLAG, read_words
 
 TIME = "2024-05-01T12:00:00Z"
 NVD = "https://nvd.nist.gov/vuln/detail/"
@@ -54,7 +54,7 @@ LEFT = [("bare", "no items"), ("CVE-2024-0009", "the operator XOR", "vulnerabili
 PARTLY = result(WEB, DB, BARE, left_out=LEFT, notAnalysed={"Received": ["CVE-2024-0007"], "Deferred": ["CVE-2024-0008"]})
 
 
-# What a user settled either way, and packages without a sure name.
+# Verdicts that a user settled either way, and packages without a sure name.
 SETTLED = result(
     machine(
         "m",
@@ -415,7 +415,7 @@ class Odd(FormatCase):
 
 
 def value_shown(value):
-    """As scan.py has it: machines are called as they are shown, and what is not read is no half a character."""
+    """A value of scan.py's form: names can be shown, and texts have no half a surrogate pair."""
     made = copy.deepcopy(value)
     for one in made["machines"]:
         one["name"] = one["name"].encode("utf-8", "replace").decode()
@@ -478,7 +478,7 @@ class Times(unittest.TestCase):
             os.environ.pop("SOURCE_DATE_EPOCH", None)
             if epoch is not None:
                 os.environ["SOURCE_DATE_EPOCH"] = epoch
-            return stamp(read_words(words, OPTIONS, "usage"))
+            return stamp(read_arguments(words, OPTIONS, "usage"))
 
     def test_an_option_then_the_epoch_then_the_clock(self):
         self.assertEqual(self.stamp("--time", "2024-05-01T14:00:00.5+02:00", epoch="0"), TIME)
@@ -505,7 +505,7 @@ class Times(unittest.TestCase):
 
 class Forms(unittest.TestCase):
     def form(self, *words):
-        return Form.of(read_words(words, {**OPTIONS, "--all": FLAG}, "usage"))
+        return Form.of(read_arguments(words, {**OPTIONS, "--all": FLAG}, "usage"))
 
     def test_json_is_the_form_json(self):
         self.assertEqual(self.form("--json"), self.form("--format", "json"))
@@ -519,7 +519,7 @@ class Forms(unittest.TestCase):
 
 @needs_cpe
 class Scans(FormatCase):
-    """scan.py over the samples of ranges, where an item is none, so that the status is 1."""
+    """scan.py over the samples of ranges with an invalid item, so that the status is 1."""
 
     OF = SAMPLES / "ranges"
     WORDS = ["--dictionary", str(OF / "dictionary.json"), "--advisories", str(OF / "advisories.json"), "--matches", str(OF / "matches.json")]
@@ -559,7 +559,8 @@ class Scans(FormatCase):
 
 @needs_cpe
 class Packages(FormatCase):
-    """scan.py over two packages without names: of one the dictionary has a candidate, so that a verdict is UNKNOWN, and of one it has none."""
+    """scan.py over two packages without names: the dictionary has a candidate for one, so that a verdict is UNKNOWN,
+    and none for the other."""
 
     OF = SAMPLES / "lists"
     ID = "CVE-2024-97006"

@@ -27,7 +27,7 @@ def snapshot(*entries, items=()):
 
 class Reading(RecipeCase):
     def words(self, data):
-        return [(it["do"], it.get("name"), it.get("comment")) for it in records(read(data), self.said)]
+        return [(it["do"], it.get("name"), it.get("comment")) for it in records(read(data), self.messages)]
 
     def test_nothing(self):
         self.assertEqual(self.words(snapshot()), [])
@@ -41,7 +41,7 @@ class Reading(RecipeCase):
 
     def test_a_deprecation_without_a_note_is_left_out(self):
         self.assertEqual(self.words(snapshot(entry(fs("v", "p"), 2, [], [(0, "x"), (3, "y")]))), [])
-        self.assertEqual(self.said.left, 1)
+        self.assertEqual(self.messages.left, 1)
 
     def test_what_is_no_snapshot(self):
         whole = snapshot(entry(fs("v", "p"), 1, [0], [(2, "")]), items=[fs("v", "q")])

@@ -4,8 +4,8 @@ import unittest
 from recipe_case import RecipeCase, needs_cpe
 
 from cpe_recipes import inventory, lists
+from cpe_recipes.console import Fatal
 from cpe_recipes.feeds import FeedFault
-from cpe_recipes.said import Fatal
 
 ITEM = '{"do":"item","name":"%s"}'
 
@@ -87,16 +87,16 @@ class Lists(RecipeCase):
 
     def test_a_list_without_an_item_is_said_beside_others(self):
         paths = [self.file("one", "cpe:/a:x\n"), self.file("two", "# none\n"), self.file("three", "<bom/>")]
-        self.assertEqual([one.record for one in inventory.read_lists(paths, self.said)], [ITEM % "cpe:/a:x"])
-        self.assertEqual(self.said.told[0], "left out two: no item in it")
-        self.assertTrue(self.said.told[1].startswith("left out three: XML is not read"))
+        self.assertEqual([one.record for one in inventory.read_lists(paths, self.messages)], [ITEM % "cpe:/a:x"])
+        self.assertEqual(self.messages.told[0], "left out two: no item in it")
+        self.assertTrue(self.messages.told[1].startswith("left out three: XML is not read"))
 
     def test_no_item_at_all_is_fatal(self):
         path = self.file("one", '{"spdxVersion":"SPDX-2.3","packages":[{"SPDXID":"q"}]}')
         with self.assertRaises(Fatal) as caught:
-            inventory.read_lists([path], self.said)
+            inventory.read_lists([path], self.messages)
         self.assertEqual(str(caught.exception), "one: no item in it")
-        self.assertEqual(self.said.told, ["left out q: no CPE name"])
+        self.assertEqual(self.messages.told, ["left out q: no CPE name"])
 
     @needs_cpe
     def test_where_all_items_are_refused_nothing_is_written(self):

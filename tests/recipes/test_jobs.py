@@ -1,4 +1,5 @@
-"""Several processes read pages for a store: it has the same bytes, and the same is said, however many they are; and one that is killed."""
+"""Several processes read pages for a store: the store has the same bytes, and the messages are the same, whatever their
+number; and one process is killed."""
 import io
 import json
 import signal
@@ -16,40 +17,40 @@ from stored_case import cve, page, product, ran
 from test_portions import match
 
 from cpe_recipes import store, workers
-from cpe_recipes.kept import FILE
-from cpe_recipes.said import Fatal
+from cpe_recipes.console import Fatal
+from cpe_recipes.store_file import FILE
 
-# JSON of which parsers may not think alike, in place of a score, of a time and of a text; and what is no JSON.
+# JSON that parsers may read differently, in place of a score, of a time and of a text; and texts that are no JSON.
 ODD_VALUES = ["1e400", "-0", "-0.0", "1E2", "18446744073709551616", "-9223372036854775809", "0.1234567890123456789", '"\\ud800"', '"\\ud83d\\ude00"',
               '{"a":1,"a":2}', '"\\u0000\\u007f"', "[" * 400 + "]" * 400]
 NO_JSON = ["NaN", "-Infinity", "01", "+1", "1.", ".5", '"\t"', '"\\x"', "[" * 200_000, "{'a':1}", "tru", '"\udcff"', "[1,]", ""]
-# A process that is as the others, but is killed when it has read so many pages.
+# A process like the others, except that it is killed when it has read this many pages.
 KILLED = """
 import os, sys
 sys.path.insert(0, sys.argv[1])
-from cpe_recipes import preparing
-left, prepare = [int(sys.argv[2])], preparing.prepare
-def prepared(page):
+from cpe_recipes import page_readers
+left, convert = [int(sys.argv[2])], page_readers.convert_page
+def convert_or_die(page):
     left[0] -= 1
     if left[0] < 0:
         os.kill(os.getpid(), 9)
-    return prepare(page)
-preparing.prepare = prepared
-preparing.run([])
+    return convert(page)
+page_readers.convert_page = convert_or_die
+page_readers.run([])
 """
 
 
 @needs_cpe
 class Jobs(RecipeCase):
     def add(self, jobs, *paths):
-        """The status of a run that adds these, what it writes and says, and the bytes of its store."""
+        """The status of a run that adds these, its output and messages, and the bytes of its store."""
         folder = self.folder / f"store-{jobs}"
-        with mock.patch("cpe_recipes.adding._now", lambda: "2024-01-01T00:00:00+00:00"):
+        with mock.patch("cpe_recipes.store_writer._now", lambda: "2024-01-01T00:00:00+00:00"):
             found = ran(store.run, ["add", "--store", str(folder), "--jobs", str(jobs), *map(str, paths)])
         return *found, (folder / FILE).read_bytes()
 
     def is_the_same(self, *paths):
-        """Whether one process and three do the same with these. What one does is returned."""
+        """Checks that one process and three do the same with these, and returns what one does."""
         one = self.add(1, *paths)
         self.assertEqual(self.add(3, *paths), one)
         return one
@@ -107,12 +108,12 @@ class Jobs(RecipeCase):
             self.assertEqual(written, f"added {9 - 2 * most} pages: {73 - 18 * most} records new or later{there}\n")
 
     def test_what_the_others_do_if_the_first_is_killed(self):
-        """They end, since nothing more is given to them."""
+        """They end, because they get no more input."""
         paths = [self.file(f"{k}.json", page("vulnerabilities", cve(k, match(fs("v", "p"))))) for k in range(4)]
-        script = "import os, signal, sys; sys.path.insert(0, sys.argv.pop(1)); from cpe_recipes import adding, preparing, store\n"
+        script = "import os, signal, sys; sys.path.insert(0, sys.argv.pop(1)); from cpe_recipes import page_readers, store, store_writer\n"
         script += "def put(*_):\n    print(*(one._run.pid for one in found), flush=True); os.kill(os.getpid(), signal.SIGKILL)\n"
-        script += "found, begin = [], preparing._Process.__init__\n"
-        script += "preparing._Process.__init__ = lambda one: (begin(one), found.append(one))[0]\nadding.Adding.put = put\nstore.run(sys.argv[1:])"
+        script += "found, begin = [], page_readers._ReaderProcess.__init__\n"
+        script += "page_readers._ReaderProcess.__init__ = lambda one: (begin(one), found.append(one))[0]\nstore_writer.StoreWriter.put = put\nstore.run(sys.argv[1:])"
         command = [sys.executable, "-BSc", script, str(RECIPES), "add", "--jobs", "2", "--store", str(self.folder / "store"), *paths]
         run = subprocess.run(command, capture_output=True, text=True, check=False)
         self.assertEqual((run.returncode, run.stderr), (-signal.SIGKILL, ""))

@@ -1,4 +1,5 @@
-"""CISA's list of known exploited vulnerabilities and EPSS: how they are read, what isn't one, and where they are shown."""
+"""CISA's list of known exploited vulnerabilities and EPSS: how they are read, which files are refused, and where they
+are shown."""
 import gzip
 import json
 import re
@@ -8,9 +9,9 @@ from pages import Page, machine, table, verdict
 from recipe_case import SAMPLES, RecipeCase, needs_cpe
 from test_report import ReportCase
 
+from cpe_recipes.console import Fatal
 from cpe_recipes.epss import read_epss
 from cpe_recipes.kev import read_kev
-from cpe_recipes.said import Fatal
 from cpe_recipes.threats import Threats
 
 KEV = SAMPLES / "threats" / "known_exploited_vulnerabilities.json"
@@ -23,7 +24,7 @@ ADDED = {"CVE-2024-98010": "2024-04-11", "CVE-2024-98009": "2024-04-19", "CVE-20
 class Kev(RecipeCase):
     def refused(self, data, *words):
         with self.assertRaises(Fatal) as caught:
-            read_kev(self.file("kev", data), self.said)
+            read_kev(self.file("kev", data), self.messages)
         for word in ("kev: ", *words):
             self.assertIn(word, str(caught.exception))
 
@@ -32,11 +33,11 @@ class Kev(RecipeCase):
 
     def test_both_forms_are_the_same_list(self):
         for path in (KEV, KEV_CSV):
-            found = read_kev(str(path), self.said)
+            found = read_kev(str(path), self.messages)
             self.assertEqual({id: one.added for id, one in found.found.items()}, ADDED)
             self.assertEqual((found.found["CVE-2024-98010"].ransomware, found.found["CVE-2024-98010"].due), ("Known", "2024-05-02"))
         packed = self.file("kev.json.gz", gzip.compress(KEV.read_bytes()))
-        self.assertEqual((read_kev(packed, self.said).version, self.said.told), ("2024.04.30", []))
+        self.assertEqual((read_kev(packed, self.messages).version, self.messages.told), ("2024.04.30", []))
 
     def test_a_list_that_is_cut_off_is_refused(self):
         text = KEV.read_text()
@@ -49,8 +50,8 @@ class Kev(RecipeCase):
         self.refused("")
 
     def test_a_csv_whose_last_line_has_no_end_is_said(self):
-        found = read_kev(self.file("kev.csv", KEV_CSV.read_bytes().rstrip()), self.said)
-        self.assertEqual((len(found.found), self.said.told), (3, ["left out kev.csv: its last line has no end, and others may be cut off"]))
+        found = read_kev(self.file("kev.csv", KEV_CSV.read_bytes().rstrip()), self.messages)
+        self.assertEqual((len(found.found), self.messages.told), (3, ["left out kev.csv: its last line has no end, and others may be cut off"]))
 
     def test_another_file_is_refused(self):
         self.refused('{"vulnerabilities":[{"cve":{"id":"CVE-2024-0001"}}],"count":1}', "the cveID of vulnerability 1 is None")
@@ -81,26 +82,26 @@ class Kev(RecipeCase):
     def test_an_id_that_comes_twice_is_said_and_the_first_counts(self):
         rows = self.sample()["vulnerabilities"]
         twice = self.sample(count=4, vulnerabilities=[*rows, {**rows[0], "dateAdded": "2025-01-01"}])
-        found = read_kev(self.file("kev", twice), self.said)
+        found = read_kev(self.file("kev", twice), self.messages)
         self.assertEqual(found.found["CVE-2024-98010"].added, "2024-04-11")
-        self.assertEqual(self.said.told, ["remark kev: CVE-2024-98010 is there twice, and its first vulnerability counts"])
+        self.assertEqual(self.messages.told, ["remark kev: CVE-2024-98010 is there twice, and its first vulnerability counts"])
 
 
 class Epss(RecipeCase):
     def refused(self, data, *words):
         with self.assertRaises(Fatal) as caught:
-            read_epss(self.file("epss", data), self.said)
+            read_epss(self.file("epss", data), self.messages)
         for word in ("epss: ", *words):
             self.assertIn(word, str(caught.exception))
 
     def test_probabilities_plain_and_packed(self):
         for data in (EPSS.read_bytes(), gzip.compress(EPSS.read_bytes()), EPSS.read_bytes().replace(b"\n", b"\r\n")):
-            found = read_epss(self.file("epss", data), self.said)
+            found = read_epss(self.file("epss", data), self.messages)
             self.assertEqual((found.model, found.day, len(found.found)), ("v2023.03.01", "2024-04-30T00:00:00+0000", 6))
             self.assertEqual(found.found["CVE-2024-98010"].json(), {"epss": 0.93, "percentile": 0.98886})
-        found = read_epss(self.file("epss", f"{HEAD}CVE-2024-0001,9e-05,0\nCVE-2024-0002,1,1.0\n"), self.said)
+        found = read_epss(self.file("epss", f"{HEAD}CVE-2024-0001,9e-05,0\nCVE-2024-0002,1,1.0\n"), self.messages)
         self.assertEqual([one.epss for one in found.found.values()], [0.00009, 1.0])
-        self.assertEqual(self.said.told, [])
+        self.assertEqual(self.messages.told, [])
 
     def test_a_file_that_is_cut_off_is_refused(self):
         self.refused(EPSS.read_bytes()[:-1], "its last line has no end, so it is cut off")
@@ -125,23 +126,23 @@ class Epss(RecipeCase):
 
     def test_an_id_that_comes_twice(self):
         same = f"{HEAD}CVE-2024-0001,0.5,0.6\nCVE-2024-0001,0.5,0.6\n"
-        self.assertEqual(len(read_epss(self.file("epss", same), self.said).found), 1)
-        self.assertEqual(self.said.told, ["remark epss: CVE-2024-0001 is there twice, with the same numbers"])
+        self.assertEqual(len(read_epss(self.file("epss", same), self.messages).found), 1)
+        self.assertEqual(self.messages.told, ["remark epss: CVE-2024-0001 is there twice, with the same numbers"])
         self.refused(f"{HEAD}CVE-2024-0001,0.5,0.6\nCVE-2024-0001,0.4,0.6\n", "line 4 has CVE-2024-0001 again, with other numbers")
 
     def test_a_file_of_no_day_is_said(self):
-        read_epss(self.file("epss", "cve,epss,percentile\nCVE-2024-0001,0.5,0.6\n"), self.said)
-        self.assertEqual(self.said.told, ["remark epss: no model_version and score_date, so its day isn't known"])
+        read_epss(self.file("epss", "cve,epss,percentile\nCVE-2024-0001,0.5,0.6\n"), self.messages)
+        self.assertEqual(self.messages.told, ["remark epss: no model_version and score_date, so its day isn't known"])
 
 
 class Both(RecipeCase):
     def threats(self):
-        return Threats(read_kev(str(KEV), self.said), read_epss(str(EPSS), self.said))
+        return Threats(read_kev(str(KEV), self.messages), read_epss(str(EPSS), self.messages))
 
     def test_what_is_known_exploited_and_has_no_verdict_is_counted(self):
-        self.threats().tell({"CVE-2024-98010", "CVE-2024-1"}, {"CVE-2024-98009", "CVE-2024-98010"}, self.said)
+        self.threats().report({"CVE-2024-98010", "CVE-2024-1"}, {"CVE-2024-98009", "CVE-2024-98010"}, self.messages)
         self.assertEqual(
-            self.said.told,
+            self.messages.told,
             [
                 "remark known exploited: 1 advisory is not in the feeds",
                 "remark known exploited: 1 advisory is without a verdict, CVE-2024-98009",

@@ -1,4 +1,4 @@
-"""What people are shown beside the verdicts: items that no entry has, and those that perhaps are what an advisory names; and the
+"""The lists beside the verdicts: items without an entry, and items that perhaps are the product of an advisory; and the
 advisories that can concern the machines."""
 import json
 import unittest

@@ -1,6 +1,6 @@
-"""What the other recipes make of packages that get their names by their URLs, and the commands that remarks name.
+"""The other recipes with packages that get their names by their URLs, and the commands in remarks.
 
-What is wanted was written by hand, of what the packages are.
+The expected results were written by hand, from what the packages are.
 """
 import json
 import os

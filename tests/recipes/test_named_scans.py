@@ -1,6 +1,6 @@
-"""What scan.py makes of packages that get their names by their URLs.
+"""scan.py with packages that get their names by their URLs.
 
-What is wanted was written by hand, of what the packages are.
+The expected results were written by hand, from what the packages are.
 """
 import sys
 import unittest
@@ -21,7 +21,7 @@ class Scans(NamedCase):
         line = "pkg:deb/debian/webserver9 acme:webserver"
         self.assertIn(f"pkg:deb/debian/webserver9@9.0.43-2~deb11u6 may be acme:webserver, and names.txt settles it: {line}", lines[1])
         self.assertIn("remark candidates of the dictionary alone: 1 package, on 1 machine; to list them: sh ", "\n".join(said))
-        # (that very line settles it, and its distribution may have mended it)
+        # (the hint's line settles it, and its distribution may have fixed it)
         status, verdicts, lines, said = self.verdicts(purls=[WEBSERVER], names=line)
         self.assertEqual((status, verdicts), (0, {"CVE-2024-1": "TRUE"}))
         self.assertIn("backported? ", lines[1])
@@ -80,7 +80,7 @@ class Scans(NamedCase):
         self.assertEqual(self.verdicts(components=[component])[1], {"CVE-2024-3": "TRUE"})
         unknown = {"cpe": fs("webserver9", "webserver9", "9.0.43"), "purl": WEBSERVER}
         self.assertEqual(self.verdicts(components=[unknown], names="pkg:deb/no no:no")[1], {"CVE-2024-1": "UNKNOWN"})
-        # (a product that the dictionary has is no such guess)
+        # (a product in the dictionary isn't such a guess)
         known = {"cpe": fs("acme", "fork", "2.0"), "purl": WEBSERVER}
         self.assertEqual(self.verdicts(components=[known], names="pkg:deb/no no:no")[1], {})
 
@@ -94,10 +94,10 @@ class Scans(NamedCase):
         hint = next(line for line in said if line.startswith("remark no candidate"))
         self.assertIn("no candidate for a CPE name: 2 packages, on 1 machine; to list them: sh ", hint)
         self.assertEqual(self.run_hint(hint)[-2:], ["no candidate m c0", "no candidate m c1"])
-        # (nothing is known of a machine of which no package has a candidate)
+        # (nothing is known of a machine whose packages have no candidates)
         status, verdicts, lines, said = self.verdicts(purls=purls[:2])
         self.assertEqual((status, lines[1].split()), (1, ["m", "no", "items"]))
-        # (- says that there is nothing to look for)
+        # (- says that there is nothing to look up)
         status, verdicts, lines, said = self.verdicts(purls=[WEBSERVER, "pkg:npm/fork@1.0"], names="pkg:deb/webserver9 -")
         self.assertEqual((verdicts, [line for line in said if "no candidate" in line]), ({"CVE-2024-5": "UNKNOWN"}, []))
 

@@ -1,13 +1,14 @@
-"""Four in five packages have the right name first: over those whose product is known by hand, with names.txt and without it."""
+"""Four of five packages get the right name first, of those whose product is known by hand, with names.txt and without
+it."""
 import unittest
 from collections import Counter
 
 import naming_truth as truth
 
 from cpe_recipes import package_urls
-from cpe_recipes.purls import parsed
+from cpe_recipes.purls import parse
 
-# What has to be right.
+# The share that has to be right.
 LEAST = 0.8
 
 
@@ -43,14 +44,14 @@ class NamesThatComeFirst(unittest.TestCase):
 
 
 class Truth(unittest.TestCase):
-    """What is tried is what it is said to be."""
+    """The packages and the dictionary are as described."""
 
     def test_packages(self):
         packages = truth.packages()
         kinds = Counter(one.component().kind for one in packages)
         self.assertGreaterEqual(kinds["deb"], 500)
         self.assertGreaterEqual(kinds["pypi"] + kinds["npm"], 300)
-        self.assertEqual([one.purl for one in packages], [parsed(one.purl).text() for one in packages])
+        self.assertEqual([one.purl for one in packages], [parse(one.purl).text() for one in packages])
         self.assertEqual(len({package_urls.read(one.purl).package for one in packages}), len(packages))
 
     def test_products_and_others(self):

@@ -1,5 +1,5 @@
-"""The orders of versions, on the examples that their own specifications and tests publish. (orders_against_tools.py compares them with
-the tools.)"""
+"""The orders of versions, on the examples that their own specifications and tests publish. (orders_against_tools.py
+compares them with the tools.)"""
 import sys
 import unittest
 from pathlib import Path
@@ -14,7 +14,7 @@ SIGNS = {"<": -1, "=": 0, ">": 1}
 
 class OrderCase(unittest.TestCase):
     def rises(self, order, *versions):
-        """Each of these versions comes before all after it."""
+        """Each of these versions is before all after it."""
         for place, one in enumerate(versions):
             self.assertEqual(order.ORDER.compare(one, one), 0, one)
             for other in versions[place + 1 :]:

@@ -1,4 +1,4 @@
-"""What is read of lists without CPE names: package URLs, what package managers write of what is installed, and locks."""
+"""Lists without CPE names: package URLs, output of package managers, and locks."""
 import json
 import random
 import time
@@ -10,7 +10,7 @@ from cpe_recipes import lists
 from cpe_recipes.components import Component
 from cpe_recipes.feeds import FeedFault
 from cpe_recipes.lists import texts
-from cpe_recipes.purls import Purl, PurlFault, check, parsed, with_upstream
+from cpe_recipes.purls import Purl, PurlFault, check, parse, with_upstream
 
 PACKAGES = SAMPLES / "lists" / "packages"
 NO_LISTS = ("read.out", "truths.txt", "truths.out", "table.out", "table.said")
@@ -20,11 +20,11 @@ DEBIAN_L = b"ii  openssl  3.0.11-1~deb12u2  amd64  toolkit\n"
 
 
 def rendered(listed):
-    """What was read, a line a fact."""
+    """The contents of a list, a line for each."""
     if listed.platform is not None:
         yield f"platform {listed.platform.id}: {' '.join(listed.platform.names)}".rstrip()
     for one in listed.parts:
-        yield f"odd {one.id}: {one.reason}" if isinstance(one, lists.Odd) else " ".join(["has", *one.names, one.purl]).rstrip()
+        yield f"odd {one.id}: {one.reason}" if isinstance(one, lists.Oddity) else " ".join(["has", *one.names, one.purl]).rstrip()
     yield from (f"remark {remark}" for remark in listed.remarks)
 
 
@@ -36,7 +36,7 @@ class ListCase(RecipeCase):
         return [one.purl for one in self.read(data).components()]
 
     def odd(self, data):
-        return [(one.id, one.reason) for one in self.read(data).all() if isinstance(one, lists.Odd)]
+        return [(one.id, one.reason) for one in self.read(data).all() if isinstance(one, lists.Oddity)]
 
     def refused(self, data):
         with self.assertRaises(FeedFault) as caught:
@@ -55,7 +55,7 @@ class Purls(unittest.TestCase):
             "pkg:generic/a%20b%2Fc%23%3F": Purl("generic", "a b/c#?"),
             "pkg:pypi/%C3%A9t%C3%A9@1%252": Purl("pypi", "été", "", "1%2"),
         }.items():
-            self.assertEqual((parsed(text), purl.text()), (purl, text))
+            self.assertEqual((parse(text), purl.text()), (purl, text))
 
     def test_other_spellings(self):
         for text, other in {
@@ -65,7 +65,7 @@ class Purls(unittest.TestCase):
             "pkg:a//b///c/#../d/./e/": "pkg:a/b/c#d/e",
             "pkg:a/b?z=1&c=2": "pkg:a/b?c=2&z=1",
         }.items():
-            self.assertEqual(parsed(text).text(), other)
+            self.assertEqual(parse(text).text(), other)
 
     def test_what_is_none(self):
         for text, reason in {
@@ -80,7 +80,7 @@ class Purls(unittest.TestCase):
             "pkg:npm/a?x=1&X=2": "is there twice",
         }.items():
             with self.assertRaises(PurlFault) as caught:
-                parsed(text)
+                parse(text)
             self.assertIn(reason, str(caught.exception), text)
 
     def test_what_is_one_at_a_glance_is_one_by_its_parts(self):
@@ -95,11 +95,11 @@ class Purls(unittest.TestCase):
         pieces = ["npm/", "a", "b", "/", "@", "1", "?", "x=", "&", "%20", "%40", "%", "#", "=", "deb", " ", ".", "y=2", ":"]
         texts = ["pkg:" + "".join(draw.choices(pieces, k=draw.randint(1, 9))) for _ in range(20_000)]
         judged = [(text, is_one(check, text)) for text in texts]
-        self.assertEqual(judged, [(text, is_one(parsed, text)) for text in texts])
+        self.assertEqual(judged, [(text, is_one(parse, text)) for text in texts])
         self.assertGreater(sum(one for _, one in judged), 500)
 
     def test_epochs_and_sources(self):
-        self.assertEqual([parsed(f"pkg:rpm/a@{one}").full_version() for one in ("1", "1?epoch=0", "1?epoch=2", "3:1?epoch=3")], ["1", "1", "2:1", "3:1"])
+        self.assertEqual([parse(f"pkg:rpm/a@{one}").full_version() for one in ("1", "1?epoch=0", "1?epoch=2", "3:1?epoch=3")], ["1", "1", "2:1", "3:1"])
         for wanted, text, source in [
             ("pkg:deb/a@1-1?upstream=b", "pkg:deb/a@1-1", "b@1-1"),
             ("pkg:deb/a@1-1?upstream=b%401-2", "pkg:deb/a@1-1", "b@1-2"),
@@ -132,7 +132,7 @@ class Samples(ListCase):
                 found = [line.rstrip() for line in rendered(lists.read("x", other))]
                 with self.subTest(f"{path.name} {other[:3]!r}"):
                     if b"\n\n" in other and b"\r" not in other:
-                        # (the numbers of lines are others then)
+                        # (then lines have other numbers)
                         found, here = ([line for line in lines if " line " not in line and "shop" not in line] for lines in (found, wanted))
                         self.assertEqual(found, here)
                     else:
@@ -149,7 +149,7 @@ class Samples(ListCase):
                 try:
                     said = self.odd(data[:cut])
                 except FeedFault as fault:
-                    # (of a short list half a line is too much)
+                    # (half a line of a short list is too much)
                     self.assertIn("no software list", str(fault))
                 else:
                     self.assertIn(("list", texts.CUT_OFF), said, f"{path.name} {cut}")
@@ -164,7 +164,7 @@ class Samples(ListCase):
             data = path.read_bytes()
             once, twice = self.read(data), self.read(data + data)
             self.assertEqual({(one.names, one.purl) for one in twice.components()}, {(one.names, one.purl) for one in once.components()}, path.name)
-            odd_once, odd_twice = ([one for one in listed.parts if isinstance(one, lists.Odd)] for listed in (once, twice))
+            odd_once, odd_twice = ([one for one in listed.parts if isinstance(one, lists.Oddity)] for listed in (once, twice))
             self.assertGreaterEqual(len(odd_twice), len(odd_once))
 
     def test_of_another_tool(self):
@@ -173,12 +173,12 @@ class Samples(ListCase):
             for other, more in joined.items():
                 if name == other or {name, other} in ({"dpkg-query.txt", "dpkg-sources.txt"}, {"rpm-columns.txt", "rpm-versions.txt"}):
                     continue
-                # (nothing of either is lost: it is refused, or lines of the other are said)
+                # (nothing is lost: the text is refused, or the lines of the other form are reported)
                 try:
                     listed = self.read(data + more)
                 except FeedFault:
                     continue
-                self.assertTrue(any(isinstance(one, lists.Odd) for one in listed.all()), f"{name} {other}")
+                self.assertTrue(any(isinstance(one, lists.Oddity) for one in listed.all()), f"{name} {other}")
 
 
 class Texts(ListCase):
@@ -196,13 +196,13 @@ class Texts(ListCase):
         rows = "ii  libcurl3-gnutl 7.88.1-10+deb1 amd64        easy-to-use client-side URL transfer library\nii  zlib1g:amd64   1:1.2.13.dfsg- amd64        compression\nii  bash           5.2.15-2+b2    amd64        GNU Bourne Again SHell\n"
         listed = self.read(head + rows)
         self.assertEqual([one.purl for one in listed.components()], ["pkg:deb/bash@5.2.15-2%2Bb2?arch=amd64"])
-        self.assertEqual([one.id for one in listed.parts if isinstance(one, lists.Odd)], ["line 3 of list", "line 4 of list"])
+        self.assertEqual([one.id for one in listed.parts if isinstance(one, lists.Oddity)], ["line 3 of list", "line 4 of list"])
 
     def test_a_head_in_another_language_and_without_architectures(self):
         head = "Gewünscht=Unbekannt/Installieren/R=Entfernen/P=Vollständig Löschen/Halten\n| Status=Nicht/Installiert/Config/U=Entpackt/halb konFiguriert/\n         Halb installiert/Trigger erWartet/Trigger anhängig\n|/ Fehler?=(kein)/R=Neuinstallation notwendig (Status, Fehler: GROSS=schlecht)\n||/ Name           Version      Beschreibung\n+++-==============-============-============================================\n"
         listed = self.read(head + "ii  bash           4.2-4        GNU Bourne Again SHell\n")
         self.assertEqual(listed.components(), [Component("bash 4.2-4", (), "deb", "pkg:deb/bash@4.2-4")])
-        self.assertEqual([one.id for one in listed.parts if isinstance(one, lists.Odd)], ["line 3 of list"])
+        self.assertEqual([one.id for one in listed.parts if isinstance(one, lists.Oddity)], ["line 3 of list"])
 
     def test_a_paragraph_that_lacks_what_it_needs(self):
         good = "Package: a\nStatus: install ok installed\nVersion: 1-1\n\n"
@@ -211,7 +211,7 @@ class Texts(ListCase):
             self.assertEqual(self.odd(good + bad), [("line 5 of list", reason)])
         self.assertEqual(self.odd(good + "Package: b\nStatus: install ok installed\n"), [("b", texts.NO_VERSION)])
         self.assertEqual(self.odd(good + "<<<<<<<\n"), [("line 5 of list", "no line of /var/lib/dpkg/status")])
-        # (an index of what may be had)
+        # (an index of available packages)
         self.assertIn("no software list", self.refused("Package: a\nVersion: 1-1\nFilename: pool/a.deb\n"))
 
     def test_names_and_versions_of_which_nobody_says_whose_they_are(self):

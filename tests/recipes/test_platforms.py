@@ -1,4 +1,4 @@
-"""Which machines lists say no operating system of, what that makes FALSE, and a platform that is given."""
+"""Machines whose lists name no operating system, the verdicts that are FALSE because of this, and --platform."""
 import json
 import sys
 import unittest
@@ -9,7 +9,7 @@ sys.path.insert(0, str(Path(__file__).resolve().parent))
 from recipe_case import RecipeCase, fs, needs_cpe  # noqa: E402 (it knows where the recipes are)
 from cpe_recipes import platforms  # noqa: E402
 from cpe_recipes.components import Component, Machine  # noqa: E402
-from cpe_recipes.said import Fatal  # noqa: E402
+from cpe_recipes.console import Fatal  # noqa: E402
 
 SUITE = fs("acme", "suite", "2.0")
 WINDOWS = "cpe:2.3:o:microsoft:windows_10:*:*:*:*:*:*:*:*"

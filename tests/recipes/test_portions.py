@@ -1,4 +1,4 @@
-"""What is over the limits of cpe: statements in portions have the verdicts of one run, and no limit costs a verdict."""
+"""Inputs above the limits of cpe: statements in portions have the verdicts of one run, and no limit loses a verdict."""
 import bisect
 import contextlib
 import functools
@@ -16,31 +16,31 @@ from recipe_case import ROOT, RecipeCase, fs, needs_cpe
 from test_scan import Drawn, scanned, truths
 
 from cpe_recipes import advisories, names_table, portions, scan, store
-from cpe_recipes.asked import LONG
-from cpe_recipes.cases import Known
+from cpe_recipes.cases import FeedData
 from cpe_recipes.components import Machine
 from cpe_recipes.concern import concern_of, named_of
+from cpe_recipes.console import Fatal
 from cpe_recipes.feeds import Page, record_text
 from cpe_recipes.near_products import NearProducts, item_of, key_of, version_key
-from cpe_recipes.outcome import Hanging
+from cpe_recipes.outcome import OutcomeReasons
 from cpe_recipes.portions import Size, size_of
 from cpe_recipes.products import Cut
 from cpe_recipes.program import Candidate, Program
-from cpe_recipes.said import Fatal
+from cpe_recipes.statement_rewriter import LONG
 
 SMALL = Size(statements=4, facts=6, checks=3, bytes=2_000)
 
 
 def ran(words):
-    """The status of a scan, what it writes, and what it says."""
+    """The status of a scan, its output, and its messages."""
     streams = {1: io.BytesIO(), 2: io.BytesIO()}
-    with mock.patch("cpe_recipes.said.os.write", side_effect=lambda to, data: streams[to].write(data)):
+    with mock.patch("cpe_recipes.console.os.write", side_effect=lambda to, data: streams[to].write(data)):
         status = scan.run(words)
     return status, streams[1].getvalue().decode(), streams[2].getvalue().decode()
 
 
 def limited(size):
-    """Limits for as long as it takes."""
+    """Lowers limits for a while."""
     return mock.patch("cpe_recipes.portions.MOST", size)
 
 
@@ -60,7 +60,7 @@ class Portions(unittest.TestCase):
         numbers = (ROOT / "docs" / "RECORDS.md").read_text()
         self.assertIn(f"there are {portions.MOST.statements:,} statements", numbers)
         self.assertIn(f"more than {portions.MOST.facts:,} facts", numbers)
-        # (what a statement weighs is below four bytes for one of its line)
+        # (a statement weighs less than four bytes for each byte of its line)
         self.assertLess(4 * portions.MOST.bytes, 536_870_912)
         self.assertEqual(size_of('{"of":[{"fact":"a"},{"fact":"b"}]}', 2), Size(1, 2, 2, 34))
 
@@ -87,7 +87,7 @@ class Products(unittest.TestCase):
                 self.assertEqual(near.near([(("v", "p"), version_key(version))]), places)
         if not (path := os.environ.get("CPE")):
             self.skipTest("CPE names no program")
-        # (all that cpe says covers an item, or may, is among these)
+        # (all facts that cover an item by cpe, or may cover it, are among these)
         for item in wanted:
             records = [record_text({"do": "item", "name": fs("v", "p", item)})]
             records += [record_text({"do": "items", "name": fs("v", "p", version)}) for version in versions]
@@ -142,7 +142,8 @@ class Products(unittest.TestCase):
 @needs_cpe
 class Concerns(unittest.TestCase):
     def test_what_does_not_concern_a_machine_is_false_there(self):
-        """Of all plain advisories, over machines with few items, each verdict that isn't FALSE is of one that concerns the machine."""
+        """Of all plain advisories, over machines with few items, only advisories that concern the machine have a
+        verdict that isn't FALSE."""
         cut = 0
         for seed in range(6):
             feeds = Feeds(seed, 0, 0)
@@ -164,7 +165,7 @@ class Concerns(unittest.TestCase):
         self.assertGreater(cut, 10_000)
 
     def test_what_is_plain_is_never_longer_than_a_line(self):
-        """The longest advisories that are plain have their own logic as they are asked, whatever is beside each name there."""
+        """The longest plain advisories are evaluated completely, whatever names are in them."""
         longest, counts = [], (600, 500, 420, 350, 290, 240, 200, 160, 130, 100)
 
         def repeated(one, count, is_whole):
@@ -178,11 +179,11 @@ class Concerns(unittest.TestCase):
             one, key = feeds.configuration(), "K" * feeds.draw.choice([0, 1, 36, 64])
             for node in one["nodes"]:
                 node["cpeMatch"] = [match | {"matchCriteriaId": key and f"{key}{place}"} for place, match in enumerate(node["cpeMatch"])]
-            # (the longest of them that is plain, as most that aren't are too long)
+            # (the longest plain one, because most others are too long)
             found = bisect.bisect_left(counts, True, key=lambda count: concern_of(repeated(one, count, seed % 2)) is not None)
             if found < len(counts):
                 known = known_of([repeated(one, counts[found], seed % 2)])
-                longest.append(max(map(len, known.asked)))
+                longest.append(max(map(len, known.lines)))
                 self.assertFalse([statement for statement in known.statements if LONG in statement.checks], seed)
         self.assertGreater(len([length for length in longest if length > 20_000]), 30)
         self.assertLess(max(longest), 65_536)
@@ -217,10 +218,10 @@ class Concerns(unittest.TestCase):
 
 
 def known_of(records):
-    """What these advisories become."""
+    """The statements of these advisories."""
     program, said = Program(), mock.Mock()
     found = advisories.convert([Page("page.json", "vulnerabilities", records)], program, said, is_decided=True)
-    return Known([], program.accepted_statements(found.candidates, said), found.ranges, found.details, found.stand_ins)
+    return FeedData([], program.accept_statements(found.candidates, said), found.ranges, found.details, found.stand_ins)
 
 
 def match(name):
@@ -232,7 +233,7 @@ def advisory(*matches, id="CVE-2024-0001"):
 
 
 @needs_cpe
-# (which never changes, and takes as long as all else)
+# (the table never changes, and reading it takes as long as all else)
 @mock.patch("cpe_recipes.names_table.read_table", functools.cache(names_table.read_table))
 class Asked(unittest.TestCase):
     def test_portions_have_the_verdicts_of_one_run(self):
@@ -247,8 +248,8 @@ class Asked(unittest.TestCase):
                 self.assertEqual(made.bare, whole.bare)
                 for one, other in zip(found, found_so):
                     self.assertEqual(truths(known, whole, one), truths(known, made, other))
-                    self.assertEqual((one.less, one.partly, one.perhaps, one.deciding), (other.less, other.partly, other.perhaps, other.deciding))
-                hanging = [[Hanging(known, of).on(it.id, one.machine.name) for it in known.statements for one in of] for of in (found, found_so)]
+                    self.assertEqual((one.less, one.partly, one.perhaps, one.explanations), (other.less, other.partly, other.perhaps, other.explanations))
+                hanging = [[OutcomeReasons(known, of).on(it.id, one.machine.name) for it in known.statements for one in of] for of in (found, found_so)]
                 self.assertEqual(*hanging)
 
     def test_more_statements_than_cpe_takes_are_all_accepted(self):
@@ -256,14 +257,15 @@ class Asked(unittest.TestCase):
         record = '{"do":"statement","id":"S%d","test":{"op":"OR","of":[{"fact":"cpe:/a:v:p"}]}}'
         said = mock.Mock()
         candidates = [Candidate(f"S{k}", record % k) for k in range(count)] + [Candidate("S7", record % 7)]
-        self.assertEqual(len(Program().accepted_statements(candidates, said)), count)
-        self.assertEqual([call.args[:2] for call in said.left_out.call_args_list], [("S7", f"exists: {record % 7}")])
+        self.assertEqual(len(Program().accept_statements(candidates, said)), count)
+        self.assertEqual([call.args[:2] for call in said.leave_out.call_args_list], [("S7", f"exists: {record % 7}")])
         with self.assertRaises(Fatal) as caught:
-            Program().accepted(candidates, said)
+            Program().accept(candidates, said)
         self.assertIn("takes no more: full statements at record 100,001 of 100,002", str(caught.exception))
 
     def test_what_is_not_asked_is_false(self):
-        """A scan that asks for what concerns its machines, in portions, writes what a scan that asks for all does."""
+        """A scan that evaluates what concerns its machines, in portions, has the same output as a scan that evaluates
+        all."""
         for seed in range(8):
             with tempfile.TemporaryDirectory() as folder, self.subTest(seed):
                 feeds = Feeds(seed)
@@ -315,7 +317,7 @@ class Asked(unittest.TestCase):
             whole = ran([*words, "--machines", f"{folder}/machines"])[1]
             with limited(SMALL):
                 some = ran([*words, "--machines", f"{folder}/machines"])[1]
-            with mock.patch("cpe_recipes.said.os.write"):
+            with mock.patch("cpe_recipes.console.os.write"):
                 store.run(["add", "--store", f"{folder}/store", *map(str, paths.values())])
             stored = ran(["--store", f"{folder}/store", "--machines", f"{folder}/machines"])[1]
         self.assertIn("1 machine: 1 TRUE, 0 ERROR, 0 UNKNOWN, 6 FALSE", whole)

@@ -1,4 +1,4 @@
-"""How cpe is run, by programs that stand in for it."""
+"""How cpe is run, with programs in its place."""
 import os
 import sys
 import tempfile
@@ -9,12 +9,12 @@ from unittest import mock
 sys.path.insert(0, str(Path(__file__).resolve().parents[2] / "recipes"))
 sys.path.insert(0, str(Path(__file__).resolve().parent))
 
+from cpe_recipes.console import Fatal  # noqa: E402
 from cpe_recipes.program import Candidate, Program, refusals  # noqa: E402
-from cpe_recipes.said import Fatal  # noqa: E402
 from stand_in import Heard  # noqa: E402
 
 
-# The answer to what is asked at the end of a run, of its last line.
+# The answer to the question at the end of a run.
 BARRIER = """echo "$last" | sed 's/.*"do":"\\([a-z]*\\)","id":"\\([0-9a-f]*\\)".*/\\1 \\2 absent/'"""
 
 
@@ -38,7 +38,7 @@ class Runs(unittest.TestCase):
         self.assertEqual(str(caught.exception), "there is no /no/cpe")
 
     def test_lines_go_in_and_out_without_waiting(self):
-        # (more in each direction than pipes take)
+        # (more in each direction than pipes hold)
         records = [f"line {number} {'x' * 100}" for number in range(20000)]
         self.assertEqual(self.program("cat").run(["any"], records), records)
 
@@ -106,14 +106,14 @@ class Runs(unittest.TestCase):
     def test_accepted_are_in_order_and_the_others_said(self):
         told = "echo refused 2 exists; echo refused 4 name name 9"
         program = self.program(f"last=$(tail -n 1); {told}; {BARRIER}; exit 1")
-        said = Heard()
+        messages = Heard()
         candidates = [Candidate("a", "{1}"), Candidate("b", "{2}"), Candidate("c", reason="rejected"), Candidate("d", "{" + "4" * 200)]
-        self.assertEqual(program.accepted(candidates, said), ["{1}"])
+        self.assertEqual(program.accept(candidates, messages), ["{1}"])
         told = ["left out b: exists: {2}", "left out c: rejected", "left out d: name name 9: {" + "4" * 199 + "..."]
-        self.assertEqual(said.told, told)
-        said = Heard()
-        self.assertEqual(program.accepted(candidates, said, "exists"), ["{1}"])
-        self.assertEqual(said.told, told[1:])
+        self.assertEqual(messages.told, told)
+        messages = Heard()
+        self.assertEqual(program.accept(candidates, messages, "exists"), ["{1}"])
+        self.assertEqual(messages.told, told[1:])
 
     def test_refusals_have_their_numbers(self):
         self.assertEqual(refusals(["chain x", "refused 12 name fact 2 7", "refused 30 long"]), {12: "name fact 2 7", 30: "long"})

@@ -1,4 +1,5 @@
-"""The page of report.py: its rows and counts, what was left out, names that would leave their place, and tables that are none."""
+"""The page of report.py: its rows and counts, what was left out, names that would escape from their element, and
+invalid tables."""
 import base64
 import hashlib
 import json
@@ -12,9 +13,9 @@ from unittest import mock
 from recipe_case import RECIPES, RecipeCase
 
 from cpe_recipes import report
+from cpe_recipes.console import Fatal, escape
 from cpe_recipes.page import Parts, page
-from cpe_recipes.said import Fatal, shown
-from cpe_recipes.scanned import read_scanned
+from cpe_recipes.scan_result import read_scan_result
 from pages import LONG, RIGHT_TO_LEFT, Page, hostile, machine, odd_table, table, verdict
 
 ELEMENTS = set(
@@ -25,11 +26,11 @@ ELEMENTS = set(
 
 class ReportCase(RecipeCase):
     def page(self, value):
-        scanned = read_scanned(self.file("scan.json", value))
+        scanned = read_scan_result(self.file("scan.json", value))
         return "".join(page(scanned, Parts("Machines", "a{}", "0;")))
 
     def report(self, value, *words):
-        """The status of report.py over a table, what it writes, and the lines that it says."""
+        """The status of report.py over a table, its output, and its messages."""
         path = self.file("scan.json", value)
         run = subprocess.run([sys.executable, str(RECIPES / "report.py"), *words, path], capture_output=True, stdin=subprocess.DEVNULL)
         return run.returncode, run.stdout.decode(), run.stderr.decode().splitlines()
@@ -76,13 +77,13 @@ class Rows(ReportCase):
 
     def test_it_is_written_as_it_comes(self):
         written = []
-        with mock.patch("cpe_recipes.said.os.write", side_effect=lambda to, data: written.append(bytes(data)) or len(data)):
+        with mock.patch("cpe_recipes.console.os.write", side_effect=lambda to, data: written.append(bytes(data)) or len(data)):
             report.write(iter(["x" * 1000] * 1000))
         self.assertEqual((sum(map(len, written)), max(map(len, written)) < 70_000), (1_000_000, True))
 
 
 class Fleets(RecipeCase):
-    """Pages of what a fleet or `cpe evaluate` wrote."""
+    """Pages of the output of a fleet or of `cpe evaluate`."""
 
     def report(self, data, *words):
         run = subprocess.run([sys.executable, str(RECIPES / "report.py"), *words], input=data.encode(), capture_output=True)
@@ -176,13 +177,13 @@ class Names(ReportCase):
             self.assertTrue("href" not in attributes or tag == "a" and attributes["href"].startswith("https://"), attributes)
         machines = {row["cells"][0] for row in found.rows}
         for name in hostile("http://127.0.0.1:9"):
-            self.assertIn(shown(name), machines)
+            self.assertIn(escape(name), machines)
 
     def test_what_can_not_be_printed_is_written_by_its_number(self):
         text = self.page(odd_table(""))
         self.assertIn("\\u202eevil\\u2066", text)
         self.assertIn("nul\\u0000 bell\\u0007 escape\\u001b[31m line\\u000aend \\ud800", text)
-        self.assertIn(shown(RIGHT_TO_LEFT), text)
+        self.assertIn(escape(RIGHT_TO_LEFT), text)
         self.assertIn(LONG, text)
 
     def test_nothing_but_its_own_script_and_style_is_allowed(self):
@@ -201,7 +202,7 @@ class Names(ReportCase):
 class Refused(ReportCase):
     def refuses(self, value, words):
         with self.subTest(words), self.assertRaises(Fatal) as caught:
-            read_scanned(self.file("scan.json", value))
+            read_scan_result(self.file("scan.json", value))
         self.assertEqual(str(caught.exception), f"scan.json: {words}")
 
     def test_a_member_that_is_missing_is_named(self):

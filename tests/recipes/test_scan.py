@@ -16,19 +16,19 @@ sys.path.insert(0, str(Path(__file__).resolve().parent))
 from stand_in import Heard  # noqa: E402 (it knows where the recipes are)
 from cpe_recipes import affected, fleet, portions, scan, verdicts  # noqa: E402
 from cpe_recipes.advisories import Range  # noqa: E402
-from cpe_recipes.cases import Known  # noqa: E402
+from cpe_recipes.arguments import read_arguments  # noqa: E402
+from cpe_recipes.cases import FeedData  # noqa: E402
 from cpe_recipes.components import Component, Machine  # noqa: E402
-from cpe_recipes.decide import Lists  # noqa: E402
+from cpe_recipes.console import Fatal, Messages  # noqa: E402
 from cpe_recipes.feeds import record_text  # noqa: E402
+from cpe_recipes.outcome import OutcomeReasons, json_of, machines_with_verdicts  # noqa: E402
 from cpe_recipes.program import Program  # noqa: E402
 from cpe_recipes.progress import Progress  # noqa: E402
-from cpe_recipes.said import Fatal, Said  # noqa: E402
-from cpe_recipes.outcome import Hanging, json_of, machines_with_verdicts  # noqa: E402
+from cpe_recipes.range_checks import MatchLists  # noqa: E402
 from cpe_recipes.scan import Scan  # noqa: E402
 from cpe_recipes.session import Session  # noqa: E402
-from cpe_recipes.suppressed import Accepted, Suppressed  # noqa: E402
+from cpe_recipes.suppressions import SuppressionLine, Suppressions  # noqa: E402
 from cpe_recipes.versions import Letters  # noqa: E402
-from cpe_recipes.words import read_words  # noqa: E402
 
 NO_LETTERS = Letters({})
 SAMPLES = Path(__file__).resolve().parents[2] / "recipes" / "samples" / "ranges"
@@ -58,7 +58,7 @@ def ranged(one):
 def scanned(known, machines, listed=None, has_why=False, is_strict=False, has_hardware=True, **more):
     program = Program()
     progress = Progress(is_shown=False)
-    made = Scan(program, known, Lists(program, listed or {}), NO_LETTERS, progress, has_why, is_strict, has_hardware)
+    made = Scan(program, known, MatchLists(program, listed or {}), NO_LETTERS, progress, has_why, is_strict, has_hardware)
     return made, made.machines(machines, **more)
 
 
@@ -68,7 +68,7 @@ def truths(known, made, found):
 
 
 def evaluated(known, machine, mode):
-    """What cpe says of a machine, where all statements are in this mode."""
+    """The verdicts of cpe for a machine, if all statements are in this mode."""
     records = [record.replace('"mode":"follow"', f'"mode":"{mode}"') for record in known.records]
     items = [record_text({"do": "item", "name": item}) for item in machine.items]
     lines = Program().run(["evaluate"], [*known.entries, *records, *items])
@@ -84,8 +84,8 @@ def of_fleet(known, machines, is_strict):
         listed.write_text("".join(f"{machine.line()}\n" for machine in machines))
         (Path(folder) / "letters").write_text("")
         words = [str(records), str(listed), "--ranges", str(ranges), "--letters", f"{folder}/letters", *["--strict"] * is_strict]
-        asked = fleet.read_fleet(Program(), read_words(words, fleet.OPTIONS, fleet.USAGE), Heard())
-    session = Session(Program().path, asked.known)
+        asked = fleet.read_fleet(Program(), read_arguments(words, fleet.OPTIONS, fleet.USAGE), Heard())
+    session = Session(Program().path, asked.fleet_data)
     try:
         return [session.ask(machine).lines for machine in asked.machines]
     finally:
@@ -93,7 +93,7 @@ def of_fleet(known, machines, is_strict):
 
 
 class Drawn:
-    """A dictionary, statements and machines, drawn at random from few names, so that they meet."""
+    """A random dictionary, statements and machines, with few names, so that they meet."""
 
     VENDORS, PRODUCTS, VERSIONS = ["v", "w"], ["p", "q", "r", "s"], ["1.0", "1.1", "2.0", "1.0b", "*"]
 
@@ -107,7 +107,7 @@ class Drawn:
     def entries(self):
         all_names = list(dict.fromkeys(self.name() for _ in range(12)))
         records = [entry(it) for it in all_names]
-        # (a name leads to one that stands after it, so there is no circle)
+        # (a name leads to a later one, so there is no cycle)
         for place, old in enumerate(all_names[:-2]):
             if self.draw.random() < 0.4:
                 records.append(deprecate(old, *self.draw.sample(all_names[place + 1 :], self.draw.randint(0, 2))))
@@ -131,11 +131,11 @@ class Drawn:
     def known(self):
         entries = self.entries()
         records = [statement(f"S{k}", self.child(2), negate=self.draw.random() < 0.2) for k in range(12)]
-        return Known(entries, records, self.ranges, {}, {})
+        return FeedData(entries, records, self.ranges, {}, {})
 
     def machines(self, versions):
         machines = [Machine(f"m{k}", [self.name(versions) for _ in range(self.draw.randint(1, 4))]) for k in range(6)]
-        # (one whose product or vendor is known in part)
+        # (an item whose product or vendor is known in part)
         if "1.*" in versions:
             machines[0].components.append(Component(names=(self.draw.choice([name("v", "p*", "1.0"), name("?w", "q", "1.*")]),)))
         return machines
@@ -158,7 +158,7 @@ class Verdicts(unittest.TestCase):
         self.assertGreater(differing, 300)
 
     def known(self, *records, entries=(), ranges=(), stand_ins=None, details=None):
-        return Known(list(entries), list(records), {one.key: one for one in ranges}, details or {}, stand_ins or {})
+        return FeedData(list(entries), list(records), {one.key: one for one in ranges}, details or {}, stand_ins or {})
 
     def test_a_range_ends_true_on_one_machine_and_false_on_another(self):
         one = Range("KEY", name("v", "p"), "1.0", "2.0", end_excluded=True)
@@ -166,7 +166,7 @@ class Verdicts(unittest.TestCase):
         machines = [Machine("old", [name("v", "p", "1.5")]), Machine("new", [name("v", "p", "2.0")]), Machine("odd", [name("v", "p", "1.0b")])]
         made, found = scanned(known, machines)
         self.assertEqual([truths(known, made, it)["CVE-1"] for it in found], ["TRUE", "FALSE", "UNKNOWN"])
-        self.assertEqual(Hanging(known, found).on("CVE-1", "odd"), [f"{name('v', 'p', '1.0b')}: dpkg and PEP 440 differ between 1.0b and 1.0"])
+        self.assertEqual(OutcomeReasons(known, found).on("CVE-1", "odd"), [f"{name('v', 'p', '1.0b')}: dpkg and PEP 440 differ between 1.0b and 1.0"])
         made, found = scanned(known, machines, {"KEY": [name("v", "p", "1.0b")]})
         self.assertEqual([truths(known, made, it)["CVE-1"] for it in found], ["TRUE", "FALSE", "TRUE"])
 
@@ -183,15 +183,15 @@ class Verdicts(unittest.TestCase):
         self.assertEqual(said[:2], [["TRUE", "TRUE", "TRUE", "FALSE"]] * 2)
         self.assertEqual(said[2:], [["TRUE", "UNKNOWN", "TRUE", "FALSE"], ["TRUE", "FALSE", "TRUE", "FALSE"]])
         remark = [f"backported? {deb.names[0]}: release 1"]
-        hanging = Hanging(known, found)
-        self.assertEqual([hanging.remarks(id, "deb") for id in ("RANGE", "EXACT", "EITHER", "NOT")], [remark, remark, remark, []])
-        self.assertEqual([hanging.remarks(id, "both") for id in ("RANGE", "EXACT", "EITHER", "NOT")], [[], remark, [], []])
-        self.assertEqual([hanging.remarks(id, "bare") for id in ("RANGE", "EXACT", "EITHER", "NOT")], [remark, [], remark, []])
-        self.assertEqual(hanging.on("EXACT", "bare"), [f"{deb.names[0]}: 1.5-1 may be 1.5 in the release 1 of a distribution"])
+        verdict_reasons = OutcomeReasons(known, found)
+        self.assertEqual([verdict_reasons.remarks(id, "deb") for id in ("RANGE", "EXACT", "EITHER", "NOT")], [remark, remark, remark, []])
+        self.assertEqual([verdict_reasons.remarks(id, "both") for id in ("RANGE", "EXACT", "EITHER", "NOT")], [[], remark, [], []])
+        self.assertEqual([verdict_reasons.remarks(id, "bare") for id in ("RANGE", "EXACT", "EITHER", "NOT")], [remark, [], remark, []])
+        self.assertEqual(verdict_reasons.on("EXACT", "bare"), [f"{deb.names[0]}: 1.5-1 may be 1.5 in the release 1 of a distribution"])
         rows = machines_with_verdicts(known, made.bare, found)
-        value = json_of(known, found, rows, affected.About({}, Suppressed([]), hanging))
+        value = json_of(known, found, rows, affected.AdvisoryContext({}, Suppressions([]), verdict_reasons))
         self.assertEqual([one.get("remarks") for one in value["machines"][0]["verdicts"]], [remark] * 3)
-        table = list(affected.table_of(verdicts.Verdicts(rows[:1]), affected.About({}, Suppressed([]), hanging)))
+        table = list(affected.table_of(verdicts.Verdicts(rows[:1]), affected.AdvisoryContext({}, Suppressions([]), verdict_reasons)))
         self.assertEqual([line.endswith(remark[0]) for line in table[1:4]], [True] * 3)
 
     def test_a_program_that_answers_less_is_fatal(self):
@@ -227,18 +227,18 @@ class Verdicts(unittest.TestCase):
         made, found = scanned(known, machines)
         self.assertEqual([truths(known, made, it)["CVE-1"] for it in found], ["TRUE", "UNKNOWN", "FALSE"])
         why = f"{name('redislabs', 'redis', '6.1')} is not in the dictionary, and may be {name('redis', 'redis', '6.1')}"
-        self.assertEqual(Hanging(known, found).on("CVE-1", "not"), [why])
-        said = Heard()
-        made.tell_items(found, said, "sh unlisted.sh")
-        self.assertEqual(said.told, [f"remark not in the dictionary {it.machine.name} {it.leads[0].name} now called redis:redis" for it in found[1:]])
+        self.assertEqual(OutcomeReasons(known, found).on("CVE-1", "not"), [why])
+        messages = Heard()
+        made.report_items(found, messages, "sh unlisted.sh")
+        self.assertEqual(messages.told, [f"remark not in the dictionary {it.machine.name} {it.leads[0].name} now called redis:redis" for it in found[1:]])
 
     def test_what_a_dictionary_or_a_name_hides_is_told(self):
         gone = name("v", "gone", "1.0")
         known = self.known(statement("CVE-1", {"fact": gone}), entries=[entry(gone), deprecate(gone)])
         items = [gone, "cpe:/a:v:%02", name("v", "p", "1.0"), "cpe:/a:v:p:1.0"]
         made, found = scanned(known, [Machine("a", items), Machine("bare"), Machine("bad", ["cpe:/x"])])
-        said = Heard()
-        made.tell_items(found, said, "sh unlisted.sh")
+        messages = Heard()
+        made.report_items(found, messages, "sh unlisted.sh")
         wanted = [
             "left out a: name name 12: cpe:/a:v:%02",
             f"remark under a removed name a {gone}",
@@ -247,14 +247,14 @@ class Verdicts(unittest.TestCase):
             "left out bad: no items",
             "remark not in the dictionary: 1 item, on 1 machine; to list them: sh unlisted.sh",
         ]
-        self.assertEqual(said.told, wanted)
+        self.assertEqual(messages.told, wanted)
         self.assertEqual([it.has_items() for it in found], [True, False, False])
 
     def test_a_machine_without_items_has_no_verdicts(self):
         known = self.known(statement("CVE-1", {"fact": name("v", "p")}, negate=True))
         made, found = scanned(known, [Machine("bare"), Machine("a", [name("v", "q", "1.0")])])
         machines = machines_with_verdicts(known, made.bare, found)
-        about = affected.About({}, Suppressed([]), Hanging(known, found))
+        about = affected.AdvisoryContext({}, Suppressions([]), OutcomeReasons(known, found))
         rows = json_of(known, found, machines, about)["machines"]
         self.assertEqual(rows[0], {"name": "bare", "items": 0})
         self.assertEqual(rows[1]["verdicts"], [{"id": "CVE-1", "verdict": "TRUE"}])
@@ -267,7 +267,7 @@ class Verdicts(unittest.TestCase):
         known = self.known(statement("CVE-1", {"fact": name("v", "p")}), details={"CVE-1": {"id": "CVE-1", "score": 7.5, "title": "A title"}})
         made, found = scanned(known, [Machine("a", [name("v", "p", "1.0")])])
         machines = machines_with_verdicts(known, made.bare, found)
-        about = affected.About(known.details, Suppressed([Accepted("it line 1", "CVE-1", "*", "not reachable")]), Hanging(known, found))
+        about = affected.AdvisoryContext(known.details, Suppressions([SuppressionLine("it line 1", "CVE-1", "*", "not reachable")]), OutcomeReasons(known, found))
         row = json_of(known, found, machines, about)["machines"][0]["verdicts"][0]
         self.assertEqual(row, {"id": "CVE-1", "verdict": "TRUE", "score": 7.5, "title": "A title", "accepted": "not reachable"})
         table = list(affected.table_of(affected.Verdicts(machines), about))
@@ -284,10 +284,10 @@ class Verdicts(unittest.TestCase):
         wanted = {"NAME": "TRUE", "RANGE": "TRUE", "OTHER": "TRUE", "NOT": "UNKNOWN", "LEADS": "TRUE"}
         self.assertEqual(truths(known, made, found[0]), wanted)
         why = f"{gone} may have another name than {gone}, and {name('v', 'gone')} is negated"
-        self.assertEqual(Hanging(known, found).on("NOT", "a"), [why])
+        self.assertEqual(OutcomeReasons(known, found).on("NOT", "a"), [why])
         wanted = {"NAME": "FALSE", "RANGE": "FALSE", "OTHER": "TRUE", "NOT": "TRUE", "LEADS": "FALSE"}
         self.assertEqual(truths(known, made, found[1]), wanted)
-        # (what no entry has, nothing was removed of)
+        # (an item without an entry isn't under a removed name)
         wanted = {"NAME": "FALSE", "RANGE": "TRUE", "OTHER": "FALSE", "NOT": "FALSE", "LEADS": "FALSE"}
         self.assertEqual(truths(known, made, found[2]), wanted)
 
@@ -297,8 +297,8 @@ class Verdicts(unittest.TestCase):
         machines = machines_with_verdicts(known, made.bare, found)
         for machine in machines:
             machine.show_all()
-        accepted = Suppressed([Accepted("it line 1", "CVE-2", "*", "not here")])
-        about = affected.About({}, accepted, Hanging(known, found))
+        accepted = Suppressions([SuppressionLine("it line 1", "CVE-2", "*", "not here")])
+        about = affected.AdvisoryContext({}, accepted, OutcomeReasons(known, found))
         rows = json_of(known, found, machines, about)["machines"]
         self.assertEqual(rows[0]["verdicts"], [{"id": "CVE-1", "verdict": "TRUE"}, {"id": "CVE-2", "verdict": "FALSE"}])
         self.assertNotIn("verdicts", rows[1])
@@ -314,17 +314,17 @@ class Verdicts(unittest.TestCase):
             self.assertEqual([truths(known, made, one)["CVE-1"] for one in found], [wanted, "FALSE", "TRUE"])
             shown = machines_with_verdicts(known, made.bare, found)
             self.assertEqual([one.perhaps for one in shown], [{"CVE-1"}, set(), set()])
-            about = affected.About({}, Suppressed([]), Hanging(known, found))
+            about = affected.AdvisoryContext({}, Suppressions([]), OutcomeReasons(known, found))
             row = json_of(known, found, shown, about)["machines"][0]
             self.assertEqual(row["perhaps"], [{"id": "CVE-1", "item": name("v", "p"), "fact": name("v", "p", "1.0")}])
             last = list(affected.table_of(affected.Verdicts(shown), about))[-1]
             count = "3 FALSE, of which 1 perhaps" if is_strict else "1 perhaps, 2 FALSE"
             self.assertEqual(last, f"3 machines: 3 TRUE, 0 ERROR, 0 UNKNOWN, {count}")
         made, found = scanned(known, machines)
-        self.assertEqual(Hanging(known, found).on("CVE-1", "a machine"), [f"{name('v', 'p')}: version: 1.0?"])
+        self.assertEqual(OutcomeReasons(known, found).on("CVE-1", "a machine"), [f"{name('v', 'p')}: version: 1.0?"])
 
     def less(self, *attributes, version="5.3"):
-        """A name of a form, with what stands in the attributes after its version."""
+        """A name of a form, with these values in the attributes after its version."""
         return f"cpe:2.3:a:acme:form:{version}:{':'.join(attributes)}:*"
 
     def test_each_attribute_of_which_an_item_says_nothing(self):
@@ -342,7 +342,7 @@ class Verdicts(unittest.TestCase):
                 verdicts = [list(truths(known, made, it).values()) for it in found]
                 self.assertEqual(verdicts, [["UNKNOWN"] * 2, ["FALSE"] * 2, ["TRUE"] * 2, ["FALSE"] * 2])
                 for id in ("NAME", "RANGE"):
-                    self.assertEqual(Hanging(known, found).on(id, "less"), [f"{bare}: {attribute}: {text}?"])
+                    self.assertEqual(OutcomeReasons(known, found).on(id, "less"), [f"{bare}: {attribute}: {text}?"])
 
     def test_what_is_negated_over_an_item_that_says_less_is_unknown(self):
         plugin = self.less("*", "*", "*", "*", "wordpress", "*")
@@ -350,7 +350,7 @@ class Verdicts(unittest.TestCase):
         known = self.known(statement("NOT", {"fact": plugin}, negate=True), statement("PART", {"fact": name("v", "p", "1.5")}, negate=True))
         made, found = scanned(known, [Machine("a", [bare, name("v", "p", "1.*")]), Machine("b", [name("v", "q", "1")])])
         self.assertEqual([truths(known, made, it) for it in found], [dict.fromkeys(("NOT", "PART"), truth) for truth in ("UNKNOWN", "TRUE")])
-        self.assertEqual(Hanging(known, found).on("NOT", "a"), [f"{bare}: target_sw: wordpress?"])
+        self.assertEqual(OutcomeReasons(known, found).on("NOT", "a"), [f"{bare}: target_sw: wordpress?"])
 
     def test_a_name_is_found_as_it_stands_and_as_it_leads_on(self):
         old, new = name("mysql", "mysql", "5.1.73"), name("oracle", "mysql", "5.1.73")
@@ -379,10 +379,10 @@ class Verdicts(unittest.TestCase):
         self.assertEqual([truths(known, made, it) for it in found], [
             {"RANGE": "UNKNOWN", "NAME": "TRUE"}, {"RANGE": "UNKNOWN", "NAME": "FALSE"}, {"RANGE": "TRUE", "NAME": "TRUE"},
         ])
-        hanging = Hanging(known, found)
-        self.assertEqual(hanging.on("RANGE", "a"), [f"{new} is {old} by the dictionary, where its version is another"])
+        verdict_reasons = OutcomeReasons(known, found)
+        self.assertEqual(verdict_reasons.on("RANGE", "a"), [f"{new} is {old} by the dictionary, where its version is another"])
         why = f"{name('v', 'new', '1.6')} may be {name('v', 'old', '1.6')}, since the dictionary calls others of that product so"
-        self.assertEqual(hanging.on("RANGE", "b"), [why])
+        self.assertEqual(verdict_reasons.on("RANGE", "b"), [why])
 
     def test_a_product_that_goes_on_is_not_its_successor(self):
         olds = [name("v", "old", str(k)) for k in range(5)]
@@ -403,7 +403,7 @@ class Verdicts(unittest.TestCase):
             self.assertEqual(truths(known, made, found[0])["CVE-1"], truth, (version, kind, fact))
             self.assertIn(truths(known, made, found[0])["NOT"], ("TRUE",) if truth == "FALSE" else ("FALSE", "UNKNOWN"))
             if truth == "UNKNOWN":
-                self.assertTrue(Hanging(known, found).on("CVE-1", "a")[0].startswith(f"{name('v', 'p', version)}: "))
+                self.assertTrue(OutcomeReasons(known, found).on("CVE-1", "a")[0].startswith(f"{name('v', 'p', version)}: "))
 
     def test_a_part_of_which_a_list_is_silent(self):
         app, system, other = {"fact": name("v", "app")}, {"fact": name("v", "os").replace(":a:", ":o:")}, {"fact": name("v", "q")}
@@ -425,9 +425,9 @@ class Verdicts(unittest.TestCase):
             "part": ["UNKNOWN", "UNKNOWN", "UNKNOWN", "UNKNOWN", "UNKNOWN", "FALSE"],
         }
         self.assertEqual({it.machine.name: list(truths(known, made, it).values()) for it in found}, wanted)
-        hanging = Hanging(known, found)
-        self.assertEqual([hanging.on("BOTH", "silent"), hanging.on("BUT", "silent")], [["no operating system is listed"]] * 2)
-        self.assertEqual((hanging.on("BOARD", "fw"), hanging.on("BOARD", "board")), (["no hardware is listed"], ["no operating system is listed"]))
+        verdict_reasons = OutcomeReasons(known, found)
+        self.assertEqual([verdict_reasons.on("BOTH", "silent"), verdict_reasons.on("BUT", "silent")], [["no operating system is listed"]] * 2)
+        self.assertEqual((verdict_reasons.on("BOARD", "fw"), verdict_reasons.on("BOARD", "board")), (["no hardware is listed"], ["no operating system is listed"]))
         made, found = scanned(known, machines[3:5], has_hardware=False)
         self.assertEqual([truths(known, made, it)["BOARD"] for it in found], ["FALSE", "UNKNOWN"])
 
@@ -436,7 +436,7 @@ class Verdicts(unittest.TestCase):
         for seed in range(40):
             drawn = Drawn(seed)
             known, machines = drawn.known(), drawn.machines(["1.0", "1.1", "2.0", "-"])
-            # (without ranges, so that cpe alone says what is so)
+            # (without ranges, so that cpe alone decides)
             records = [re.sub(r',\{"check":\{"system":"NVD","href":"cpeMatch","id":"K[0-9]+"\}\}', "", record) for record in known.records]
             known = self.known(*records, entries=known.entries)
             made, found = scanned(known, machines)
@@ -480,14 +480,15 @@ class Verdicts(unittest.TestCase):
         self.assertEqual([list(truths(known, made, one).values()) for one in found], [
             ["UNKNOWN", "FALSE"], ["TRUE", "FALSE"], ["FALSE", "FALSE"], ["UNKNOWN", "TRUE"], ["FALSE", "UNKNOWN"],
         ])
-        # (the one of which the product is a pattern and no version is said is UNKNOWN as well, where all statements are asked)
+        # (the statement on an item with a pattern as its product and no version is UNKNOWN too, if all statements are
+        # evaluated)
         asked, found_of_all = scanned(known, machines, is_all_asked=True)
         self.assertEqual([truths(known, asked, it) for it in found_of_all], [truths(known, made, it) for it in found])
-        hanging = Hanging(known, found)
-        self.assertEqual(hanging.on("CVE-1", "a"), [f"{part} is known in part, and may be {whole}"])
+        verdict_reasons = OutcomeReasons(known, found)
+        self.assertEqual(verdict_reasons.on("CVE-1", "a"), [f"{part} is known in part, and may be {whole}"])
         may_be = [f"{name('v', '?q', '1.0')} is known in part, and may be {name('v', product)}" for product in "qr"]
-        self.assertEqual((hanging.on("CVE-2", "e"), hanging.on("CVE-1", "b")), (may_be, []))
-        about = affected.About({}, Suppressed([]), hanging)
+        self.assertEqual((verdict_reasons.on("CVE-2", "e"), verdict_reasons.on("CVE-1", "b")), (may_be, []))
+        about = affected.AdvisoryContext({}, Suppressions([]), verdict_reasons)
         row = json_of(known, found, machines_with_verdicts(known, made.bare, found), about)["machines"][0]["verdicts"]
         self.assertEqual(row, [{"id": "CVE-1", "verdict": "UNKNOWN", "hangsOn": [f"{part} is known in part, and may be {whole}"]}])
 
@@ -496,9 +497,9 @@ class Verdicts(unittest.TestCase):
         known = self.known(statement("CVE-1", {"fact": old}), entries=[entry(old), entry(new), deprecate(old, new)])
         made, found = scanned(known, [Machine("new", [name("w", "p", "1.*")]), Machine("old", [name("v", "p", "1.*")])])
         self.assertEqual([truths(known, made, one)["CVE-1"] for one in found], ["UNKNOWN", "UNKNOWN"])
-        hanging = Hanging(known, found)
-        self.assertEqual(hanging.on("CVE-1", "new"), [f"{name('w', 'p', '1.*')} is known in part, and may be {old}"])
-        self.assertEqual(hanging.on("CVE-1", "old"), [f"{name('v', 'p', '1.*')} is known in part, and may be {old}"])
+        verdict_reasons = OutcomeReasons(known, found)
+        self.assertEqual(verdict_reasons.on("CVE-1", "new"), [f"{name('w', 'p', '1.*')} is known in part, and may be {old}"])
+        self.assertEqual(verdict_reasons.on("CVE-1", "old"), [f"{name('v', 'p', '1.*')} is known in part, and may be {old}"])
 
     def test_a_range_that_an_item_known_in_part_may_be_in(self):
         one = Range("KEY", name("v", "p"), "1.0", "2.0", end_excluded=True)
@@ -506,14 +507,14 @@ class Verdicts(unittest.TestCase):
         items = {"in": ["1.*"], "out": ["3.*"], "beside": ["1.*", "1.5"], "not": ["1.*", "3.0"]}
         made, found = scanned(known, [Machine(it, [name("v", "p", version) for version in versions]) for it, versions in items.items()])
         self.assertEqual([truths(known, made, one)["CVE-1"] for one in found], ["UNKNOWN", "FALSE", "TRUE", "UNKNOWN"])
-        self.assertEqual(Hanging(known, found).on("CVE-1", "in"), [f"{name('v', 'p', '1.*')}: it is known in part"])
+        self.assertEqual(OutcomeReasons(known, found).on("CVE-1", "in"), [f"{name('v', 'p', '1.*')}: it is known in part"])
 
     def test_a_check_that_stays_open_is_what_an_unknown_hangs_on(self):
         check = {"check": {"system": "NVD", "href": "cpeMatch", "id": "BAD"}}
         known = self.known(statement("CVE-1", check, {"fact": name("v", "p")}), stand_ins={"BAD": "name name 9: cpe:2.3:bad"})
         made, found = scanned(known, [Machine("a", [name("v", "q", "1.0")])])
         self.assertEqual(truths(known, made, found[0]), {"CVE-1": "UNKNOWN"})
-        self.assertEqual(Hanging(known, found).on("CVE-1", "a"), ["name name 9: cpe:2.3:bad"])
+        self.assertEqual(OutcomeReasons(known, found).on("CVE-1", "a"), ["name name 9: cpe:2.3:bad"])
 
 
 @unittest.skipUnless(os.environ.get("CPE"), "CPE names no program")
@@ -521,9 +522,9 @@ class Words(unittest.TestCase):
     DICTIONARY, ADVISORIES, MATCHES = (str(SAMPLES / f"{name}.json") for name in ("dictionary", "advisories", "matches"))
 
     def run_over(self, *words):
-        """The status of a run over these words, what it writes, and what it says."""
+        """The status of a run with these words, its output, and its messages."""
         streams = {1: io.BytesIO(), 2: io.BytesIO()}
-        with mock.patch("cpe_recipes.said.os.write", side_effect=lambda to, data: streams[to].write(data)):
+        with mock.patch("cpe_recipes.console.os.write", side_effect=lambda to, data: streams[to].write(data)):
             try:
                 status = scan.run(words)
             except Fatal:
@@ -612,7 +613,7 @@ class Shown(unittest.TestCase):
         with tempfile.TemporaryFile() as file, Progress(file.fileno(), is_shown=True) as progress:
             progress.step("reading")
             progress.count("asking", 1, 9)
-            Said(file.fileno(), before=progress.clear).remark("so")
+            Messages(file.fileno(), before=progress.clear).remark("so")
             progress.clear()
             self.assertEqual(self.written(file), b"\r\x1b[Kreading ..\r\x1b[Kremark so\n")
 

@@ -1,4 +1,4 @@
-"""What is read of software lists, form by form, and what is said of bad ones."""
+"""Software lists, form by form, and the messages about bad ones."""
 import json
 import unittest
 
@@ -51,11 +51,11 @@ class ListCase(RecipeCase):
 class Forms(ListCase):
     def components(self, value):
         listed = self.read(value)
-        self.assertEqual([one for one in listed.all() if isinstance(one, lists.Odd)], [])
+        self.assertEqual([one for one in listed.all() if isinstance(one, lists.Oddity)], [])
         return listed.components()
 
     def odd(self, value):
-        return [(one.id, one.reason) for one in self.read(value).all() if isinstance(one, lists.Odd)]
+        return [(one.id, one.reason) for one in self.read(value).all() if isinstance(one, lists.Oddity)]
 
     def test_cyclonedx_has_names_in_properties(self):
         one = {"bom-ref": "a", "cpe": A, "purl": "pkg:deb/debian/a@1", "properties": [
@@ -153,10 +153,10 @@ class Forms(ListCase):
 
 
 class Bad(ListCase):
-    """What is of the wrong type is said; what stands beside it is read."""
+    """A value of the wrong type is reported; the values beside it are read."""
 
     def parts(self, value):
-        return [(one.id, one.reason) if isinstance(one, lists.Odd) else (one.id, *one.names) for one in self.read(value).all()]
+        return [(one.id, one.reason) if isinstance(one, lists.Oddity) else (one.id, *one.names) for one in self.read(value).all()]
 
     def test_of_cyclonedx(self):
         good = {"bom-ref": "g", "cpe": A}

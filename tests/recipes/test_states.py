@@ -1,4 +1,4 @@
-"""What becomes of a verdict whose advisory has none any more: on the page, and between two runs. It is never FALSE."""
+"""A verdict whose advisory no longer has one: on the page, and between two runs. It never becomes FALSE."""
 import json
 import unittest
 

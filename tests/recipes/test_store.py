@@ -1,4 +1,5 @@
-"""A store of feeds: pages that are old, there twice, missing, torn or odd; and bad stores, full disks and other users."""
+"""A store of feeds: pages that are old, repeated, missing, cut off or odd; and bad stores, full disks and other
+users."""
 import itertools
 import json
 import os
@@ -20,17 +21,17 @@ from test_portions import SMALL, limited, match
 
 from test_feeds import Heard
 
-from cpe_recipes import adding, cve5, feeds, fleet, made, scan, store, stored
-from cpe_recipes.kept import FILE, VERSION, Kept
-from cpe_recipes.prepared import prepare
+from cpe_recipes import cve5, feeds, fleet, scan, statement_cache, store, store_reader, store_writer
+from cpe_recipes.console import Fatal
+from cpe_recipes.page_rows import convert_page
 from cpe_recipes.program import Program
-from cpe_recipes.said import Fatal
 from cpe_recipes.session import Session
+from cpe_recipes.store_file import FILE, VERSION, StoreFile
 
 
 @contextmanager
 def as_another():
-    """Whoever may write everywhere is another one meanwhile, who may not."""
+    """Runs as a user without rights to write, if the tests run as one who may write everywhere."""
     is_root = os.geteuid() == 0
     if is_root:
         os.seteuid(65534)
@@ -82,7 +83,7 @@ class Stores(RecipeCase):
         verdicts, value = self.verdicts()
         self.assertEqual((verdicts, value["advisories"], value["asked"]), ({"1": "TRUE"}, 2, ["CVE-2024-0001", "CVE-2024-0002"]))
         self.assertEqual(value["notAnalysed"], {"Analyzed": ["CVE-2024-0003"]})
-        with mock.patch("cpe_recipes.stored.read", side_effect=made.read) as read, mock.patch("cpe_recipes.stored.record_of") as record_of:
+        with mock.patch("cpe_recipes.store_reader.decode", side_effect=statement_cache.decode) as read, mock.patch("cpe_recipes.store_reader.record_of") as record_of:
             self.verdicts()
         self.assertEqual((read.call_count, record_of.call_count), (1, 0))
         self.assertEqual(self.verdicts("--all")[0], {"1": "TRUE", "2": "FALSE"})
@@ -111,10 +112,10 @@ class Stores(RecipeCase):
             return found
 
         path = self.file("record.json", json.dumps([record]))
-        with mock.patch.object(adding, "maker", lambda: "older"), mock.patch.object(cve5, "vulnerability", older):
+        with mock.patch.object(store_writer, "recipes_checksum", lambda: "older"), mock.patch.object(cve5, "vulnerability", older):
             self.filled()
             self.add(path, page("vulnerabilities", cve(5)))
-        # (now it has names, so that it counts in place of NVD's, which isn't analysed)
+        # (now the record has names, so it replaces NVD's, which isn't analysed)
         self.assertEqual(self.verdicts()[0], {"1": "TRUE", "5": "TRUE"})
         self.assertEqual(ran(store.run, ["check", "--store", self.store])[0], 0)
 
@@ -122,7 +123,7 @@ class Stores(RecipeCase):
         self.filled()
         ranged = match(fs("v", "p"))
         first, second = cve(6, ranged | {"versionEndIncluding": "0.5"}), cve(7, ranged | {"versionEndIncluding": "1.5"})
-        # (the list of the match is that of the first of them)
+        # (the match has the list of the first of them)
         listed = {"matchString": {"matchCriteriaId": "K", "criteria": fs("v", "p"), "matches": [{"cpeName": fs("v", "p", "0.1")}]}}
         self.add(page("vulnerabilities", first, second), page("matchStrings", listed))
         self.assertEqual(self.verdicts()[0], {"1": "TRUE", "7": "TRUE"})
@@ -130,7 +131,8 @@ class Stores(RecipeCase):
         self.assertEqual(self.verdicts(status=1)[0], {"1": "TRUE", "7": "TRUE", "8": "UNKNOWN"})
 
     def test_a_list_reaches_items_by_the_id_of_its_match(self):
-        """Whatever the feed says of the name of a match: the advisory's own name for it is one of the items' names, by which others see them."""
+        """Whatever the feed calls the match: an item gets the advisory's own name for it, by which other advisories
+        find the item."""
         ranged = match(fs("x", "q")) | {"versionEndExcluding": "3"}
         others = [cve(n, match(fs("y", f"z{n}"))) for n in range(10, 15)]
         odd = cve(2, match(fs("x", "q")), ranged | {"criteria": fs("*", "q"), "matchCriteriaId": "odd", "versionEndExcluding": "2"})
@@ -168,7 +170,7 @@ class Stores(RecipeCase):
         self.add(page("vulnerabilities", cve(1, match(ELSEWHERE), modified=later), cve(2, match(HERE), modified=later)))
         self.assertEqual(self.verdicts()[0], {"2": "TRUE"})
         self.assertEqual(ran(store.run, ["check", "--store", self.store])[0], 0)
-        # (and of two of the same time isn't known which)
+        # (and of two records of the same time it isn't known which counts)
         _, said = self.add(page("vulnerabilities", cve(2, match(ELSEWHERE), modified=later)))
         self.assertEqual(self.verdicts(status=1)[0], {"2": "TRUE"})
         self.assertIn("neither says that it is later", str(self.verdicts(status=1)[1]["leftOut"]))
@@ -198,7 +200,7 @@ class Stores(RecipeCase):
         self.add(page("vulnerabilities", cve(4, match(fs("x", "new", "1.0")))))
         self.assertEqual(self.verdicts()[0], {"1": "TRUE"})
         self.add(page("products", product(HERE, later, deprecated=True, deprecatedBy=[{"cpeName": fs("x", "new", "1.0")}])), status=0)
-        # (what it leads to isn't there yet)
+        # (its successor isn't there yet)
         self.assertEqual(self.verdicts(status=1)[0], {"1": "TRUE"})
         self.add(page("products", product(fs("x", "new", "1.0"), later)))
         self.assertEqual(self.verdicts()[0], {"1": "TRUE", "4": "TRUE"})
@@ -229,11 +231,11 @@ class Stores(RecipeCase):
         second = page("vulnerabilities", *(cve(n, match(HERE), modified="2024-07-01T00:00:00.000") for n in (10, 11)), total=4)
         self.add(*first)
         self.add(second)
-        # (the second page of the later window isn't there)
+        # (the second page of the later window is missing)
         self.assertIn("the feed has 4 advisories, 2 were given; those of startIndex 2 to 3 are missing", self.scan_is_fatal())
         self.add(page("vulnerabilities", cve(12, match(HERE), modified="2024-07-01T00:00:00.000"), cve(14, match(HERE)), start=2, total=4))
         self.verdicts()
-        # (a page that is there opens no feed)
+        # (a known page begins no feed)
         self.add(first[0], page("vulnerabilities", cve(15, match(HERE))))
         self.verdicts()
 
@@ -249,7 +251,7 @@ class Stores(RecipeCase):
     def test_a_gap_that_a_later_feed_ends(self):
         self.filled()
         self.add(page("vulnerabilities", cve(10, match(HERE)), cve(11, match(HERE)), total=40))
-        # (a window has it not, nor has one that has others)
+        # (neither this window nor one with other records has it)
         for some in ((10, 12), range(12, 60)):
             self.add(*(page("vulnerabilities", cve(n, match(HERE)), start=k, total=len(some)) for k, n in enumerate(some)))
             self.assertIn("the feed has 40 advisories, 2 were given", self.scan_is_fatal())
@@ -260,7 +262,7 @@ class Stores(RecipeCase):
         self.filled()
         self.add(page("vulnerabilities", cve(4, match(HERE)), cve(5, match(HERE)), total=4))
         years = self.of_years()
-        # (those of one run have fewer, and those of the other one not all that was given)
+        # (the feed of one run has fewer records, and that of the other isn't complete)
         for some in (years[:2], years[1:]):
             self.add(*some)
             self.assertIn("the feed has 4 advisories, 2 were given", self.scan_is_fatal())
@@ -268,7 +270,7 @@ class Stores(RecipeCase):
         self.assertEqual(set(self.verdicts()[0]), {"1", *map(str, range(4, 9))})
 
     def test_what_a_stopped_run_had_not_worked_out(self):
-        with mock.patch("cpe_recipes.store.settle", side_effect=KeyboardInterrupt), self.assertRaises(KeyboardInterrupt):
+        with mock.patch("cpe_recipes.store.update_findings", side_effect=KeyboardInterrupt), self.assertRaises(KeyboardInterrupt):
             self.filled()
         status, _, said = ran(store.run, ["status", "--store", self.store])
         self.assertEqual((status, len([line for line in said if "was not worked out by the run that added them" in line])), (1, 2))
@@ -278,20 +280,20 @@ class Stores(RecipeCase):
         self.assertEqual(ran(store.run, ["status", "--store", self.store])[0], 0)
 
     def of_years(self):
-        """Pages that have all of their feed each, so that they don't show what is missing."""
+        """Pages that each are a whole feed, so that none is missing."""
         return [self.file(f"year-{k}.json", page("vulnerabilities", cve(k, match(HERE)))) for k in range(4, 9)]
 
     def test_an_add_that_was_killed_between_pages(self):
         self.filled()
         years = self.of_years()
-        put, count = adding.Adding.put, iter(range(9))
-        with mock.patch.object(adding.Adding, "put", lambda *given: put(*given) if next(count) < 2 else os.kill(os.getpid(), signal.SIGKILL)):
+        put, count = store_writer.StoreWriter.put, iter(range(9))
+        with mock.patch.object(store_writer.StoreWriter, "put", lambda *given: put(*given) if next(count) < 2 else os.kill(os.getpid(), signal.SIGKILL)):
             process = os.fork()
             if process == 0:
                 ran(store.run, ["add", "--store", self.store, *years])
                 os._exit(0)
         os.waitpid(process, 0)
-        # (neither a scan nor what adds other pages, or none, changes that)
+        # (neither a scan nor a run that adds other pages, or none, changes that)
         for pages in ([], years[:1], [page("vulnerabilities", cve(9, match(ELSEWHERE)))]):
             verdicts, value = self.verdicts(status=1)
             self.assertEqual((verdicts, len(value["leftOut"])), ({"1": "TRUE", "4": "TRUE", "5": "TRUE"}, 1))
@@ -305,13 +307,13 @@ class Stores(RecipeCase):
 
     def test_a_scan_between_two_pages_of_an_add(self):
         self.filled()
-        put, found = adding.Adding.put, []
+        put, found = store_writer.StoreWriter.put, []
 
         def scanned(*given):
             found.append(self.verdicts(status=1))
             return put(*given)
 
-        with mock.patch.object(adding.Adding, "put", scanned):
+        with mock.patch.object(store_writer.StoreWriter, "put", scanned):
             self.add(*self.of_years())
         self.assertEqual([len(verdicts) for verdicts, _ in found], [1, 2, 3, 4, 5])
         self.assertEqual({one["reason"].endswith("pages may be missing until it is run again, to its end") for _, value in found for one in value["leftOut"]}, {True})
@@ -351,14 +353,14 @@ class Stores(RecipeCase):
         text = json.dumps(page("vulnerabilities", cve(4, match(HERE))))
         torn = self.file("torn.json", text + "\n" + text.replace("0004", "0005")[:-20])
         for _ in range(2):
-            # (it is never taken for one that was added whole)
+            # (it is never considered as added whole)
             self.assertIn("left out torn.json: no JSON", str(self.add(torn, page("products", product(HERE)), status=1)[1]))
         Path(torn).write_text(text + "\n" + text.replace("0004", "0005"))
         self.add(torn)
         self.assertEqual(self.verdicts()[0], dict.fromkeys("145", "TRUE"))
 
     def left(self, count):
-        """What a scan leaves out; status says as much."""
+        """The messages of a scan about what is left out; the status agrees."""
         left = self.verdicts(status=1 if count else 0)[1]["leftOut"]
         status, _, said = ran(store.run, ["status", "--store", self.store])
         self.assertEqual((len(left), len(said), status), (count, count, 1 if count else 0), said)
@@ -389,7 +391,7 @@ class Stores(RecipeCase):
         self.filled()
         bad, years = self.file("bad.meta", "size: 7"), self.of_years()
         self.add(years[0], bad, status=1)
-        with mock.patch.object(adding.Adding, "finish", side_effect=KeyboardInterrupt), self.assertRaises(KeyboardInterrupt):
+        with mock.patch.object(store_writer.StoreWriter, "finish", side_effect=KeyboardInterrupt), self.assertRaises(KeyboardInterrupt):
             self.add(*years)
         self.left(2)
         self.assertEqual(ran(store.run, ["forget", "--store", self.store, bad, *years[1:]])[:2], (0, "forgot 5 files\n"))
@@ -418,12 +420,12 @@ class Stores(RecipeCase):
         for record, count, is_read in zip(of, (1, 1, 0, 0), (False, True, True, False)):
             self.add(page("matchStrings", record, {"matchString": {"matchCriteriaId": "M", "matches": []}}), status=0 if is_read else 1)
             self.assertEqual([one["id"] for one in self.left(count)], ["L"] * count)
-        # (nor is what its items have otherwise)
+        # (nor are other names of its items)
         self.machines = self.file("machines", f"m {fs('y', 'y', '1.0')}\n")
         self.add(page("matchStrings", {"matchString": one | {"matches": ["x"], "lastModified": "2024-06-01T00:00:00.000"}}), status=1)
         self.assertEqual([one["id"] for one in self.left(1)], ["L"])
         self.add(page("matchStrings", {"matchString": one | {"lastModified": "2024-06-01T00:00:00.000"}}))
-        # (of one that isn't wanted nothing is said)
+        # (nothing is reported about a product that isn't wanted)
         self.add(page("matchStrings", {"matchString": {"matchCriteriaId": "M", "matches": 7}}), status=1)
         self.assertEqual(self.verdicts()[1]["leftOut"], [])
         self.assertEqual(ran(store.run, ["status", "--store", self.store])[0], 1)
@@ -540,10 +542,10 @@ class Stores(RecipeCase):
         self.addCleanup(connection.close)
         connection.execute("BEGIN IMMEDIATE")
         connection.execute("DELETE FROM advisories")
-        with mock.patch("cpe_recipes.kept._SECONDS_TO_WAIT", 0.1), self.assertRaises(Fatal) as caught:
+        with mock.patch("cpe_recipes.store_file._SECONDS_TO_WAIT", 0.1), self.assertRaises(Fatal) as caught:
             self.add(page("vulnerabilities", cve(9, match(HERE))))
         self.assertIn("another run is writing to the store", str(caught.exception))
-        # (who reads sees what was there before)
+        # (readers see the state before)
         self.assertEqual(self.verdicts(), before)
         connection.execute("ROLLBACK")
         self.add(page("vulnerabilities", cve(9, match(HERE))))
@@ -554,22 +556,22 @@ class Stores(RecipeCase):
         late = self.file("late.json", page("vulnerabilities", cve(9, match(HERE)), start=1, total=2))
 
         def added(*given):
-            kept = Kept(self.store)
-            adding.Adding(kept, Heard()).put(prepare(next(feeds.pages([late], Heard(), adding.KINDS))))
-            kept.close()
+            file = StoreFile(self.store)
+            store_writer.StoreWriter(file, Heard()).put(convert_page(next(feeds.pages([late], Heard(), store_writer.KINDS))))
+            file.close()
 
-        # (what the pages say together is worked out by the scan then)
-        with mock.patch.object(stored.Stored, "_make_again", added):
+        # (then the scan computes the findings)
+        with mock.patch.object(store_reader.StoreReader, "_derive_again", added):
             self.assertIn("the feed has 2 advisories, 1 were given", self.scan_is_fatal())
 
     def test_a_scan_writes_nothing(self):
-        with mock.patch("cpe_recipes.store.settle", side_effect=KeyboardInterrupt), self.assertRaises(KeyboardInterrupt):
+        with mock.patch("cpe_recipes.store.update_findings", side_effect=KeyboardInterrupt), self.assertRaises(KeyboardInterrupt):
             self.filled()
         connection = sqlite3.connect(Path(self.store) / FILE, isolation_level=None)
         self.addCleanup(connection.close)
-        # (another run writes meanwhile)
+        # (another run is writing meanwhile)
         connection.execute("BEGIN IMMEDIATE")
-        with mock.patch("cpe_recipes.kept._SECONDS_TO_WAIT", 0.1):
+        with mock.patch("cpe_recipes.store_file._SECONDS_TO_WAIT", 0.1):
             self.assertEqual(self.verdicts(status=1)[0], {"1": "TRUE"})
             connection.execute("UPDATE maker SET digest = 'other'")
             connection.execute("COMMIT")
@@ -586,13 +588,13 @@ class Stores(RecipeCase):
             if shutil.which(program) is None:
                 self.skipTest("the program can't be run by another user")
             self.assertEqual(self.verdicts(), before)
-        # (what a run that was killed left isn't passed over)
+        # (unfinished work of a killed run isn't ignored)
         (Path(self.store) / f"{FILE}-wal").write_bytes(b"x" * 100)
         with as_another():
             self.assertIn("run store.py add --store FOLDER as one who can write there", self.scan_is_fatal())
-        # (nor what is written meanwhile)
+        # (nor is what is written meanwhile)
         (Path(self.store) / f"{FILE}-wal").unlink()
-        with as_another(), mock.patch.object(Kept, "_state", side_effect=[(1, 1), (2, 2)]):
+        with as_another(), mock.patch.object(StoreFile, "_state", side_effect=[(1, 1), (2, 2)]):
             self.assertIn("another run added pages meanwhile", self.scan_is_fatal())
 
     def test_two_runs_that_add_at_once(self):
@@ -613,7 +615,7 @@ class Stores(RecipeCase):
         run = subprocess.run(["sh", "-c", words], capture_output=True, text=True)
         self.assertEqual((run.returncode, run.stdout), (2, ""))
         self.assertRegex(run.stderr, "^store.py: .*(the disk is full|can not be read or written)")
-        # (it is the same, and the scan says that the run has not ended)
+        # (the output is the same, and the scan reports that the run has not ended)
         self.assertEqual(self.verdicts(status=1)[0], before[0])
         self.assertEqual(ran(store.run, ["check", "--store", self.store])[:2], (0, "5 records read again, 0 wrong\n"))
         self.assertEqual(self.add(big)[0], "added 1 page: 2990 records new or later")
@@ -649,13 +651,13 @@ class Stores(RecipeCase):
                 self.assertEqual((status, bool(said)), (1, True))
 
     def of_fleet(self, *words):
-        """The verdicts that workers of a fleet write, by machine and statement, and what is said of them."""
-        said = Heard()
-        asked = fleet.read_fleet(Program(), fleet.read_fleet_words(words, fleet.OPTIONS, fleet.USAGE), said)
-        session = Session(Program().path, asked.known)
+        """The verdicts of a fleet's workers, by machine and statement, and the messages."""
+        messages = Heard()
+        asked = fleet.read_fleet(Program(), fleet.read_fleet_words(words, fleet.OPTIONS, fleet.USAGE), messages)
+        session = Session(Program().path, asked.fleet_data)
         self.addCleanup(session.end)
         lines = (line.split(" ") for machine in asked.machines for line in session.ask(machine).lines)
-        return {(machine, id): truth for machine, id, truth in lines}, said.told
+        return {(machine, id): truth for machine, id, truth in lines}, messages.told
 
     def test_a_fleet_takes_a_store_too(self):
         left = 0

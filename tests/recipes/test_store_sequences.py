@@ -1,4 +1,4 @@
-"""A scan from a store writes what a scan of all pages writes, after drawn windows, lists and kills.
+"""A scan from a store has the same output as a scan of all pages, after random windows, lists and kills.
 
 STORE_SEQUENCES is how many sequences are drawn (24 if it isn't set); bench/sequences.py draws them at NVD's size.
 """
@@ -19,7 +19,7 @@ FORMS = ([], ["--json"], ["--json", "--all"], ["--json", "--why"], ["--json", "-
 
 
 @needs_cpe
-# (which never changes, and takes as long as all else)
+# (the table never changes, and reading it takes as long as all else)
 @mock.patch("cpe_recipes.names_table.read_table", functools.cache(names_table.read_table))
 class Sequences(unittest.TestCase):
     def test_a_scan_from_a_store_writes_what_a_scan_of_all_pages_does(self):

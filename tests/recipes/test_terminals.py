@@ -1,4 +1,4 @@
-"""What goes to a terminal has no character that it would obey; and scores that are none are left out alone."""
+"""Text for a terminal has no character that a terminal obeys; and a wrong score is left out, but not its advisory."""
 import json
 import subprocess
 import sys
@@ -12,7 +12,7 @@ from cpe_recipes.feeds import Page, record_text
 from stand_in import Heard, Names
 from test_report import ReportCase, machine, table, verdict
 
-# What clears a terminal, what begins a command without ESC, what turns the direction of a text, and the end of a character's life.
+# Texts that clear a terminal, begin a command without ESC, reverse the direction of a text, and the last code point.
 ODD = "\x1b[2J\x9b31m\u202e\x7f"
 SHOWN = "\\u001b[2J\\u009b31m\\u202e\\u007f"
 NOT_SCORES = (float("inf"), float("-inf"), float("nan"), -0.1, 10.1, 10**400, True, "9.8", None, [], {})
@@ -89,9 +89,9 @@ class Scores(unittest.TestCase):
         odd = {"type": "Primary", "cvssData": {"baseScore": 11, "baseSeverity": "HIGH"}}
         match = {"vulnerable": True, "criteria": fs("v", "p", "1")}
         cve = {"id": "CVE-2024-1001", "configurations": [{"nodes": [{"operator": "OR", "cpeMatch": [match]}]}], "metrics": {"cvssMetricV31": [odd]}}
-        said = Heard()
-        found = convert([Page("it.json", "vulnerabilities", [{"cve": cve}])], Names(), said, True)
-        self.assertEqual((said.told, len(found.candidates)), (["remark CVE-2024-1001: a score that is none is left out"], 1))
+        messages = Heard()
+        found = convert([Page("it.json", "vulnerabilities", [{"cve": cve}])], Names(), messages, True)
+        self.assertEqual((messages.told, len(found.candidates)), (["remark CVE-2024-1001: a score that is none is left out"], 1))
         self.assertNotIn("score", found.details["CVE-2024-1001"])
 
 

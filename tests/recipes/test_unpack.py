@@ -1,4 +1,5 @@
-"""How files are unpacked: pages alone and in archives, cut ones, and those that would unpack to more than they may."""
+"""How files are unpacked: pages alone and in archives, files that are cut off, and files that would unpack to too
+much."""
 import bz2
 import gzip
 import io
@@ -11,9 +12,9 @@ from unittest import mock
 
 from recipe_case import RecipeCase
 
-from cpe_recipes import feeds, unpack, whole
-from cpe_recipes.said import Fatal
-from cpe_recipes.unpack import LARGE, FeedFault, Limits, Unpacked
+from cpe_recipes import completeness, feeds, unpack
+from cpe_recipes.console import Fatal
+from cpe_recipes.unpack import LARGE, FeedFault, Limits, Unpacker
 
 PAGES = {f"nvdcpe-2.0-chunks/nvdcpe-2.0-chunk-0000{number}.json": json.dumps({"rows": [number] * 50}).encode() for number in (1, 2, 3)}
 SMALL = Limits(most=5000, times=10, free=1000, hint=" (--large lets it)")
@@ -39,7 +40,7 @@ def tarred(members, how="w"):
 
 class Parts(RecipeCase):
     def parts(self, data, limits=unpack.LIMITS):
-        self.unpacked = Unpacked(limits)
+        self.unpacked = Unpacker(limits)
         return dict(self.unpacked.parts(self.file("it", data)))
 
     def refused(self, data, limits=unpack.LIMITS):
@@ -87,7 +88,7 @@ class Parts(RecipeCase):
                         found = self.parts(data[:length])
                     except FeedFault:
                         continue
-                    # (what is no archive any more is no JSON either)
+                    # (a text that is no archive any more is no JSON either)
                     self.assertEqual(list(found), [""])
                     with self.assertRaises(FeedFault):
                         list(feeds.values_of(found[""]))
@@ -111,13 +112,13 @@ class Parts(RecipeCase):
             for data in (packed, zipped({"a.json": page}), tarred({"a.json": page}, "w:gz"), zipped({"a.zip": zipped({"a.json": page})})):
                 with self.subTest(size=size, front=data[:4]):
                     read: list[int] = []
-                    most = SMALL if len(packed) < 100 else unpack.TOLD_LIMITS
-                    with mock.patch.object(unpack._Counted, "take", self.noting(read)):
+                    most = SMALL if len(packed) < 100 else unpack.HINTING_LIMITS
+                    with mock.patch.object(unpack._ByteCounter, "take", self.noting(read)):
                         self.assertRegex(self.refused(data, most), r"unpacks to more than \d+ times its size, [\d,]+ bytes \(--large lets it\)")
                     self.assertLess(sum(read), max(most.free, most.times * len(data)) + 4 * unpack._CHUNK)
 
     def noting(self, read):
-        whole_take = unpack._Counted.take
+        whole_take = unpack._ByteCounter.take
 
         def take(counted, count):
             read.append(count)
@@ -130,7 +131,7 @@ class Parts(RecipeCase):
         for data in (gzip.compress(page), zipped({"a.json": page}), tarred({"a.json": page}), tarred({"a.json": page}, "w:gz")):
             self.assertEqual(self.refused(data, SMALL), "it unpacks to more than 5,000 bytes (--large lets it)")
             self.assertEqual(list(self.parts(data, LARGE).values()), [page])
-        # (an archive of many pages may have more than one page may)
+        # (an archive of many pages may unpack to more than one page may)
         many = {f"{number}.json": os.urandom(2000).hex().encode() for number in range(5)}
         for data in (zipped(many), tarred(many, "w:gz"), tarred(many)):
             self.assertEqual(self.parts(data, SMALL), many)
@@ -155,12 +156,12 @@ class Parts(RecipeCase):
 
 class Pages(RecipeCase):
     def read(self, data, name="it.zip", **how):
-        return [(page.name, page.records) for page in whole.pages([self.file(name, data)], self.said, ("rows",), **how)]
+        return [(page.name, page.records) for page in completeness.pages([self.file(name, data)], self.messages, ("rows",), **how)]
 
     def test_pages_are_called_by_archive_and_member(self):
         found = self.read(zipped({**PAGES, "README": b""}))
         self.assertEqual([name for name, _ in found], [f"it.zip/{name}" for name in PAGES])
-        self.assertEqual(self.said.told, ["remark it.zip: 1 member is no page by the name, such as README"])
+        self.assertEqual(self.messages.told, ["remark it.zip: 1 member is no page by the name, such as README"])
 
     def test_a_bad_member_is_left_out_by_its_name_or_fatal(self):
         bad = zipped({"a.json": b'{"rows":[1]}', "b.json": b"<html>", "c.json": b'{"rows":[2]}'})
@@ -168,13 +169,13 @@ class Pages(RecipeCase):
             self.read(bad, strict=True)
         self.assertTrue(str(caught.exception).startswith("it.zip/b.json: no JSON: "), caught.exception)
         self.assertEqual([rows for _, rows in self.read(bad)], [[1], [2]])
-        self.assertTrue(self.said.told[0].startswith("left out it.zip/b.json: no JSON: "))
+        self.assertTrue(self.messages.told[0].startswith("left out it.zip/b.json: no JSON: "))
 
     def test_large_lets_a_page_pass(self):
         page = gzip.compress(b'{"rows":[1]}' + b" " * 20_000_000)
         with self.assertRaisesRegex(Fatal, "it unpacks to more than 200 times its size"):
             self.read(page)
-        self.assertEqual(self.read(page, reading=whole.Reading(limits=LARGE)), [("it.zip", [1])])
+        self.assertEqual(self.read(page, reading=completeness.ReadingPolicy(limits=LARGE)), [("it.zip", [1])])
 
     def test_a_pipe_is_read(self):
         path = str(self.folder / "pipe")
@@ -183,7 +184,7 @@ class Pages(RecipeCase):
             with open(path, "wb") as pipe:
                 pipe.write(zipped(PAGES))
             os._exit(0)
-        found = list(whole.pages([path], self.said, ("rows",)))
+        found = list(completeness.pages([path], self.messages, ("rows",)))
         os.wait()
         self.assertEqual(len(found), 3)
 

@@ -1,4 +1,4 @@
-"""How versions stand to ranges and to each other, by the orders that they may have."""
+"""Whether versions are in ranges and equal each other, by the orders that they may have."""
 import random
 import sys
 import unittest
@@ -7,15 +7,15 @@ from pathlib import Path
 sys.path.insert(0, str(Path(__file__).resolve().parents[2] / "recipes"))
 
 from cpe_recipes.advisories import Range  # noqa: E402
+from cpe_recipes.console import Fatal  # noqa: E402
 from cpe_recipes.orders import ALL, OF_KIND  # noqa: E402
 from cpe_recipes.readings import readings, release_of, without_epoch, without_v  # noqa: E402
-from cpe_recipes.said import Fatal  # noqa: E402
 from cpe_recipes.versions import (  # noqa: E402
-    Letters, Same, Sameness, Standing, Stood, Upward, is_outside_from, letters_of, orders, pieces, read_letters, same, standing,
+    Letters, Same, Sameness, Position, RangePosition, Upward, is_outside_from, letters_of, orders, pieces, read_letters, same, locate,
     sure_beginning,
 )
 
-INSIDE, OUTSIDE, UNSURE = Standing
+INSIDE, OUTSIDE, UNSURE = Position
 TABLE = Path(__file__).resolve().parents[2] / "recipes" / "letters.txt"
 
 
@@ -49,7 +49,7 @@ class Beginnings(unittest.TestCase):
             one = between(None, bound) if draw.random() < 0.5 else between(bound, None)
             if is_outside_from(sure_beginning(begin), one):
                 told += 1
-                self.assertIs(standing(begin + rest, None, one).standing, OUTSIDE, (begin, rest, bound))
+                self.assertIs(locate(begin + rest, None, one).position, OUTSIDE, (begin, rest, bound))
         self.assertGreater(told, 100)
 
 
@@ -89,7 +89,7 @@ class Possible(unittest.TestCase):
             ("pypi", "1.0", "1.0-1"), ("npm", "1.0.0-1", "1.0.0"), ("npm", "1.0.0-alpha", "1.0.0-beta"), ("golang", "v1.0.0-rc.1", "v1"),
             ("maven", "1.0-alpha", "1"), ("apk", "1.1_beta", "1.1"), ("cargo", "1.0.0-a", "1.0.0"),
         ):
-            # (of a distribution's kind where the bound is one of numbers alone)
+            # (of a distribution's kind, if the bound has only numbers)
             sides = [(low, high, -1), (high, low, 1)] if kind not in ("deb", "rpm", "apk") else [(low, high, -1)]
             for one, other, wanted in sides:
                 self.assertEqual((answers(one, other, kind), orders(one, other, kind).words), ({wanted}, ""), (kind, one, other))
@@ -102,7 +102,8 @@ class Possible(unittest.TestCase):
         self.assertEqual(answers("1.1.1k", "1.1.1", "gem"), {-1, 1})
 
     def test_distributions_spell_bounds_otherwise(self):
-        # (upstream's beta may be the distribution's, if that writes no tilde; and a hyphen before a number is no revision)
+        # (upstream's beta may be the distribution's, if that writes no tilde; and a hyphen before a number is no
+        # revision)
         self.assertEqual(answers("2.9.0dev.6-3", "2.9.0", "deb"), {-1, 1})
         self.assertEqual(answers("1.0beta2-1", "1.0", "rpm"), {-1, 1})
         self.assertEqual(answers("8:6.9.11.60+dfsg-1.6", "6.9.11-62", "deb"), {-1, 1})
@@ -111,14 +112,14 @@ class Possible(unittest.TestCase):
     def test_words_that_no_order_is_told_for_are_not_trusted(self):
         found = orders("1.0-tp1", "1.0-beta1")
         self.assertEqual(found.words, "the words tp and beta decide between 1.0-tp1 and 1.0-beta1")
-        self.assertIs(standing("1.0-tp1", None, between(None, "1.0-beta1")).standing, UNSURE)
+        self.assertIs(locate("1.0-tp1", None, between(None, "1.0-beta1")).position, UNSURE)
         self.assertEqual(same("1.0-tp1", "1.0-beta1").sameness, Sameness.UNEQUAL)
         for version in ("release_1.2", "release/1.2", "r1.2", "openssl-1.2"):
             for kind in ("", "maven", "rpm"):
-                self.assertIs(standing(version, None, between("1.0", "2.0"), kind).standing, UNSURE, version)
-            self.assertIs(standing(version, None, between(version.replace("2", "1"), None)).standing, INSIDE, version)
-        self.assertEqual(standing("2_x", None, between("2_5", None)).why, "the word x decides between 2_x and 2_5")
-        self.assertIs(standing("1.0rc1", None, between(None, "1.0.1")).standing, INSIDE)
+                self.assertIs(locate(version, None, between("1.0", "2.0"), kind).position, UNSURE, version)
+            self.assertIs(locate(version, None, between(version.replace("2", "1"), None)).position, INSIDE, version)
+        self.assertEqual(locate("2_x", None, between("2_5", None)).why, "the word x decides between 2_x and 2_5")
+        self.assertIs(locate("1.0rc1", None, between(None, "1.0.1")).position, INSIDE)
 
     def test_what_has_no_pieces_is_no_version(self):
         for one, other in (("-", "1.0"), ("1.0", "*"), ("_", "_"), ("v", "~")):
@@ -131,9 +132,9 @@ class Possible(unittest.TestCase):
         self.assertEqual(answers("20240101a", "20230101"), {1})
         commit, later = "v0.0.0-20191109021931-daa7c04131f5", "0.0.0-20220314234659-1baeb1ce4c0b"
         for kind in ("golang", ""):
-            stands = [standing(commit, None, one, kind).standing for one in (between(None, "1.0"), between("1.0", "2.0"), between(None, later))]
+            stands = [locate(commit, None, one, kind).position for one in (between(None, "1.0"), between("1.0", "2.0"), between(None, later))]
             self.assertEqual(stands, [INSIDE, UNSURE, INSIDE], kind)
-            self.assertEqual(standing(commit, None, between(later, None), kind).standing, OUTSIDE, kind)
+            self.assertEqual(locate(commit, None, between(later, None), kind).position, OUTSIDE, kind)
 
     def test_pieces(self):
         self.assertEqual([(one.text, one.is_word) for one in pieces("1.010-RC2~")], [("1", False), ("10", False), ("rc", True), ("2", False)])
@@ -209,15 +210,15 @@ class Readings(unittest.TestCase):
         self.assertEqual(self.meant("32:9.16.23", "rpm", bound="31:1"), [("32:9.16.23", "")])
         self.assertEqual(self.meant("1:v2.0", ""), [("2.0", "")])
         self.assertEqual(self.meant("1%3a3.0.7-24.el9", "rpm"), [("3.0.7", "24.el9")])
-        self.assertIs(standing("1%3A3.0.7-24.el9", None, between("3.0.0", "3.0.13"), "rpm").standing, INSIDE)
+        self.assertIs(locate("1%3A3.0.7-24.el9", None, between("3.0.0", "3.0.13"), "rpm").position, INSIDE)
         self.assertEqual(readings("1.0", "1:v2.0", "")[0], "2.0")
         self.assertEqual([without_v(one) for one in ("v1", "V1.0", "vv1", "version1", "1v2", "")], ["1", "1.0", "vv1", "version1", "1v2", ""])
 
 
 class Standings(unittest.TestCase):
     def stands(self, version, one, kind="", update=None):
-        found = standing(version, update, one, kind)
-        return found.standing, found.why
+        found = locate(version, update, one, kind)
+        return found.position, found.why
 
     def test_bounds(self):
         one = between("1.0", "2.0", end_excluded=True)
@@ -251,13 +252,13 @@ class Standings(unittest.TestCase):
         self.assertEqual(self.stands("2.1", one, update="rc1")[0], OUTSIDE)
 
     def test_a_release_is_told_where_it_is_inside(self):
-        self.assertEqual(standing("3.0.7-24.el9", None, between("3.0", "3.0.13"), "rpm"), Stood(INSIDE, release="24.el9"))
-        self.assertEqual(standing("3.0.7-24.el9", None, between("3.0", "3.0.13")), Stood(INSIDE, release="24.el9"))
-        self.assertEqual(standing("3.0.7-24.el9", None, between("3.0", "3.0.7-30.el9"), "rpm"), Stood(INSIDE))
-        self.assertEqual(standing("3.0.14-1.el9", None, between("3.0", "3.0.13"), "rpm"), Stood(OUTSIDE))
-        self.assertEqual(standing("3.0.13-1", None, between("3.0", "3.0.13"), "deb"), Stood(INSIDE, release="1"))
-        unsure = standing("3.0.13.1-1", None, between("3.0", "3.0.13.1"))
-        self.assertEqual(unsure, Stood(UNSURE, "3.0.13.1-1 may be 3.0.13.1 in the release 1 of a distribution"))
+        self.assertEqual(locate("3.0.7-24.el9", None, between("3.0", "3.0.13"), "rpm"), RangePosition(INSIDE, release="24.el9"))
+        self.assertEqual(locate("3.0.7-24.el9", None, between("3.0", "3.0.13")), RangePosition(INSIDE, release="24.el9"))
+        self.assertEqual(locate("3.0.7-24.el9", None, between("3.0", "3.0.7-30.el9"), "rpm"), RangePosition(INSIDE))
+        self.assertEqual(locate("3.0.14-1.el9", None, between("3.0", "3.0.13"), "rpm"), RangePosition(OUTSIDE))
+        self.assertEqual(locate("3.0.13-1", None, between("3.0", "3.0.13"), "deb"), RangePosition(INSIDE, release="1"))
+        unsure = locate("3.0.13.1-1", None, between("3.0", "3.0.13.1"))
+        self.assertEqual(unsure, RangePosition(UNSURE, "3.0.13.1-1 may be 3.0.13.1 in the release 1 of a distribution"))
 
     def test_versions_that_were_outside_without_a_word(self):
         below = {"252-14.el9": "252.4", "115-1.el9": "115.0.2", "2.0+3": "2.0.3", "2.0~20240101": "2.0.1"}
@@ -313,17 +314,17 @@ class LettersUpward(unittest.TestCase):
     def test_letters_become_numbers(self):
         upward = {"1.1.1k": "1.1.1.11", "0.9.8za": "0.9.8.26.1", "9.3P1": "9.3.16.1", "3.0-a2": "3.0-1.2", "k": "11", "v1.0a": "1.0.1"}
         for version, wanted in upward.items():
-            self.assertEqual(self.letters.rewritten(("v", "all"), version), wanted)
+            self.assertEqual(self.letters.rewrite(("v", "all"), version), wanted)
 
     def test_words_before_a_release_and_long_ones_are_left(self):
         for version in ("1.0-rc1", "4.0.0tp2", "1.0beta2", "1.0-pre", "1.0.dev3", "1.0-final"):
-            self.assertEqual(self.letters.rewritten(("v", "all"), version), version)
-        self.assertEqual(self.letters.rewritten(("v", "all"), "1.0a-rc1"), "1.0.1-rc1")
+            self.assertEqual(self.letters.rewrite(("v", "all"), version), version)
+        self.assertEqual(self.letters.rewrite(("v", "all"), "1.0a-rc1"), "1.0.1-rc1")
 
     def test_only_the_words_of_the_table(self):
-        self.assertEqual(self.letters.rewritten(("v", "p"), "1.9.5p2"), "1.9.5.16.2")
-        self.assertEqual(self.letters.rewritten(("v", "p"), "1.9.5b1"), "1.9.5b1")
-        self.assertEqual(self.letters.rewritten(("v", "other"), "1.9.5p2"), "1.9.5p2")
+        self.assertEqual(self.letters.rewrite(("v", "p"), "1.9.5p2"), "1.9.5.16.2")
+        self.assertEqual(self.letters.rewrite(("v", "p"), "1.9.5b1"), "1.9.5b1")
+        self.assertEqual(self.letters.rewrite(("v", "other"), "1.9.5p2"), "1.9.5p2")
         self.assertEqual([self.letters.has(("v", one)) for one in ("p", "other")], [True, False])
 
     def test_an_update_of_such_letters_is_part_of_the_version(self):
@@ -334,7 +335,7 @@ class LettersUpward(unittest.TestCase):
 
     def test_rewritten_versions_are_in_the_order_of_the_vendor(self):
         rising = ["0.9.8", "0.9.8a", "0.9.8z", "0.9.8za", "0.9.8zh", "1.0.0", "1.0.2", "1.0.2a", "1.0.2zi", "1.1.1", "1.1.1w", "3.0.0"]
-        upward = [self.letters.rewritten(("v", "all"), version) for version in rising]
+        upward = [self.letters.rewrite(("v", "all"), version) for version in rising]
         for one, other in zip(upward, upward[1:]):
             self.assertEqual(answers(one, other), {-1}, f"{one} {other}")
 

@@ -3,7 +3,7 @@ import json
 import unittest
 
 from recipe_case import RecipeCase, fs, needs_cpe
-from cpe_recipes.why import Known, NoForm, proof_of, told
+from cpe_recipes.why import CertificateContext, NoForm, describe_proof, proof_of
 
 MYSQL, ORACLE = fs("mysql", "mysql", "5.1.73"), fs("oracle", "mysql", "5.1.73")
 KEY = {"system": "oval", "href": "debian.xml", "id": "def:1"}
@@ -15,7 +15,7 @@ def proof(why, id="s"):
 
 class Text(RecipeCase):
     def lines(self, why, test=None, kinds=()):
-        return list(told(proof(why), Known({} if test is None else {"s": test}, dict(kinds))))
+        return list(describe_proof(proof(why), CertificateContext({} if test is None else {"s": test}, dict(kinds))))
 
     def test_pair(self):
         why = {"of": [{"fact": [ORACLE], "item": [MYSQL, ORACLE], "truth": "TRUE"}], "truth": "TRUE"}

@@ -1,7 +1,8 @@
 #!/usr/bin/env python3
-"""Counts what `scan.py --json` says of each pair of machine and advisory against its truth: python3 truths.py TRUTHS < JSON.
+"""Counts what `scan.py --json` says of each pair of machine and advisory against its truth: python3 truths.py TRUTHS <
+JSON.
 
-The status is 0 where no affected pair is FALSE, no other one TRUE, and at most a tenth of all UNKNOWN.
+The status is 0 if no affected pair is FALSE, no other one TRUE, and at most a tenth of all UNKNOWN.
 """
 import json
 import sys

@@ -1,13 +1,16 @@
-"""Runs what the units of the service run, as they have it run, as far as that needs no systemd that runs, and asks the service.
+"""Runs what the units of the service run, as they have it run, as far as that needs no systemd that runs, and asks the
+service.
 
     unshare --mount --net /usr/bin/python3 -B tests/service/as_unit.py PACKAGE ROOM
 
-PACKAGE is the package for Debian, unpacked, and ROOM an empty folder. The command lines are those of the units, letter by letter: the
-package is laid over /usr, and ROOM has the state. All else can't be written, homes and devices aren't there, and the network is this
-machine's own. Each command has a user without any rights, and the filter of system calls of its unit. What systemd alone does isn't shown:
-that it makes the user and the folders, starts what ended, keeps time, and filters addresses (IPAddressDeny).
+PACKAGE is the package for Debian, unpacked, and ROOM an empty folder. The command lines are those of the units, letter
+by letter: the package is laid over /usr, and ROOM has the state. All else can't be written, homes and devices aren't
+there, and the network is this machine's own. Each command has a user without any rights, and the filter of system calls
+of its unit. What systemd alone does isn't shown: that it makes the user and the folders, starts what ended, keeps time,
+and filters addresses (IPAddressDeny).
 
-Root, util-linux, systemd-analyze, and Python's modules seccomp, starlette and uvicorn (Debian's). It ends with status 0 if all is right.
+Root, util-linux, systemd-analyze, and Python's modules seccomp, starlette and uvicorn (Debian's). It ends with status 0
+if all is right.
 """
 import contextlib
 import ctypes
@@ -34,18 +37,18 @@ SAMPLES = ROOT / "recipes" / "samples" / "ranges"
 STATE = Path("/var/lib/cpe-service")
 NOBODY = 65_534
 PATIENCE = 120
-# All that a unit may ask for which is done here, and what systemd alone can do.
+# Settings of a unit that this file applies, and those that only systemd can apply.
 DONE = {
     "ExecStart", "Environment", "DynamicUser", "User", "StateDirectory", "StateDirectoryMode", "LimitNOFILE", "ProtectSystem", "ProtectHome",
     "PrivateTmp", "PrivateDevices", "PrivateNetwork", "ProtectKernelTunables", "ProtectControlGroups", "ProtectProc", "NoNewPrivileges",
     "CapabilityBoundingSet", "RestrictAddressFamilies", "RestrictNamespaces", "RestrictRealtime", "RestrictSUIDSGID", "LockPersonality",
     "MemoryDenyWriteExecute", "SystemCallArchitectures", "SystemCallFilter", "SystemCallErrorNumber",
-    # (without capabilities and these system calls they are so anyway)
+    # (without capabilities and these system calls they hold anyway)
     "ProtectKernelModules", "ProtectKernelLogs", "ProtectClock", "ProtectHostname",
 }
 OF_SYSTEMD = {"Type", "Restart", "RestartSec", "IPAddressDeny", "IPAddressAllow"}
 _NAMESPACES = (0x00020000, 0x02000000, 0x04000000, 0x08000000, 0x10000000, 0x20000000, 0x40000000)
-# A command that tries what a unit forbids, and what it doesn't, and what is found.
+# A command that tries what a unit forbids and allows, and prints the results.
 PROBE = """
 import ctypes, errno, mmap, os, socket
 def tried(does):
@@ -115,7 +118,7 @@ def filters(unit):
     otherwise = unit.values.get("SystemCallErrorNumber")
     listed = seccomp.SyscallFilter(seccomp.ERRNO(getattr(errno, otherwise[0])) if otherwise else seccomp.KILL_PROCESS)
     for name in sorted(allowed):
-        # (a name of another architecture is none here)
+        # (a name of another architecture is unknown here)
         with contextlib.suppress(RuntimeError):
             listed.add_rule(seccomp.ALLOW, name)
     used = seccomp.SyscallFilter(seccomp.ALLOW)
@@ -145,7 +148,8 @@ def mount(*words):
 
 
 def shut_off(package, room):
-    """Has this mount namespace what the units leave: the package, the state, a fresh /tmp, and nothing else to write."""
+    """Leaves in this mount namespace only what the unit allows: the package, the state, a fresh /tmp, and nothing else
+    to write."""
     mount("--make-rprivate", "/")
     for name in ("state/feeds", "lib/cpe-service", "devices"):
         (room / name).mkdir(parents=True)
@@ -178,7 +182,7 @@ def with_loopback():
 
 
 def begun(unit, words):
-    """A process of these words, as the unit has it run."""
+    """A process with this command line, run as by the unit."""
     loaded = filters(unit)
     # (a container may have fewer)
     files = min(int(unit.values.get("LimitNOFILE", ["1024"])[0]), resource.getrlimit(resource.RLIMIT_NOFILE)[1])

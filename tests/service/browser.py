@@ -10,7 +10,7 @@ PATIENCE = 60
 
 
 class Browser:
-    """A browser with one page. Keys that are pressed, and what is asked of the page, are those of a user."""
+    """A browser with one page. Its keys and scripts act as those of a user."""
 
     def __init__(self, program):
         self._folder = tempfile.mkdtemp()
@@ -68,14 +68,14 @@ class Browser:
         self.until("document.readyState === 'complete' && location.href !== 'about:blank'")
 
     def value(self, script):
-        """What a script says of the page."""
+        """The value of a script on the page."""
         found = self.send("Runtime.evaluate", expression=script, returnByValue=True, awaitPromise=True)
         if "exceptionDetails" in found:
             raise RuntimeError(f"{script}: {found['exceptionDetails']}")
         return found["result"].get("value")
 
     def until(self, script):
-        """Waits until a script says something that is true."""
+        """Waits until a script is true."""
         end = time.monotonic() + PATIENCE
         while time.monotonic() < end:
             found = self.value(script)

@@ -1,4 +1,5 @@
-"""What the tests of the service share: a server over a fresh data folder, requests to it, and what scan.py says of the same files."""
+"""Shared by the tests of the service: a server over a fresh data folder, requests to it, and scan.py over the same
+files."""
 import http.client
 import json
 import os
@@ -16,12 +17,12 @@ from pathlib import Path
 ROOT = Path(__file__).resolve().parents[2]
 SAMPLES = ROOT / "recipes" / "samples"
 CPE = shutil.which(os.environ.get("CPE", "cpe"))
-# How long a test waits for what has to be there at some time.
+# How long a test waits for something that has to happen.
 PATIENCE = 60
 
 
 def feed(kind, *records):
-    """A page that has all of its feed."""
+    """A page that is a whole feed."""
     return {"startIndex": 0, "resultsPerPage": len(records), "totalResults": len(records), kind: list(records)}
 
 
@@ -54,7 +55,7 @@ class Server:
         run.stdout.close()
 
     def children(self, word=""):
-        """The processes of the server whose command has this word, those of its processes too."""
+        """The processes of the server, and of its processes, whose command has this word."""
         found, waiting = [], [self.run.pid]
         while waiting:
             pid = waiting.pop()
@@ -92,7 +93,7 @@ class Server:
         return self.ask("POST", f"/feeds?{urllib.parse.urlencode(query)}", data)
 
     def settled(self):
-        """The health of the server when all that was accepted is judged."""
+        """The health of the server, when everything accepted is judged."""
         end = time.monotonic() + PATIENCE
         while time.monotonic() < end:
             status, value = self.ask("GET", "/health")
@@ -143,7 +144,8 @@ class ServiceCase(unittest.TestCase):
         return server
 
     def scanned(self, lists, dictionary, advisories, matches=(), **tables):
-        """The machines of scan.py over files, by their names, and the result. The lists are bytes by the names of machines."""
+        """The machines of scan.py over files, by their names, and the result. The lists are bytes, by the names of
+        machines."""
         folder = Path(tempfile.mkdtemp(dir=self.folder))
         words = ["--dictionary", *map(str, dictionary), "--advisories", *map(str, advisories)]
         words += ["--matches", *map(str, matches)] if matches else []
@@ -165,7 +167,7 @@ class ServiceCase(unittest.TestCase):
         return {one["name"]: one for one in value["machines"]}, value
 
     def judged(self, server, name):
-        """What the service has of a machine, in the form of scan.py."""
+        """The service's result for a machine, in the form of scan.py."""
         status, value = server.ask("GET", f"/machines/{urllib.parse.quote(name)}?limit=1000")
         self.assertEqual((status, value["state"]), (200, "judged"), value)
         for key in ("state", "counts", "judged", "edit", "put", "leftOut", "remarks", "total"):

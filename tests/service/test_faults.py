@@ -1,8 +1,8 @@
-"""Processes that are killed, disks that are full, folders that can only be read, and slow clients. What was accepted stays, and all else
-is answered.
+"""Processes that are killed, disks that are full, folders that can only be read, and slow clients. Accepted data stays,
+and each request is answered.
 
-CPE_KILLS is how often a process is killed, and CPE_SEED the seed by which it is drawn which and when. CPE_MEGABYTES is how large a large
-list is.
+CPE_KILLS is how often a process is killed, and CPE_SEED the seed that decides which and when. CPE_MEGABYTES is the size
+of a large list.
 """
 import contextlib
 import json
@@ -35,7 +35,7 @@ def drawn_list(draw):
 
 
 class Session:
-    """Puts, deletes and feeds, one after the other, while processes are killed. What was answered with is kept."""
+    """Sends puts, deletes and feeds, one after the other, while processes are killed, and keeps the answered ones."""
 
     def __init__(self, case, draw):
         self.case, self.draw, self.lists, self.unsure = case, draw, {}, {}
@@ -44,7 +44,8 @@ class Session:
         self.windows = json.loads((RANGES / "advisories.json").read_bytes())["vulnerabilities"]
 
     def step(self):
-        """A request, which the kill may hit. What wasn't answered was accepted or not, and the server says which."""
+        """A request, during which the kill may happen. A request without an answer may be accepted or not, and the
+        server shows which."""
         name = f"m-{self.draw.randint(1, 5)}"
         does = self.draw.random()
         try:
@@ -73,7 +74,7 @@ class Session:
         record["cve"]["lastModified"] = f"2026-01-{self.draw.randint(10, 28)}T00:00:0{self.draw.randint(0, 9)}.000"
         path = self.server.folder / f"given-{len(self.advisories)}.json"
         path.write_text(json.dumps(feed("vulnerabilities", record)))
-        # (until it is answered, so that what is unsure is known to count)
+        # (until it is answered, so that the state of uncertain requests is known)
         self.advisories.append(path)
         end = time.monotonic() + PATIENCE
         while time.monotonic() < end:
@@ -100,7 +101,7 @@ class Session:
                 pass
 
     def round(self):
-        """Steps until a process was killed at a moment that is drawn."""
+        """Sends requests until a process was killed at a random moment."""
         timer = threading.Timer(self.draw.random() * 0.3, self.kill)
         timer.start()
         while timer.is_alive():
@@ -113,12 +114,12 @@ class Session:
             self.server.start()
 
     def check(self):
-        """The lists that were accepted are there, with the verdicts of scan.py."""
+        """The accepted lists are there, with the verdicts of scan.py."""
         self.server.settled()
         _, value = self.server.ask("GET", "/machines?limit=1000")
         names = {one["name"] for one in value["machines"]}
         for name, data in self.unsure.items():
-            # (whether it was accepted can be seen, and it is put again, so that what it has is known)
+            # (the server shows whether it was accepted; it is put again, so that its content is known)
             if data is None and name not in names:
                 self.lists.pop(name, None)
             elif data is not None and name in names:
@@ -165,7 +166,7 @@ class KilledTest(ServiceCase):
 
 class DiskTest(ServiceCase):
     def test_a_full_disk(self):
-        """A limit on the size of files is met as a full disk is, on each system."""
+        """A limit on the size of files acts like a full disk, on each system."""
         server = self.with_samples()
         self.assertEqual(server.put("before", "cpe:/a:ntp:ntp:4.2.8")[0], 201)
         server.kill()
@@ -183,7 +184,7 @@ class DiskTest(ServiceCase):
         self.assertEqual([one["name"] for one in full.ask("GET", "/machines")[1]["machines"]], ["before"])
         self.assertEqual(full.ask("GET", "/machines/before")[1]["counts"], server_counts(full))
         full.kill()
-        # (and with room again it continues)
+        # (and when there is room again, it continues)
         again = self.server()
         self.assertEqual(again.put("large", data)[0], 201)
 
@@ -198,7 +199,8 @@ class DiskTest(ServiceCase):
         return folder
 
     def test_a_disk_that_is_full_until_there_is_room_again(self):
-        """Nothing is kept of what it doesn't take, all else is answered, and what waits is judged when there is room, by the same server."""
+        """Nothing is kept of what doesn't fit, all other requests are answered, and the same server judges waiting
+        machines when there is room."""
         folder = self.disk(24)
         server = self.with_samples()
         self.assertEqual(server.put("before", "cpe:/a:ntp:ntp:4.2.8")[0], 201)
@@ -222,7 +224,7 @@ class DiskTest(ServiceCase):
         self.assertEqual(self.judged(server, "after"), {**self.judged(server, "before"), "name": "after"})
 
     def test_verdicts_that_the_disk_does_not_take_are_written_later(self):
-        """The worker says that it is in trouble, and tries again."""
+        """The worker reports trouble, and tries again."""
         folder = self.disk(24)
         server = self.with_samples()
         server.put("m", "cpe:/a:ntp:ntp:4.2.8")
@@ -248,7 +250,7 @@ class DiskTest(ServiceCase):
 
     @unittest.skipIf(os.geteuid() == 0 and shutil.which("setpriv") is None, "root may write everywhere, and there is no setpriv")
     def test_a_folder_that_can_only_be_read(self):
-        """Neither a new one is used, nor one that a service has used."""
+        """Neither a new folder is used, nor one of an earlier service."""
         new, used = self.folder / "new", self.folder / "data"
         new.mkdir()
         self.with_samples().kill()
@@ -285,7 +287,7 @@ class DiskTest(ServiceCase):
         self.assertIn("version 99", run.stderr)
 
     def test_the_version_before_of_the_database(self):
-        """It is made this one, with all that it has."""
+        """It is converted, with all its contents."""
         server = self.with_samples()
         server.put("m", (RANGES / "legacy-1.txt").read_bytes())
         server.put("n", (RANGES / "app-1.txt").read_bytes())
@@ -364,7 +366,7 @@ class ClientsTest(ServiceCase):
         self.assertEqual(server.ask("GET", "/machines/m")[0], 200)
 
     def test_a_large_list_keeps_nobody_waiting(self):
-        """It is judged, or refused by its name, and meanwhile each question is answered."""
+        """The list is judged, or refused by its name, and each other request is answered meanwhile."""
         server = self.with_samples("ranges", "--most-list", str(400 << 20), "--rate", "10000", "--workers", "2")
         self.assertEqual(server.put("other", "cpe:/a:ntp:ntp:4.2.8")[0], 201)
         component = json.dumps({"type": "library", "name": "ntp", "description": "x" * 4_000, "cpe": "cpe:2.3:a:ntp:ntp:4.2.8:*:*:*:*:*:*:*"})
@@ -384,7 +386,7 @@ class ClientsTest(ServiceCase):
         self.assertIn(answers[0][0], (201, 202), answers)
         server.settled()
         self.assertEqual(self.judged(server, "large"), {**self.judged(server, "other"), "name": "large"})
-        # (and where less is taken, it is refused while it arrives)
+        # (and if the limit is smaller, it is refused while it arrives)
         server.kill()
         server = self.server("--most-list", "1000000", name="less")
         status, value = server.put("large", data)
@@ -397,7 +399,7 @@ class ClientsTest(ServiceCase):
             with socket.create_connection(("127.0.0.1", server.port), 10) as connection:
                 head = f"PUT /machines/m-{number} HTTP/1.1\r\nHost: localhost\r\nContent-Length: {len(body)}\r\n\r\n"
                 connection.sendall(head.encode() + body)
-        # (what wasn't answered was accepted, or it wasn't; in part it never is)
+        # (an unanswered request was accepted or not, never in part)
         self.assertEqual(server.put("last", body)[0], 201)
         server.settled()
         found = server.ask("GET", "/machines")[1]["machines"]

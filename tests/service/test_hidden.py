@@ -1,4 +1,4 @@
-"""No machine is hidden: what wasn't read, known or decided is said, and keeps no machine waiting."""
+"""No machine is hidden: what wasn't read, known or decided is reported, and keeps no machine waiting."""
 import asyncio
 import html
 import json
@@ -15,13 +15,13 @@ from service_case import CPE, ROOT, ServiceCase, feed
 
 sys.path.insert(0, str(ROOT / "service"))
 import cpe_service  # noqa: E402, F401 (it puts the recipes on the path)
-from cpe_recipes import portions  # noqa: E402
-from cpe_recipes.said import Fatal  # noqa: E402
 from cpe_service import app, database, ground, keeper, pages, queries, worker  # noqa: E402
+from cpe_recipes import portions  # noqa: E402
+from cpe_recipes.console import Fatal  # noqa: E402
 
 NAME = "cpe:2.3:a:acme:agent:%s:*:*:*:*:*:*:*"
 OTHER = "cpe:2.3:a:other:thing:1:*:*:*:*:*:*:*"
-# Half a character of two: JSON can spell it, and it has no bytes.
+# Half a surrogate pair: JSON can have it, and it has no bytes.
 HALF = "\ud800"
 
 
@@ -43,7 +43,7 @@ class WorkerCase(ServiceCase):
         super().setUp()
         data = self.folder / "data"
         data.mkdir()
-        database.made(data)
+        database.create(data)
         self.during(mock.patch.dict(os.environ, {"CPE": CPE}))
         self.keeps = keeper.Keeper(data)
         self.judges = self.worker()
@@ -80,7 +80,7 @@ class WorkerCase(ServiceCase):
 
 
 class HalfTest(WorkerCase):
-    """Half a character of two in a feed keeps no machine waiting."""
+    """Half a surrogate pair in a feed keeps no machine waiting."""
 
     def test_it_keeps_nobody_waiting(self):
         self.feed("products", product(NAME % "1", f"agent {HALF} one"), product(NAME % "2"))
@@ -112,7 +112,7 @@ class HalfTest(WorkerCase):
             self.judge()
         self.assertIn("the recipes have a fault: KeyError", self.rows("fault")[0][0])
         with mock.patch.object(worker.Worker, "_ready", side_effect=ValueError(f"no {HALF}")), mock.patch("sys.stderr"):
-            self.assertEqual(self.judges._tried_step(), 5)
+            self.assertEqual(self.judges._try_step(), 5)
         self.assertEqual(self.rows("text", "notes", name="trouble 0"), [("no \ufffd",)])
 
     def test_it_is_in_answers(self):
@@ -146,7 +146,7 @@ class ManyTest(WorkerCase):
         self.judge()
         self.assertEqual(self.rows("put = judged_put, fault, counts"), [(1, "", "{}")])
         self.assertEqual(queries.health(self.judges._database)["lacks"], "")
-        # (and a list that they concern has them read)
+        # (and a list that they concern makes the worker read them)
         self.put("n", NAME % "1")
         self.judge()
         self.assertEqual(self.verdicts("n"), dict.fromkeys(("CVE-2024-1", "CVE-2024-2", "CVE-2024-3"), "TRUE"))
@@ -177,12 +177,12 @@ class ManyTest(WorkerCase):
     def test_another_fault_is_no_list_that_none_concerns(self):
         self.put("m", OTHER)
         with mock.patch.object(ground.scan, "of_products", side_effect=Fatal("cpe resolve ended")), mock.patch("sys.stderr"):
-            self.assertEqual(self.judges._tried_step(), 5)
+            self.assertEqual(self.judges._try_step(), 5)
         self.assertEqual(self.rows("judged_put, fault"), [(0, "")])
 
 
 class HistoryTest(WorkerCase):
-    """The history says FALSE where that was decided alone."""
+    """The history says FALSE only if that was decided."""
 
     def setUp(self):
         super().setUp()
@@ -234,7 +234,7 @@ class HistoryTest(WorkerCase):
 
 
 class CertificateTest(WorkerCase):
-    """A certificate is of the list that counts now, and who has none reads why."""
+    """A certificate is of the current list, and its page says why if there is none."""
 
     def begin(self):
         self.feed("products", product(NAME % "1"), product(OTHER))
@@ -280,7 +280,7 @@ class CertificateTest(WorkerCase):
 
 
 class AskedTest(ServiceCase):
-    """Who asks for certificates keeps no list waiting."""
+    """Certificates keep no list waiting."""
 
     def test_more_certificates_than_a_worker_is_asked_for(self):
         server = self.server("--rate", "100000", "--workers", "1", "--seconds", "5")
@@ -295,7 +295,7 @@ class AskedTest(ServiceCase):
         for thread in threads:
             thread.join()
         self.assertEqual([status for status, _ in found], [503] * 7)
-        # (some are refused at once, and the others when their time is over)
+        # (some are refused at once, and the others after a time limit)
         self.assertEqual(sum(seconds > 4.9 for _, seconds in found), 4, found)
         for pid in pids:
             os.kill(pid, signal.SIGCONT)
@@ -306,7 +306,7 @@ class LateTest(WorkerCase):
     def test_a_certificate_that_comes_late_is_not_made(self):
         for until in (0, time.time() + 60):
             self.judges._inbox.put({"do": "certificate", "machine": "m", "id": "CVE-2024-1", "number": until, "until": until})
-        self.judges._tried_step = mock.Mock(side_effect=[0, 0, KeyboardInterrupt])
+        self.judges._try_step = mock.Mock(side_effect=[0, 0, KeyboardInterrupt])
         with mock.patch.object(worker.threading, "Thread"), self.assertRaises(KeyboardInterrupt):
             self.judges.run()
         self.assertEqual(self.judges.sent, [{"answer": until, "missing": "there is no machine m"}])
@@ -330,12 +330,12 @@ class ReadersTest(WorkerCase):
                 raise IndexError("pop from empty list")
 
         service._readers = Taken([None])
-        self.assertEqual(service._asked(queries.last_change, ()), 0)
+        self.assertEqual(service._query(queries.last_change, ()), 0)
         service._readers[1].close()
 
 
 class WaitTest(WorkerCase):
-    """Who waits for verdicts is asked for together with all others who wait."""
+    """One query serves all clients that wait for verdicts."""
 
     def setUp(self):
         super().setUp()
@@ -371,13 +371,13 @@ class WaitTest(WorkerCase):
 
     def test_what_ends_and_what_does_not(self):
         lists = [("none", 1)]
-        self.assertEqual(queries.settled(self.judges._database, lists), set(lists))
+        self.assertEqual(queries.find_done(self.judges._database, lists), set(lists))
         self.put("m", NAME % "1")
         (one,) = self.rows("name, put")
-        self.assertEqual(queries.settled(self.judges._database, [one]), set())
+        self.assertEqual(queries.find_done(self.judges._database, [one]), set())
         self.judge()
         # (there is no feed for which it could wait)
-        self.assertEqual(queries.settled(self.judges._database, [one]), {one})
+        self.assertEqual(queries.find_done(self.judges._database, [one]), {one})
 
     def test_a_fault_is_the_answer_to_each(self):
         async def fails(question, lists):
@@ -391,7 +391,7 @@ class WaitTest(WorkerCase):
 
 
 class ShownTest(ServiceCase):
-    """Answers from which something is missing say so."""
+    """An answer from which something is missing says so."""
 
     def begin(self):
         server = self.server("--rate", "100000", "--workers", "1", "--wait", "1")
@@ -425,7 +425,7 @@ class ShownTest(ServiceCase):
             self.assertEqual(self.unjudged(server, path), (2, 0, 1), path)
             self.assertIn("2 machines are not judged yet", self.page(server, path))
             self.assertIn("1 machine has no items, so there are no verdicts.", self.page(server, path))
-        # (the dictionary is as it was)
+        # (the dictionary is unchanged)
         self.assertEqual(server.ask("GET", self.names)[1]["dictionary"], "current")
         server.feed(feed("products", product(OTHER)))
         for path in (self.names, f"/name?cpe={OTHER}"):
@@ -458,7 +458,7 @@ class UnjudgedTest(WorkerCase):
         read = ground.read_ground
         with mock.patch.object(worker.Judge, "judge", side_effect=Fatal("cpe resolve ended")), mock.patch("sys.stderr"):
             with mock.patch.object(worker, "read_ground", side_effect=[read(self.judges._database, self.judges._program, list), Fatal("no room")]):
-                self.assertEqual(self.judges._tried_step(), 5)
+                self.assertEqual(self.judges._try_step(), 5)
         self.assertEqual((self.rows("judged_put, fault"), queries.health(self.judges._database)["trouble"]), ([(0, "")], ["no room"]))
         self.judge()
         self.assertEqual(self.verdicts("m"), {"CVE-2024-1": "TRUE"})

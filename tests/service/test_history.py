@@ -1,4 +1,5 @@
-"""What changed, since when, and by which edit; feeds in parts; events and metrics; and more advisories than cpe takes."""
+"""What changed, since when, and by which edit; feeds in parts; events and metrics; and more advisories than cpe
+takes."""
 import json
 import os
 import socket
@@ -12,9 +13,9 @@ from service_case import CPE, ROOT, SAMPLES, ServiceCase, feed
 
 sys.path.insert(0, str(ROOT / "service"))
 import cpe_service  # noqa: E402, F401 (it puts the recipes on the path)
-from cpe_recipes import portions  # noqa: E402
 from cpe_service import database, keeper, queries, worker  # noqa: E402
 from cpe_service import judge as judge_module  # noqa: E402
+from cpe_recipes import portions  # noqa: E402
 
 NAME = "cpe:2.3:a:acme:agent:%s:*:*:*:*:*:*:*"
 
@@ -104,7 +105,7 @@ class HistoryTest(ServiceCase):
     def test_changes_are_kept_for_their_time(self):
         server = self.begin()
         server.kill()
-        with database.connected(server.folder) as rows:
+        with database.connect(server.folder) as rows:
             rows.execute("UPDATE history SET at = at - 10 * 24 * 3600")
         rows.close()
         long = self.server("--days", "30")
@@ -124,7 +125,7 @@ class HistoryTest(ServiceCase):
         self.assertIn("startIndex 0 to 1 are missing", value["missing"][0])
         self.assertEqual([one["kind"] for one in server.ask("GET", "/health")[1]["feedsWaiting"]], ["advisories"])
         self.assertEqual(len(self.changes(server)), 1)
-        # (what is sent twice is kept once)
+        # (a page that is sent twice is kept once)
         self.assertEqual(server.feed(page(2, advisory("CVE-2024-7", "1")), feed="one")[1]["records"], 1)
         status, value = server.feed(page(0, advisory("CVE-2024-5", "1"), advisory("CVE-2024-6", "2")), feed="one")
         self.assertEqual((status, value["state"], value["records"]), (202, "counts", 3))
@@ -140,7 +141,7 @@ class HistoryTest(ServiceCase):
         self.assertIn("is given up", value["remarks"][0])
         self.assertEqual(server.feed(page(2, advisory("CVE-2024-9", "1")), feed="one")[1]["state"], "counts")
         self.assertEqual([one[1] for one in self.changes(server)], ["CVE-2024-1", "CVE-2024-7", "CVE-2024-8", "CVE-2024-9"])
-        # (pages of fetches that have other names don't meet)
+        # (pages of differently named fetches aren't combined)
         server.feed(page(0, advisory("CVE-2025-1", "1"), advisory("CVE-2025-2", "1")), feed="two")
         server.feed(page(2, advisory("CVE-2025-3", "1")), feed="three")
         self.assertEqual(len(server.ask("GET", "/health")[1]["feedsWaiting"]), 2)
@@ -242,7 +243,8 @@ class ToldTest(ServiceCase):
 @unittest.skipUnless(CPE, "there is no cpe")
 class ManyTest(ServiceCase):
     def test_more_advisories_than_cpe_takes(self):
-        """Those that may concern the machines are asked for, and a machine with another product has the others read."""
+        """Only advisories that may concern the machines are evaluated; a machine with another product makes the worker
+        read the others."""
         ranges = SAMPLES / "ranges"
         lists = {name: (ranges / name).read_bytes() for name in ("legacy-1.txt", "web-1.cdx.json", "app-1.txt")}
         with mock.patch.dict(os.environ, {"CPE": CPE}):
@@ -254,7 +256,7 @@ class ManyTest(ServiceCase):
     def test_a_list_that_the_recipes_fail_on_keeps_no_other_waiting(self):
         folder = self.folder / "data"
         folder.mkdir()
-        database.made(folder)
+        database.create(folder)
         with mock.patch.dict(os.environ, {"CPE": CPE}):
             keeps, judges = keeper.Keeper(folder), worker.Worker(folder, 0, 1)
             for kind in ("dictionary", "advisories"):
@@ -278,21 +280,21 @@ class ManyTest(ServiceCase):
     def test_what_a_worker_cannot_do_is_noted_and_tried_again(self):
         folder = self.folder / "data"
         folder.mkdir()
-        database.made(folder)
+        database.create(folder)
         with mock.patch.dict(os.environ, {"CPE": CPE}):
             judges = worker.Worker(folder, 0, 1)
             with mock.patch.object(judges, "_send"), mock.patch("sys.stderr"):
                 with mock.patch.object(worker, "read_ground", side_effect=ValueError("it is no ground")):
-                    self.assertEqual(judges._tried_step(), 5)
+                    self.assertEqual(judges._try_step(), 5)
                 self.assertEqual(queries.health(judges._database)["trouble"], ["it is no ground"])
-                self.assertEqual(judges._tried_step(), 30)
+                self.assertEqual(judges._try_step(), 30)
                 self.assertEqual(queries.health(judges._database)["trouble"], [])
             judges._end()
 
     def judged_by_worker(self, name, ranges, lists):
         folder = self.folder / name
         folder.mkdir()
-        database.made(folder)
+        database.create(folder)
         keeps, judges, found = keeper.Keeper(folder), worker.Worker(folder, 0, 1), {}
         for kind in ("dictionary", "advisories", "matches"):
             keeps.answer({"do": "feed", "name": "", "is_whole": False, "client": "x"}, (ranges / f"{kind}.json").read_bytes())

@@ -1,4 +1,5 @@
-"""Limits that no client passes: files of tokens, connections, listeners, feeds whose pages are missing, and what takes too much memory."""
+"""Limits for clients: files of tokens, connections, listeners, feeds with missing pages, and requests that need too
+much memory."""
 import contextlib
 import dataclasses
 import io
@@ -19,9 +20,9 @@ from unittest import mock
 from service_case import CPE, PATIENCE, ROOT, ServiceCase, feed
 
 sys.path.insert(0, str(ROOT / "service"))
-from cpe_service import database, feeds, keeper, resident, tokens  # noqa: E402
-from cpe_service.quiet import pathless  # noqa: E402
-from cpe_recipes.said import Fatal  # noqa: E402
+from cpe_service import database, feeds, keeper, resident_run, tokens  # noqa: E402
+from cpe_service.message_list import strip_paths  # noqa: E402
+from cpe_recipes.console import Fatal  # noqa: E402
 
 FEED = {"do": "feed", "name": "", "is_whole": False, "client": "x"}
 
@@ -49,7 +50,7 @@ class PathsTest(ServiceCase):
     def test_what_can_not_be_kept_shows_no_path(self):
         folder = self.folder / "data"
         folder.mkdir()
-        database.made(folder)
+        database.create(folder)
         with mock.patch.object(Path, "write_bytes", side_effect=OSError(28, "No space left on device", "/tmp/cpe-service-x/list")):
             answer = keeper.Keeper(folder).answer({"do": "put", "name": "m", "client": "x"}, b"cpe:/a:ntp:ntp:4.2.8")
         self.assertEqual(answer, {"fault": "it could not be kept: No space left on device"})
@@ -70,14 +71,14 @@ class PathsTest(ServiceCase):
         self.assertNotIn(str(self.folder), value["detail"])
 
     def test_a_run_that_ends_shows_no_path(self):
-        """What it says is the fault of a machine."""
+        """Its message becomes the fault of a machine."""
         cpe = self.folder / "cpe"
         for line, words in (("#!/none/sh", "^cpe can not be run: "), ("#!/bin/sh\nexit 3", "^cpe resolve ended with status 3$")):
             cpe.write_text(f"{line}\n")
             cpe.chmod(0o755)
             with self.assertRaises(Fatal) as raised:
-                resident.Resident(str(cpe), [])
-            self.assertRegex(pathless(str(raised.exception)), words)
+                resident_run.ResidentRun(str(cpe), [])
+            self.assertRegex(strip_paths(str(raised.exception)), words)
 
     def test_pathless(self):
         for text, wanted in (
@@ -87,7 +88,7 @@ class PathsTest(ServiceCase):
             ("cpe:/a:x/y", "cpe:/a:x/y"),
             ("https://a.example/b/c and /openapi.json", "https://a.example/b/c and /openapi.json"),
         ):
-            self.assertEqual(pathless(text), wanted)
+            self.assertEqual(strip_paths(text), wanted)
 
 
 class ConnectionsTest(ServiceCase):
@@ -113,7 +114,7 @@ class ConnectionsTest(ServiceCase):
                 # (it is looked at each 30 seconds)
                 connection.settimeout(2 * PATIENCE)
                 self.assertEqual(connection.recv(1), b"")
-            # (a request that runs is left alone)
+            # (a running request isn't closed)
             listener.settimeout(PATIENCE)
             while b"still here" not in heard:
                 part = listener.recv(4_096)
@@ -184,7 +185,7 @@ from pathlib import Path
 from cpe_service import database, keeper
 keeper.limit_memory(300 << 20)
 folder = Path(sys.argv[1])
-database.made(folder)
+database.create(folder)
 keeps, put = keeper.Keeper(folder), {"do": "put", "name": "m", "client": "x"}
 answer = keeps.answer(put, b'{"bomFormat":"CycloneDX","components":[' + b"{}," * (8 << 20) + b"{}]}")
 print(answer, "edit" in keeps.answer(put, b"cpe:/a:ntp:ntp:4.2.8"))
@@ -218,7 +219,7 @@ class MemoryTest(ServiceCase):
         size = len(json.dumps(page(0, "CVE-0", total=1)))
         for most, word in ((4 * size, "state"), (4 * size - 1, "refused")):
             folder = Path(tempfile.mkdtemp(dir=self.folder))
-            database.made(folder)
+            database.create(folder)
             with mock.patch.object(feeds, "_LIMITS", dataclasses.replace(feeds._LIMITS, most_of_all=most)):
                 answer = keeper.Keeper(folder).answer(FEED, data.getvalue())
             self.assertIn(word, answer)
@@ -227,10 +228,10 @@ class MemoryTest(ServiceCase):
 
 class AgainTest(ServiceCase):
     def test_what_is_asked_again_has_its_first_answer(self):
-        """So it is if a keeper is killed between what it keeps and its answer."""
+        """This holds even if a keeper is killed between its commit and its answer."""
         folder = self.folder / "data"
         folder.mkdir()
-        database.made(folder)
+        database.create(folder)
         all_of_it, part = (json.dumps(page(0, "CVE-1", total=total)).encode() for total in (1, 2))
         for number, (message, body) in enumerate((
             ({"do": "put", "name": "m"}, b"cpe:/a:ntp:ntp:4.2.8"),
@@ -262,7 +263,7 @@ class FeedsTest(ServiceCase):
         self.assertEqual(server.feed(page(0, "CVE-2-1", "CVE-2-2"), feed="today")[1]["state"], "waiting")
         value = server.feed(page(2, "CVE-2-3", "CVE-2-4"), feed="today")[1]
         self.assertEqual((value["state"], value["records"]), ("counts", 4))
-        # (all pages in one file are those of one fetch)
+        # (all pages in one file belong to one fetch)
         self.assertEqual(server.feed("".join(map(json.dumps, (page(2, "CVE-3-3", "CVE-3-4"), page(0, "CVE-3-1", "CVE-3-2")))))[1]["state"], "counts")
         self.assertEqual([one["name"] for one in server.ask("GET", "/health")[1]["feedsWaiting"]], ["yesterday"])
 
@@ -301,13 +302,13 @@ class FeedsTest(ServiceCase):
 
     def test_a_feed_is_packed_while_others_may_write(self):
         keeps = self.keeper()
-        pack, seen = feeds.packed, []
+        pack, seen = feeds.pack, []
 
         def packs(data):
             seen.append(keeps._database.in_transaction)
             return pack(data)
 
-        with mock.patch.object(feeds, "packed", packs), mock.patch.object(feeds, "_CHUNK", 2):
+        with mock.patch.object(feeds, "pack", packs), mock.patch.object(feeds, "_CHUNK", 2):
             self.assertEqual(self.keep(keeps, page(0, "CVE-1", "CVE-2", "CVE-3", total=3))["state"], "counts")
         self.assertEqual(seen, [False] * 3)
 
@@ -333,14 +334,14 @@ class FeedsTest(ServiceCase):
         answer = keeps.answer(FEED, b"".join(json.dumps(one).encode() for one in (page(0, "CVE-1", total=1), {"vulnerabilities": 1})))
         self.assertIn("refused", answer)
         self.assertEqual([keeps._database.execute(f"SELECT count(*) FROM {table}").fetchone()[0] for table in ("feeds", "records")], [0, 0])
-        # (and what a process left that was killed is removed when it is old)
+        # (and the remains of a killed process are removed when they are old)
         keeps._database.execute("INSERT INTO feeds (kind, name, is_whole, state, at) VALUES ('advisories', '', 0, 'arriving', 0)")
         self.assertEqual(self.keep(keeps, page(0, "CVE-1", total=1))["remarks"], [])
         self.assertEqual(keeps._database.execute("SELECT count(*) FROM feeds").fetchone()[0], 1)
 
     def test_a_file_that_takes_too_long_never_counts_in_part(self):
         keeps = self.keeper()
-        # (another process may remove it, as one that nobody writes any more)
+        # (another process may remove it, because nobody seems to write it any more)
         with mock.patch.object(feeds, "_SECONDS_WAITING", -10):
             answer = self.keep(keeps, page(0, "CVE-1", total=1))
         self.assertEqual(answer, {"refused": "reading it took too long, and what was read is given up: send it again"})
@@ -357,7 +358,7 @@ class FeedsTest(ServiceCase):
 
     def keeper(self):
         folder = Path(tempfile.mkdtemp(dir=self.folder))
-        database.made(folder)
+        database.create(folder)
         return keeper.Keeper(folder)
 
     def keep(self, keeps, value):

@@ -1,4 +1,5 @@
-"""The pages of the service: the same as the JSON, without scripts too, and in headless Chromium with keys, live, in light and dark."""
+"""The pages of the service: the same as the JSON, without scripts too, and in headless Chromium with keys, live, in
+light and dark."""
 import html
 import json
 import re

@@ -1,4 +1,5 @@
-"""Bad requests as one table: each is refused by its name, and nothing changes. And who may ask what, how often, and how much."""
+"""Bad requests in one table: each is refused by its name, and nothing changes. And the permissions and limits of
+clients."""
 import base64
 import gzip
 import json
@@ -141,12 +142,12 @@ class RefusedTest(ServiceCase):
         status, value = server.put("m", "x" * 1001)
         self.assertEqual((status, value["detail"]), (413, "the body has more than 1,000 bytes"))
         self.assertEqual(server.feed("x" * 2001)[0], 413)
-        # (of 200 MB that a client only says that it has, none is read)
+        # (of a body with a declared length of 200 MB nothing is read)
         with socket.create_connection(("127.0.0.1", server.port), 10) as connection:
             head = b"PUT /machines/m HTTP/1.1\r\nHost: localhost\r\nContent-Length: 209715200\r\nExpect: 100-continue\r\n\r\n"
             connection.sendall(head)
             self.assertTrue(connection.recv(100).startswith(b"HTTP/1.1 413 "))
-        # (and of one that doesn't say it no more than the limit)
+        # (and of one without a declared length no more than the limit)
         chunk = b"3e8\r\n" + b"x" * 1000 + b"\r\n"
         with socket.create_connection(("127.0.0.1", server.port), 10) as connection:
             head = b"PUT /machines/m HTTP/1.1\r\nHost: localhost\r\nTransfer-Encoding: chunked\r\n\r\n"
@@ -210,7 +211,7 @@ class ClientsTest(ServiceCase):
         self.assertEqual(ask("PUT", "/machines/m", LIST, Authorization=f"Bearer {write}"), 202)
         tokens = (self.folder / "data" / "tokens").read_text()
         self.assertNotIn(write, tokens)
-        # (a token whose line is removed lets nobody in, without a restart)
+        # (a removed token isn't valid any more, without a restart)
         (self.folder / "data" / "tokens").write_text("".join(line + "\n" for line in tokens.splitlines() if not line.startswith("scanner")))
         self.assertEqual(ask("PUT", "/machines/m", LIST, Authorization=f"Bearer {write}"), 401)
         (self.folder / "data" / "tokens").write_text("no line\n")

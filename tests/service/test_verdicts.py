@@ -1,5 +1,5 @@
-"""The verdicts of the service are those of scan.py, over the samples and over drawn fleets, after any order of puts, deletes and feeds,
-and whichever machines are judged together.
+"""The verdicts of the service are those of scan.py, over the samples and over random fleets, after any order of puts,
+deletes and feeds, whichever machines are judged together.
 
 CPE_FLEETS is how many fleets are drawn, and CPE_SEED the first of their seeds.
 """
@@ -19,18 +19,18 @@ import scan as drawing  # noqa: E402
 from test_alone import VERSIONS, DrawnParts, scanned  # noqa: E402
 from test_scan import NO_LETTERS  # noqa: E402
 
-from cpe_recipes import affected  # noqa: E402
-from cpe_recipes.components import Machine  # noqa: E402
-from cpe_recipes.decide import Lists  # noqa: E402
-from cpe_recipes.names_table import read_tables  # noqa: E402
-from cpe_recipes.outcome import Hanging, json_of, machines_with_verdicts  # noqa: E402
-from cpe_recipes.program import Program  # noqa: E402
-from cpe_recipes.settled import read_settled  # noqa: E402
-from cpe_recipes.suppressed import Suppressed  # noqa: E402
-from cpe_recipes.unanalysed import States  # noqa: E402
 from cpe_service.ground import Ground  # noqa: E402
 from cpe_service.judge import Judge  # noqa: E402
-from cpe_service.quiet import Quiet  # noqa: E402
+from cpe_service.message_list import MessageList  # noqa: E402
+from cpe_recipes import affected  # noqa: E402
+from cpe_recipes.advisory_states import States  # noqa: E402
+from cpe_recipes.components import Machine  # noqa: E402
+from cpe_recipes.names_table import read_tables  # noqa: E402
+from cpe_recipes.outcome import OutcomeReasons, json_of, machines_with_verdicts  # noqa: E402
+from cpe_recipes.program import Program  # noqa: E402
+from cpe_recipes.range_checks import MatchLists  # noqa: E402
+from cpe_recipes.settlements import read_settlements  # noqa: E402
+from cpe_recipes.suppressions import Suppressions  # noqa: E402
 
 FLEETS, SEED = int(os.environ.get("CPE_FLEETS", "5")), int(os.environ.get("CPE_SEED", "1"))
 _LISTS = (".cdx.json", ".spdx.json", ".txt")
@@ -66,7 +66,7 @@ class SamplesTest(ServiceCase):
 
 
 class Fleet:
-    """A drawn session: what was accepted is kept in files, as scan.py is given them."""
+    """A random session: accepted data is kept in files, as input for scan.py."""
 
     def __init__(self, case, seed):
         self.case, self.draw = case, random.Random(seed)
@@ -92,7 +92,7 @@ class Fleet:
         self.files[name] = [path] if whole else [*self.files[name], path]
 
     def advise(self):
-        """A window of advisories: new ones, and some that are there already, changed."""
+        """A window of advisories: new ones, and changed ones."""
         records = []
         for _ in range(self.draw.randint(1, 12)):
             if self.ids and self.draw.random() < 0.4:
@@ -109,7 +109,7 @@ class Fleet:
             elif odd < 0.16:
                 record["cve"]["configurations"][0]["nodes"][0]["cpeMatch"][0]["criteria"] = "cpe:2.3:no"
             records.append(record)
-        # (one at least has a verdict, so that scan.py has a result)
+        # (at least one has a verdict, so that scan.py has a result)
         records.append(self.feeds.advisory(0))
         self.post("advisories", "vulnerabilities", records, whole=self.draw.random() < 0.1)
 
@@ -159,7 +159,7 @@ class Fleet:
             del self.lists[name]
 
     def check(self):
-        """The service has what scan.py says, and its history leads to it."""
+        """The service has the verdicts of scan.py, and its history leads to them."""
         self.server.settled()
         wanted, value = self.case.scanned(self.lists, self.files["dictionary"], self.files["advisories"], self.files["matches"], **self.tables)
         found = {name: self.case.judged(self.server, name) for name in self.lists}
@@ -179,7 +179,7 @@ class Fleet:
         self.check_lists(kinds)
 
     def check_lists(self, kinds):
-        """The lists of advisories and of machines have them by their kinds."""
+        """The lists of advisories and of machines have them by kind."""
         of_each = {id: Counter(kind for (_, one), kind in kinds.items() if one == id) for _, id in kinds}
         for kind in ("", *dict.fromkeys(kinds.values()), "ERROR"):
             _, answer = self.server.ask("GET", f"/advisories?limit=1000{f'&kind={kind}' if kind else ''}")
@@ -197,7 +197,7 @@ class Fleet:
             self.case.assertEqual([one["name"] for one in answer["machines"]], wanted)
 
     def history(self):
-        """The verdicts to which the changes lead, one after the other."""
+        """The verdicts that result from the changes, one after the other."""
         kinds, after = {}, 0
         while True:
             _, value = self.server.ask("GET", f"/changes?limit=1000&after={after}")
@@ -222,19 +222,19 @@ class Fleet:
 
 @unittest.skipUnless(CPE, "there is no cpe")
 class TogetherTest(unittest.TestCase):
-    """What a judge learned of machines changes nothing of the next ones."""
+    """What a judge learned about machines doesn't change the verdicts of later ones."""
 
     def rows(self, known, machines, listed):
-        """What scan.py has of machines, by their names."""
+        """The rows of scan.py for machines, by their names."""
         made, found = scanned(known, machines, listed, has_why=True)
-        about = affected.About({}, Suppressed([]), Hanging(known, found))
+        about = affected.AdvisoryContext({}, Suppressions([]), OutcomeReasons(known, found))
         value = json_of(known, found, machines_with_verdicts(known, made.bare, found), about)
         return {row["name"]: row for row in value["machines"]}
 
     def check(self, drawn, known, machines, listed):
         with mock.patch.dict(os.environ, {"CPE": CPE}):
             program = Program()
-            parts = (States(), Lists(program, listed), NO_LETTERS, read_tables([]), Suppressed([]), read_settled([], Quiet()), Quiet())
+            parts = (States(), MatchLists(program, listed), NO_LETTERS, read_tables([]), Suppressions([]), read_settlements([], MessageList()), MessageList())
             judge = Judge(program, Ground(1, known.entries, known, *parts))
             self.addCleanup(judge.end)
             alone = {name: row for one in machines for name, row in self.rows(known, [one], listed).items()}
@@ -244,10 +244,10 @@ class TogetherTest(unittest.TestCase):
                 while waiting:
                     count = drawn.draw.randint(1, 3)
                     some, waiting = waiting[:count], waiting[count:]
-                    for judged in judge.judge([Machine(one.name, one.components) for one in some]):
+                    for machine_result in judge.judge([Machine(one.name, one.components) for one in some]):
                         for key in ("unnamed", "notNamed"):
-                            judged.row.pop(key, None)
-                        self.assertEqual(judged.row, alone[judged.name])
+                            machine_result.row.pop(key, None)
+                        self.assertEqual(machine_result.row, alone[machine_result.name])
 
     def test_drawn_machines(self):
         for seed in range(SEED, SEED + 2 * FLEETS):

@@ -1,13 +1,14 @@
-"""What a result says of each advisory and machine, as VEX has it: affected, not affected, or under investigation.
+"""The claims of VEX about each advisory and machine of a result: affected, not affected, or under investigation.
 
 - TRUE is affected.
-- What is accepted (--suppress) is not affected, with the reason that was given for it.
-- What is settled (--settled) is as it says, affected or not, with the reason that was given for it.
-- FALSE is written if it is asked for (--all). It is not affected only if all of the machine's list was read, each of its packages has a
-  sure name, and nothing else that may concern it was left out; otherwise it is under investigation. Whether the component is there, or
-  only its version is another one, a verdict doesn't tell, so nothing is claimed of that.
-- UNKNOWN and ERROR are under investigation. So is an advisory that was left out, on all machines; one that isn't analysed, if all is asked
-  for; and each of the others on a machine without items.
+- An accepted verdict (--suppress) is not affected, with the user's reason.
+- A settled verdict (--settled) is affected or not, as the user settled it, with the user's reason.
+- FALSE is written if all advisories are listed (--all). It is not affected only if the machine's whole list was read,
+  each of its packages has a sure name, and nothing else that may concern it was left out. Otherwise it is under
+  investigation. A verdict doesn't show whether the component is missing or only has another version, so the claim
+  doesn't either.
+- UNKNOWN and ERROR are under investigation. So is an advisory that was left out, on all machines; one that isn't
+  analysed, if all advisories are listed; and each other advisory on a machine without items.
 """
 from __future__ import annotations
 
@@ -19,7 +20,9 @@ from ..feeds import Json
 from ..verdicts import Settlement
 from .gaps import Gaps
 
-FALSE_REASON = "By the feeds and the list that were read, the configurations of the advisory don't hold for this machine."
+FALSE_REASON = (
+    "By the feeds and the list that were read, the configurations of the advisory don't hold for this machine."
+)
 BARE_REASON = "No items of the machine are known, so no verdict is."
 
 
@@ -31,7 +34,7 @@ class State(Enum):
 
 @dataclass(frozen=True)
 class Claim:
-    """What is said of an advisory, in words too where there are some."""
+    """A claim about an advisory, with its reason in words if there is one."""
 
     id: str
     state: State
@@ -40,14 +43,14 @@ class Claim:
 
 @dataclass(frozen=True)
 class Claims:
-    """The claims with the machines of which they are said, and what is known of the advisories beside that."""
+    """The claims with their machines, and the details of the advisories."""
 
     machines: dict[Claim, list[str]]
     details: dict[str, Mapping[str, Json]]
 
 
 def reasons_of(verdict: Mapping[str, Json]) -> list[str]:
-    """What stands beside a verdict in words."""
+    """The words beside a verdict."""
     return [text for key in ("hangsOn", "remarks", "decidedBy") for text in verdict.get(key, ())]
 
 

@@ -1,11 +1,12 @@
 """A result as CSV (RFC 4180), a row for each machine and advisory, with a header.
 
-All cells are quoted, and lines end with CR LF. A spreadsheet takes a cell that begins with `=`, `+`, `-` or `@` for a formula, and runs it:
-so such a cell has a `'` before it, and so has one that begins with `'`, so that nothing is lost. What can't be printed is written by its
-number.
+All cells are quoted, and lines end with CR LF. A spreadsheet takes a cell that begins with `=`, `+`, `-` or `@` for a
+formula, and runs it: so such a cell has a `'` before it, and so has one that begins with `'`, so that nothing is lost.
+What can't be printed is written by its number.
 
-CSV has no place but rows: what was left out is a row with the verdict LEFT OUT, advisories that aren't analysed are counted in one with
-the verdict NOT ANALYSED, and packages without a sure name in one of each machine with the verdict NO NAME.
+CSV has no place but rows: what was left out is a row with the verdict LEFT OUT, advisories that aren't analysed are
+counted in one with the verdict NOT ANALYSED, and packages without a sure name in one of each machine with the verdict
+NO NAME.
 """
 from __future__ import annotations
 
@@ -13,8 +14,8 @@ import csv
 import io
 from collections.abc import Iterator, Mapping
 
+from ..console import escape
 from ..feeds import Json
-from ..said import shown
 from .claims import reasons_of
 from .gaps import Gaps
 
@@ -41,7 +42,7 @@ def lines(value: Mapping[str, Json], _time: str = "", _is_all: bool = False) -> 
 
 def safe(text: str) -> str:
     """A cell that no spreadsheet takes for a formula."""
-    cell = shown(text)
+    cell = escape(text)
     return f"'{cell}" if cell.startswith(_FORMULAS) else cell
 
 
@@ -64,4 +65,8 @@ def _cells(verdict: Mapping[str, Json]) -> dict[str, str]:
     numbers = {"score": verdict.get("score"), "epss": verdict.get("epss", {}).get("epss")}
     found |= {key: str(number) for key, number in numbers.items() if number is not None}
     found["kev"] = verdict.get("kev", {}).get("dateAdded", "")
-    return found | {"verdict": verdict["verdict"], "advisory": verdict["id"], "depends_on": "; ".join(reasons_of(verdict))}
+    return found | {
+        "verdict": verdict["verdict"],
+        "advisory": verdict["id"],
+        "depends_on": "; ".join(reasons_of(verdict)),
+    }

@@ -1,7 +1,8 @@
-"""A result as VEX in CycloneDX 1.5: a vulnerability for each advisory and claim (claims.py), which affects the machines as components.
+"""A result as VEX in CycloneDX 1.5: a vulnerability for each advisory and claim (claims.py), which affects the machines
+as components.
 
-TRUE is `exploitable`, the state that CycloneDX has for affected; what is under investigation is `in_triage`. What was left out, how much
-isn't analysed, and which packages have no sure name stands in the properties of the metadata.
+An affected machine is `exploitable`, the word of CycloneDX; one under investigation is `in_triage`. The properties of
+the metadata list what was left out, how many advisories aren't analysed, and which packages have no sure name.
 """
 from __future__ import annotations
 
@@ -48,7 +49,11 @@ def _metadata(value: Mapping[str, Json], gaps: Gaps, time: str) -> dict[str, Jso
     for kind in ("kev", "epss"):
         found += [(f"{kind}.{key}", str(one)) for key, one in value.get(kind, {}).items()]
     properties = [{"name": f"{_PROPERTY}:{name}", "value": one} for name, one in found]
-    return {"timestamp": time, "tools": {"components": [{"type": "application", "name": "scan.py", "group": "cpe"}]}, "properties": properties}
+    return {
+        "timestamp": time,
+        "tools": {"components": [{"type": "application", "name": "scan.py", "group": "cpe"}]},
+        "properties": properties,
+    }
 
 
 def _vulnerabilities(claims: Claims) -> list[Json]:

@@ -1,6 +1,6 @@
-"""What isn't known for a result, for the forms in which it has no member of its own: the words of it, the advisories that have no verdict
-by it, and the machines on which a FALSE is no all-clear by it. That is what was left out, and packages without a sure name: the one of
-which an advisory speaks may be among them."""
+"""What isn't known for a result, for the forms in which it has no member of its own: the words of it, the advisories
+that have no verdict by it, and the machines on which a FALSE is no all-clear by it. That is what was left out, and
+packages without a sure name: the one of which an advisory speaks may be among them."""
 from __future__ import annotations
 
 import re
@@ -9,7 +9,7 @@ from dataclasses import dataclass
 
 from ..feeds import Json
 from ..kev import CVE
-from ..table import counted
+from ..table import format_count
 
 # A statement of an advisory of several has its id with a number.
 _ADVISORY = re.compile(rf"{CVE.pattern}(#[0-9]+)?")
@@ -29,8 +29,8 @@ class LeftOut:
         return f"left out {self.id}{self.place and ', '}{self.place}: {self.reason}"
 
     def fronts(self, most: int) -> Iterator[str]:
-        """The names, of so many letters at most, that the machine may have of whose list it is a part: its id has such a name before a
-        space."""
+        """The names, of at most this many letters, of the machine whose list may contain it: its id begins with such a
+        name and a space."""
         end = self.id.find(" ", 0, most + 1)
         while end >= 0:
             yield self.id[:end]
@@ -45,8 +45,12 @@ class Gaps:
         self.left_out = [LeftOut(one["id"], one["reason"], one.get("place", "")) for one in value["leftOut"]]
         self.machines = [machine["name"] for machine in value["machines"]]
         self.bare = [machine["name"] for machine in value["machines"] if "verdicts" not in machine]
-        self.unanalysed: dict[str, str] = {id: status for status, ids in value.get("notAnalysed", {}).items() for id in ids}
-        self.unnamed: dict[str, str] = {machine["name"]: words for machine in value["machines"] if (words := _unnamed(machine))}
+        self.unanalysed: dict[str, str] = {
+            id: status for status, ids in value.get("notAnalysed", {}).items() for id in ids
+        }
+        self.unnamed: dict[str, str] = {
+            machine["name"]: words for machine in value["machines"] if (words := _unnamed(machine))
+        }
         self._asked = set(value.get("asked", ()))
 
     def words(self) -> list[str]:
@@ -71,8 +75,9 @@ class Gaps:
         return {id: reason for id, reason in found.items() if id not in self._asked}
 
     def doubted(self) -> dict[str, str]:
-        """The machines on which a FALSE is no all-clear, each with why: what was not read of its own list, or of what may concern each; or
-        its packages without a sure name. (Of an advisory that is asked for, what can't be read is UNKNOWN in it.)"""
+        """The machines on which a FALSE is no all-clear, each with why: what was not read of its own list, or of what
+        may concern each; or its packages without a sure name. (Of an advisory that is asked for, what can't be read is
+        UNKNOWN in it.)"""
         by_machine: dict[str, list[LeftOut]] = {name: [] for name in self.machines}
         longest = max(map(len, by_machine), default=0)
         of_each: list[LeftOut] = []
@@ -103,4 +108,4 @@ def _unnamed(machine: Mapping[str, Json]) -> str:
     if not packages:
         return ""
     more = f" and {len(packages) - 1:,} more" if len(packages) > 1 else ""
-    return f"{counted(len(packages), 'package')} without a sure name: {packages[0]}{more}"
+    return f"{format_count(len(packages), 'package')} without a sure name: {packages[0]}{more}"

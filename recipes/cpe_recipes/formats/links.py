@@ -1,4 +1,4 @@
-"""Addresses of advisories, which come from feeds: what is no address of the web is left out."""
+"""Links to advisories, whose addresses are in feeds; what isn't an address of the web is left out."""
 from __future__ import annotations
 
 import re

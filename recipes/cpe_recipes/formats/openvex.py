@@ -1,8 +1,9 @@
 """A result as OpenVEX 0.2.0: a statement for each advisory and claim (claims.py), with the machines as its products.
 
-A machine is the product `pkg:generic/NAME`. Where it isn't affected, the reason is an impact statement, and never one of the justifications
-of OpenVEX: each of these claims more than a verdict tells. What to do about an advisory isn't known here, so the action is to read it. What
-was left out stands in `tooling`, the only text that a document has beside its statements.
+A machine is the product `pkg:generic/NAME`. If it isn't affected, the reason is an impact statement, and never one of
+the justifications of OpenVEX, because each of these claims more than a verdict shows. The action statement is to read
+the advisory, because nothing more is known. What was left out is in `tooling`, the only text of a document outside its
+statements.
 """
 from __future__ import annotations
 
@@ -11,8 +12,8 @@ import urllib.parse
 import uuid
 from collections.abc import Mapping, Sequence
 
+from ..console import Fatal
 from ..feeds import Json, json_text
-from ..said import Fatal
 from .claims import Claim, State, claims_of
 from .gaps import Gaps
 

@@ -1,12 +1,12 @@
 """A result as SARIF 2.1.0: a rule for each advisory that has results, and a result for each machine and verdict.
 
-TRUE is of the kind `fail`, with a level by its score; UNKNOWN and ERROR are `open`; FALSE, which is written if it is asked for, is `pass`,
-or `open` where claims.py has it under investigation. What is accepted has a suppression with its reason; what is settled has its reason in
-the properties, and the verdict before. A machine is a logical location, and by its name also an artifact, since some readers show nothing
-without one.
+TRUE is of the kind `fail`, with a level by its score; UNKNOWN and ERROR are `open`; FALSE, which is written if it is
+asked for, is `pass`, or `open` where claims.py has it under investigation. What is accepted has a suppression with its
+reason; what is settled has its reason in the properties, and the verdict before. A machine is a logical location, and
+by its name also an artifact, since some readers show nothing without one.
 
-What was left out is a notification of the invocation, which is no successful one then. How many advisories aren't analysed is one too, and
-so are the packages of each machine that have no sure name.
+What was left out is a notification of the invocation, which is no successful one then. How many advisories aren't
+analysed is one too, and so are the packages of each machine that have no sure name.
 """
 from __future__ import annotations
 

@@ -1,22 +1,22 @@
-"""The time that a result tells: that of --time, or of the variable SOURCE_DATE_EPOCH, or else of the clock. But for it the same scan writes
-the same bytes."""
+"""The time in a result: that of --time, or of the variable SOURCE_DATE_EPOCH, or else of the clock. Apart from the
+time, the same scan writes the same bytes."""
 from __future__ import annotations
 
 import os
 import time
 from datetime import datetime, timezone
 
+from ..arguments import Arguments
+from ..console import Fatal, shorten
 from ..feeds import Json
-from ..said import Fatal, quoted
-from ..words import Words
 
 TIME = "--time"
 EPOCH = "SOURCE_DATE_EPOCH"
 
 
-def stamp(read: Words) -> str:
-    """The time in UTC, as RFC 3339 writes it. Fatal if what is given is none."""
-    given = read.only(TIME)
+def stamp(arguments: Arguments) -> str:
+    """The time in UTC, as RFC 3339 writes it. Fatal if the given text is no time."""
+    given = arguments.only(TIME)
     if given is not None:
         return utc(_read(given))
     seconds = os.environ.get(EPOCH)
@@ -27,16 +27,16 @@ def stamp(read: Words) -> str:
             raise ValueError
         return utc(datetime.fromtimestamp(int(seconds), timezone.utc))
     except (ValueError, OverflowError, OSError) as fault:
-        raise Fatal(f"{EPOCH} is {quoted(repr(seconds))}, which is no number of seconds") from fault
+        raise Fatal(f"{EPOCH} is {shorten(repr(seconds))}, which is no number of seconds") from fault
 
 
 def _read(text: str) -> datetime:
     try:
         found = datetime.fromisoformat(text)
     except ValueError as fault:
-        raise Fatal(f"{TIME} is {quoted(repr(text))}, which is no time such as 2024-05-01T12:00:00Z") from fault
+        raise Fatal(f"{TIME} is {shorten(repr(text))}, which is no time such as 2024-05-01T12:00:00Z") from fault
     if found.tzinfo is None:
-        raise Fatal(f"{TIME} is {quoted(repr(text))}, which has no zone, such as the Z of 2024-05-01T12:00:00Z")
+        raise Fatal(f"{TIME} is {shorten(repr(text))}, which has no zone, such as the Z of 2024-05-01T12:00:00Z")
     return found
 
 

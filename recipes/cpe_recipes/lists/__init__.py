@@ -1,8 +1,8 @@
 """What software lists say that a machine has: one module a form, and what a list says of itself picks the module.
 
-Of JSON, CycloneDX 1.x, SPDX 2.x, SPDX 3 (JSON-LD), Syft's own JSON, Trivy's JSON and npm's locks are read. Of text, plain lists of
-names or package URLs are, and what package managers write of what is installed. Of a component all names are taken that its list
-gives for it, wherever its tool writes them; each module says where it looks.
+Of JSON, CycloneDX 1.x, SPDX 2.x, SPDX 3 (JSON-LD), Syft's own JSON, Trivy's JSON and npm's locks are read. Of text,
+plain lists of names or package URLs are, and what package managers write of what is installed. Of a component all names
+are taken that its list gives for it, wherever its tool writes them; each module says where it looks.
 """
 from __future__ import annotations
 
@@ -30,9 +30,9 @@ from . import (
     texts,
     trivy,
 )
-from .reading import Listed, Odd
+from .software_list import Oddity, SoftwareList
 
-__all__ = ["Listed", "Odd", "read"]
+__all__ = ["Oddity", "SoftwareList", "read"]
 
 WANTED = (
     "give CycloneDX 1.x, SPDX 2.x, SPDX 3, Syft's or Trivy's list or package-lock.json as JSON, a plain list of names or package URLs, "
@@ -44,22 +44,22 @@ _TEXTS = (plain, dpkg_list, dpkg_query, dpkg_status, rpm_query, apk_list, pip_li
 _UTF_16 = (b"\xff\xfe", b"\xfe\xff")
 
 
-def read(feed: str, data: bytes) -> Listed:
-    """What is in a software list of this name and these bytes. FeedFault where it is none that is read."""
+def read(feed: str, data: bytes) -> SoftwareList:
+    """The contents of a software list with this name and these bytes. FeedFault if it has no known form."""
     data = _in_utf_8(data)
     front = data.removeprefix(b"\xef\xbb\xbf").lstrip()
     if not front:
         raise FeedFault("it is empty")
     if front.startswith(b"<"):
         raise FeedFault(f"XML is not read: {WANTED}")
-    listed = Listed(feed)
+    software_list = SoftwareList(feed)
     if front[:1] in b"{[":
         with _no_collection():
             for value in values_of(data, is_strict=True):
-                _read(value, listed)
+                _read(value, software_list)
     else:
-        _read_text(data, listed)
-    return listed
+        _read_text(data, software_list)
+    return software_list
 
 
 def _in_utf_8(data: bytes) -> bytes:
@@ -73,7 +73,7 @@ def _in_utf_8(data: bytes) -> bytes:
 
 @contextlib.contextmanager
 def _no_collection() -> Iterator[None]:
-    """Python looks for no garbage meanwhile: what is read stays, and to look at it again and again takes a third of the time."""
+    """Disables the garbage collector, because what is read is kept, and collecting would take a third of the time."""
     was_enabled = gc.isenabled()
     gc.disable()
     try:
@@ -83,22 +83,22 @@ def _no_collection() -> Iterator[None]:
             gc.enable()
 
 
-def _read(value: Json, listed: Listed) -> None:
+def _read(value: Json, software_list: SoftwareList) -> None:
     if not isinstance(value, dict):
         raise FeedFault(f"no software list: {WANTED}")
     for form in _FORMS:
-        called = form.called(value)
-        if called is None:
+        form_name = form.identify(value)
+        if form_name is None:
             continue
         if not form.is_read(value):
-            raise FeedFault(f"{called} is not read: {WANTED}")
-        form.read(value, listed)
-        listed.count_unread(value, form.PASSED)
+            raise FeedFault(f"{form_name} is not read: {WANTED}")
+        form.read(value, software_list)
+        software_list.count_unread(value, form.PASSED)
         return
     raise FeedFault(f"neither CycloneDX nor SPDX, nor of Syft, Trivy or npm: {WANTED}")
 
 
-def _read_text(data: bytes, listed: Listed) -> None:
+def _read_text(data: bytes, software_list: SoftwareList) -> None:
     try:
         text = texts.text_of(data.decode("utf-8-sig"))
     except UnicodeDecodeError as fault:
@@ -106,4 +106,4 @@ def _read_text(data: bytes, listed: Listed) -> None:
     form = next((one for one in _TEXTS if one.fits(text)), None)
     if form is None:
         raise FeedFault(f"no software list: {WANTED}")
-    form.read(text, listed)
+    form.read(text, software_list)

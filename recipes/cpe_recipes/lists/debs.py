@@ -7,7 +7,7 @@ from dataclasses import dataclass
 
 from ..purls import Purl
 from . import origins
-from .reading import Listed
+from .software_list import SoftwareList
 from .texts import Package, Packages, Text
 
 NAME = r"[a-z0-9][a-z0-9+.-]*"
@@ -26,7 +26,7 @@ _MARK = re.compile(
 
 @dataclass(frozen=True, slots=True)
 class Deb:
-    """A package: its name, version and architecture, and its source package where the list has it."""
+    """A package: its name, version and architecture, and its source package if the list has it."""
 
     name: str
     version: str
@@ -47,13 +47,13 @@ def is_marked(text: Text) -> bool:
 
 
 def state_of(word: str) -> str:
-    """Why a package isn't there, in words, by its state as dpkg abbreviates or writes it; empty where it is."""
+    """Why a package isn't installed, in words, by dpkg's state or its abbreviation; empty if it is installed."""
     return _ABSENT.get(_WORDS.get(word, word), "")
 
 
-def put(debs: Sequence[Deb], packages: Packages, listed: Listed) -> None:
-    """Puts packages, with what they say of their distribution."""
+def put(debs: Sequence[Deb], packages: Packages, software_list: SoftwareList) -> None:
+    """Adds packages, and the distribution that they show."""
     origin = origins.of_deb({one.name: one.version for one in debs})
-    origin.put(listed)
+    origin.put(software_list)
     for one in debs:
         packages.put(Package(one.purl(origin)))

@@ -1,13 +1,14 @@
 """The table of `dpkg -l`, with its head or without it: state, name, version, architecture and description.
 
-A terminal may have cut names and versions: dpkg makes both columns equally wide for one. What fills such a column is said.
+A terminal may have cut names and versions: dpkg makes both columns equally wide for one. What fills such a column is
+said.
 """
 from __future__ import annotations
 
 import re
 
 from . import debs
-from .reading import Listed
+from .software_list import SoftwareList
 from .texts import Packages, Text
 
 CALLED = "dpkg -l"
@@ -23,13 +24,15 @@ _ARCH_OF_TERMINALS = 12
 
 
 def fits(text: Text) -> bool:
-    has_head = any(one.text.startswith("||/ ") and two.text.startswith("+++-=") for one, two in zip(text.lines, text.lines[1:]))
+    has_head = any(
+        one.text.startswith("||/ ") and two.text.startswith("+++-=") for one, two in zip(text.lines, text.lines[1:])
+    )
     # (without its head it has all four columns)
     return has_head or text.most(lambda line: (found := _ROW.fullmatch(line)) and found["table_arch"])
 
 
-def read(text: Text, listed: Listed) -> None:
-    packages, found = Packages(text, listed, CALLED), []
+def read(text: Text, software_list: SoftwareList) -> None:
+    packages, found = Packages(text, software_list, CALLED), []
     rules = [rule for line in text.lines if (rule := _RULE.fullmatch(line.text))]
     width = _width_of_terminal(rules[0]) if rules else 0
     has_arch = not rules or rules[0]["arch"] is not None
@@ -38,12 +41,16 @@ def read(text: Text, listed: Listed) -> None:
         if why:
             packages.absent(why)
             continue
-        if width and max(_length(row, "name", "arch" if row["arch"] else "name"), _length(row, "version", "version")) >= width:
+        if (
+            width
+            and max(_length(row, "name", "arch" if row["arch"] else "name"), _length(row, "version", "version"))
+            >= width
+        ):
             packages.odd(line, _CUT)
             continue
         table_arch = row["table_arch"] if has_arch and row["table_arch"] != "<none>" else ""
         found.append(debs.Deb(row["name"], row["version"], row["arch"] or table_arch or ""))
-    debs.put(found, packages, listed)
+    debs.put(found, packages, software_list)
     packages.end()
 
 
@@ -52,6 +59,7 @@ def _length(row: re.Match[str], first: str, last: str) -> int:
 
 
 def _width_of_terminal(rule: re.Match[str]) -> int:
-    """How wide the columns of name and version are that a terminal gave them; 0 where each is as wide as what is in it."""
+    """How wide the columns of name and version are that a terminal gave them; 0 if each is as wide as what is in
+    it."""
     name, version, arch = (len(rule[key] or "") for key in ("name", "version", "arch"))
     return name if name == version and arch in (0, _ARCH_OF_TERMINALS) else 0

@@ -5,7 +5,7 @@ import re
 from collections.abc import Iterator
 
 from . import debs
-from .reading import Listed
+from .software_list import SoftwareList
 from .texts import Line, Packages, Text
 
 CALLED = "/var/lib/dpkg/status"
@@ -20,11 +20,16 @@ def fits(text: Text) -> bool:
     return text.lines[0].text.startswith("Package: ") and text.any(_STATUS.fullmatch)
 
 
-def read(text: Text, listed: Listed) -> None:
-    packages, found = Packages(text, listed, CALLED), []
+def read(text: Text, software_list: SoftwareList) -> None:
+    packages, found = Packages(text, software_list, CALLED), []
     for line, fields in _paragraphs(packages):
         name, version = fields.get("Package", ""), fields.get("Version", "")
-        if not re.fullmatch(debs.NAME, name) or "Status" not in fields or version and not re.fullmatch(debs.VERSION, version):
+        if (
+            not re.fullmatch(debs.NAME, name)
+            or "Status" not in fields
+            or version
+            and not re.fullmatch(debs.VERSION, version)
+        ):
             packages.odd(line, "a paragraph without a good Package, Status or Version begins there")
             continue
         why = debs.state_of(fields["Status"].rpartition(" ")[2])
@@ -34,7 +39,7 @@ def read(text: Text, listed: Listed) -> None:
         source = _SOURCE.fullmatch(fields.get("Source", ""))
         names = (source["source"], source["version"] or "") if source else ("", "")
         found.append(debs.Deb(name, version, fields.get("Architecture", ""), *names))
-    debs.put(found, packages, listed)
+    debs.put(found, packages, software_list)
     packages.end()
 
 

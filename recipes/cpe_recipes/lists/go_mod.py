@@ -1,11 +1,12 @@
-"""`go.mod`: the modules that are required, those that others replace as what replaces them. One that a folder replaces has no version."""
+"""`go.mod`: the required modules. A replaced module is read as its replacement; one that a folder replaces has no
+version."""
 from __future__ import annotations
 
 import re
 from collections.abc import Iterator
 
 from . import golang
-from .reading import Listed
+from .software_list import SoftwareList
 from .texts import Line, Packages, Text
 
 CALLED = "go.mod"
@@ -27,12 +28,16 @@ def fits(text: Text) -> bool:
     return _MODULE.fullmatch(first) is not None and text.any(_SAYS.match)
 
 
-def read(text: Text, listed: Listed) -> None:
-    packages = Packages(text, listed, CALLED)
+def read(text: Text, software_list: SoftwareList) -> None:
+    packages = Packages(text, software_list, CALLED)
     required: list[tuple[str, str]] = []
     replaced: dict[tuple[str, str], tuple[str, str]] = {}
     for line, word, words in _statements(text):
-        found = {"require": _REQUIRED, "replace": _REPLACED}[word].fullmatch(words) if word in ("require", "replace") else None
+        found = (
+            {"require": _REQUIRED, "replace": _REPLACED}[word].fullmatch(words)
+            if word in ("require", "replace")
+            else None
+        )
         if found is None:
             if word not in _OTHERS:
                 packages.odd(line)

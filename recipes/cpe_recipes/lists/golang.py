@@ -9,6 +9,6 @@ VERSION = r"v[0-9]+\.[0-9]+\.[0-9]+[A-Za-z0-9.+-]*"
 
 
 def package(path: str, version: str) -> Package:
-    """A module, in lower case, as package URLs have Go's paths."""
+    """A Go module, in lower case as in package URLs."""
     namespace, _, name = path.lower().rpartition("/")
     return Package(Purl("golang", name, namespace, version), f"{path} {version}".rstrip())

@@ -1,7 +1,7 @@
-"""What a package comes from, by the type of its package URL, or by what Syft and Trivy call it.
+"""The kind of a package, by the type of its package URL, or by the word of Syft or Trivy.
 
-The words are the types of package URLs (deb, rpm, apk, pypi, npm, golang, maven and so on). A type that says nothing of where
-versions come from, such as `generic`, is none.
+Kinds are types of package URLs (deb, rpm, apk, pypi, npm, golang, maven and so on). A type that doesn't decide how
+versions are ordered, such as `generic`, is no kind.
 """
 from __future__ import annotations
 
@@ -10,7 +10,7 @@ import re
 _TYPE = re.compile(r"pkg:/*([A-Za-z][A-Za-z0-9.+-]*)/", re.IGNORECASE)
 _OPEN = {"generic", "github", "bitbucket", "gitlab", "oci", "docker", "huggingface", "mlflow"}
 
-# Syft's types of packages, where they aren't those of package URLs.
+# Syft's types of packages, if they aren't those of package URLs.
 _SYFT = {
     "python": "pypi",
     "go-module": "golang",
@@ -26,7 +26,7 @@ _SYFT = {
     "erlang-otp": "otp",
     "portage": "ebuild",
 }
-# Trivy's types of results, where they aren't those of package URLs.
+# Trivy's types of results, if they aren't those of package URLs.
 _TRIVY = {
     "alpine": "apk",
     "wolfi": "apk",
@@ -74,18 +74,35 @@ _TRIVY = {
     "packages-props": "nuget",
 }
 # Types of packages of both that are types of package URLs.
-_SAME = {"apk", "deb", "rpm", "alpm", "npm", "gem", "cargo", "composer", "nuget", "conda", "conan", "hex", "swift", "pub", "hackage", "cocoapods"}
+_SAME = {
+    "apk",
+    "deb",
+    "rpm",
+    "alpm",
+    "npm",
+    "gem",
+    "cargo",
+    "composer",
+    "nuget",
+    "conda",
+    "conan",
+    "hex",
+    "swift",
+    "pub",
+    "hackage",
+    "cocoapods",
+}
 
 
 def of_purl(purl: str) -> str:
-    """The type of a package URL; empty where it has none, or one that says nothing."""
+    """The type of a package URL; empty if it has none, or one that is no kind."""
     found = _TYPE.match(purl)
     kind = found[1].lower() if found else ""
     return "" if kind in _OPEN else kind
 
 
 def of_tool(word: object) -> str:
-    """What Syft or Trivy call a package by, as the type of a package URL; empty where that isn't known."""
+    """The kind that a word of Syft or Trivy means; empty if the word isn't known."""
     if not isinstance(word, str):
         return ""
     return word if word in _SAME else _SYFT.get(word) or _TRIVY.get(word) or ""

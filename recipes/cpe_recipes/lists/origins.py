@@ -1,17 +1,19 @@
-"""Which distribution the packages of a list are of, where the list says it by a package of its own: `base-files`, `fedora-release`,
-`alpine-release`. Else it is left open, since `openssl 3.0.7-24.el9` may be of Red Hat, Rocky or Alma."""
+"""Which distribution the packages of a list are of, where the list says it by a package of its own: `base-files`,
+`fedora-release`, `alpine-release`. Else it is left open, since `openssl 3.0.7-24.el9` may be of Red Hat, Rocky or
+Alma."""
 from __future__ import annotations
 
 import re
 from collections.abc import Mapping
 from dataclasses import dataclass
 
-from .reading import Draft, Listed
+from .software_list import Draft, SoftwareList
 
 
 @dataclass(frozen=True, slots=True)
 class Origin:
-    """A distribution: the namespace of its package URLs, its id in os-release, and its release; all empty where it isn't known."""
+    """A distribution: the namespace of its package URLs, its id in os-release, and its release; all empty if it
+    isn't known."""
 
     namespace: str = ""
     id: str = ""
@@ -21,12 +23,12 @@ class Origin:
         """The qualifier of package URLs that says it."""
         return (("distro", f"{self.id}-{self.release}" if self.release else self.id),) if self.id else ()
 
-    def put(self, listed: Listed) -> None:
-        """Puts it as the platform of a list."""
+    def put(self, software_list: SoftwareList) -> None:
+        """Makes it the platform of a list."""
         if self.id:
-            draft = Draft(listed, f"{self.id} {self.release}".rstrip())
+            draft = Draft(software_list, f"{self.id} {self.release}".rstrip())
             draft.add_system(self.id, self.release)
-            listed.put(draft, is_platform=True)
+            software_list.put(draft, is_platform=True)
 
 
 OPEN = Origin()

@@ -1,7 +1,8 @@
-"""npm's `package-lock.json` and `npm-shrinkwrap.json`: of version 2 and 3 `packages`, of version 1 `dependencies` and those within.
+"""npm's `package-lock.json` and `npm-shrinkwrap.json`: of version 2 and 3 `packages`, of version 1 `dependencies` and
+those within.
 
-A key ends in the name of its package, unless the package has another, as an alias has. What the lock is about is no component, as the
-root; a link leads to what is listed too. A version that is a URL or a folder is none.
+A key ends in the name of its package, unless the package has another, as an alias has. What the lock is about is no
+component, as the root; a link leads to what is listed too. A version that is a URL or a folder is none.
 """
 from __future__ import annotations
 
@@ -10,7 +11,7 @@ from collections.abc import Iterator
 
 from ..feeds import FeedFault, Json
 from ..purls import Purl
-from .reading import Draft, Listed
+from .software_list import Draft, SoftwareList
 from .texts import NO_VERSION
 
 # (URLs of packages, which are no package URLs)
@@ -20,7 +21,7 @@ _VERSION = re.compile(r"v?[0-9][A-Za-z0-9.+-]*")
 _ALIAS = re.compile(r"npm:(?P<name>(?:@[^/@]+/)?[^/@]+)@(?P<version>.+)")
 
 
-def called(value: dict[str, Json]) -> str | None:
+def identify(value: dict[str, Json]) -> str | None:
     if "lockfileVersion" not in value:
         return None
     return f"package-lock.json of version {value['lockfileVersion']}"
@@ -31,16 +32,16 @@ def is_read(value: dict[str, Json]) -> bool:
     return isinstance(version, int) and not isinstance(version, bool) and version in (1, 2, 3)
 
 
-def read(value: dict[str, Json], listed: Listed) -> None:
+def read(value: dict[str, Json], software_list: SoftwareList) -> None:
     key = "dependencies" if value["lockfileVersion"] == 1 else "packages"
     found = value.get(key, {} if key == "dependencies" else None)
     if not isinstance(found, dict):
         raise FeedFault(f"it has no {key}" if found is None else f"its {key} are no object")
     for place, name, one in _dependencies(found) if key == "dependencies" else _packages(found):
         if isinstance(one, dict):
-            _put(place, name, one, listed)
+            _put(place, name, one, software_list)
         else:
-            listed.put_odd(place, "no object")
+            software_list.put_odd(place, "no object")
 
 
 def _packages(found: dict[str, Json]) -> Iterator[tuple[str, str, Json]]:
@@ -61,16 +62,16 @@ def _dependencies(found: dict[str, Json]) -> Iterator[tuple[str, str, Json]]:
             waiting.extend((f"{place}/{_WITHIN}{inner}", inner, each) for inner, each in reversed(within.items()))
 
 
-def _put(place: str, name: str, one: dict[str, Json], listed: Listed) -> None:
+def _put(place: str, name: str, one: dict[str, Json], software_list: SoftwareList) -> None:
     given, version = one.get("name", name), one.get("version")
-    draft = Draft(listed, place)
+    draft = Draft(software_list, place)
     if not isinstance(one.get("dependencies", {}), dict):
-        listed.put_odd(place, "its dependencies are no object")
+        software_list.put_odd(place, "its dependencies are no object")
     if not isinstance(given, str) or not given:
-        listed.put_odd(place, "its name is no text")
+        software_list.put_odd(place, "its name is no text")
         return
     if version is not None and not isinstance(version, str):
-        listed.put_odd(place, "its version is no text")
+        software_list.put_odd(place, "its version is no text")
         version = None
     alias = _ALIAS.fullmatch(version or "")
     if alias:
@@ -78,6 +79,6 @@ def _put(place: str, name: str, one: dict[str, Json], listed: Listed) -> None:
     is_version = _VERSION.fullmatch(version or "") is not None
     namespace, _, last = given.rpartition("/")
     draft.purl = Purl("npm", last, namespace, version if is_version else "").text()
-    listed.put(draft)
+    software_list.put(draft)
     if not is_version:
-        listed.put_odd(place, NO_VERSION)
+        software_list.put_odd(place, NO_VERSION)

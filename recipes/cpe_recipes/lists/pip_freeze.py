@@ -1,12 +1,12 @@
-"""What `pip freeze` writes: `name==version`, and of what came from elsewhere `name @ URL` or `-e URL`, which have no version. Before an
-editable one may stand a comment that has it."""
+"""The output of `pip freeze`: `name==version`. Packages from elsewhere are `name @ URL` or `-e URL`, without a version.
+A comment before an editable package may have its version."""
 from __future__ import annotations
 
 import re
 from urllib.parse import unquote
 
 from . import pythons
-from .reading import Listed
+from .software_list import SoftwareList
 from .texts import Packages, Text
 
 CALLED = "pip freeze"
@@ -23,10 +23,12 @@ def fits(text: Text) -> bool:
     return is_one and text.any(lambda line: (found := _LINE.fullmatch(line)) and not found["place"])
 
 
-def read(text: Text, listed: Listed) -> None:
-    packages = Packages(text, listed, CALLED)
+def read(text: Text, software_list: SoftwareList) -> None:
+    packages = Packages(text, software_list, CALLED)
     # (of an editable package the comment is the line before it)
-    editable = {line.number + 1: told for line in text.lines if (told := _COMMENT.fullmatch(line.text)) and told["name"]}
+    editable = {
+        line.number + 1: told for line in text.lines if (told := _COMMENT.fullmatch(line.text)) and told["name"]
+    }
     for line, found in packages.each(_LINE, {_COMMENT: ""}):
         told = editable.get(line.number)
         egg = _EGG.fullmatch(unquote(found["place"] or ""))

@@ -4,7 +4,7 @@ from __future__ import annotations
 import re
 
 from . import pythons
-from .reading import Listed
+from .software_list import SoftwareList
 from .texts import Packages, Text
 
 CALLED = "pip list"
@@ -17,8 +17,8 @@ def fits(text: Text) -> bool:
     return any(_HEAD.fullmatch(one.text) and _RULE.fullmatch(two.text) for one, two in zip(text.lines, text.lines[1:]))
 
 
-def read(text: Text, listed: Listed) -> None:
-    packages = Packages(text, listed, CALLED)
+def read(text: Text, software_list: SoftwareList) -> None:
+    packages = Packages(text, software_list, CALLED)
     columns = {found.start("column") for line in text.lines if (found := _HEAD.fullmatch(line.text))}
     for line, row in packages.each(_ROW, {_HEAD: "", _RULE: ""}):
         if row.start("version") in columns:

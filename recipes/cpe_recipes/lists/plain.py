@@ -1,12 +1,12 @@
-"""Plain lists: in each line a name, in either binding, or a package URL. After a # that begins a line or stands after a space is a
-comment."""
+"""Plain lists: in each line a name, in either binding, or a package URL. A # at the beginning of a line or after a
+space begins a comment."""
 from __future__ import annotations
 
 import re
 
-from .reading import Draft, Listed
+from .software_list import Draft, SoftwareList
 from .texts import Text
-from .unread import is_name, is_purl
+from .unread_texts import is_name, is_purl
 
 CALLED = "a plain list"
 _COMMENT = re.compile(r"(^|\s)#.*")
@@ -18,16 +18,16 @@ def fits(text: Text) -> bool:
     return not found or any(is_name(one) or is_purl(one) for one in found)
 
 
-def read(text: Text, listed: Listed) -> None:
+def read(text: Text, software_list: SoftwareList) -> None:
     for line in text.lines:
         bare = _bare(line.text)
         if bare:
-            draft = Draft(listed, f"line {line.number} of {listed.feed}")
+            draft = Draft(software_list, f"line {line.number} of {software_list.feed}")
             if is_purl(bare):
                 draft.add_purl(bare, "it")
             else:
                 draft.add_name(bare, "")
-            listed.put(draft)
+            software_list.put(draft)
 
 
 def _bare(line: str) -> str:

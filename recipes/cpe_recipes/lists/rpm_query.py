@@ -1,6 +1,8 @@
-"""What `rpm -qa` writes: in each line name, version, release and architecture, with hyphens and a dot between (`bash-5.1.8-6.el9.x86_64`).
+"""What `rpm -qa` writes: in each line name, version, release and architecture, with hyphens and a dot between
+(`bash-5.1.8-6.el9.x86_64`).
 
-With `--qf '%{NAME} %{EPOCHNUM}:%{VERSION}-%{RELEASE} %{ARCH} %{SOURCERPM}\\n'` there are columns; name and version are enough of them.
+With `--qf '%{NAME} %{EPOCHNUM}:%{VERSION}-%{RELEASE} %{ARCH} %{SOURCERPM}\\n'` there are columns; name and version are
+enough of them.
 """
 from __future__ import annotations
 
@@ -10,16 +12,14 @@ from dataclasses import dataclass
 
 from ..purls import Purl
 from . import debs, origins
-from .reading import Listed
+from .software_list import SoftwareList
 from .texts import Package, Packages, Text
 
 CALLED = "rpm -qa"
 _NAME = r"(?P<name>[A-Za-z0-9_][A-Za-z0-9_.+-]*)"
 _EPOCH = r"(?:(?P<epoch>[0-9]+|\(none\)):)?"
 _PART = r"[A-Za-z0-9_.+~^]+"
-_ARCHES = (
-    r"x86_64|x86_64_v2|noarch|i[3-6]86|athlon|aarch64|armv[567]\w*|ppc64|ppc64le|ppc|s390|s390x|riscv64|loongarch64|mips64el|\(none\)"
-)
+_ARCHES = r"x86_64|x86_64_v2|noarch|i[3-6]86|athlon|aarch64|armv[567]\w*|ppc64|ppc64le|ppc|s390|s390x|riscv64|loongarch64|mips64el|\(none\)"
 _JOINED = re.compile(rf"{_NAME}-{_EPOCH}(?P<version>{_PART})-(?P<release>{_PART})\.(?P<arch>{_ARCHES})")
 _COLUMNS = re.compile(
     rf"{_NAME}[ \t]+{_EPOCH}(?P<version>{_PART})(?:-(?P<release>{_PART}))?"
@@ -54,12 +54,12 @@ def fits(text: Text) -> bool:
     return is_table and text.any(_MARK.search) and not debs.is_marked(text)
 
 
-def read(text: Text, listed: Listed) -> None:
-    packages, found = Packages(text, listed, CALLED), []
+def read(text: Text, software_list: SoftwareList) -> None:
+    packages, found = Packages(text, software_list, CALLED), []
     pattern = _JOINED if text.any(_JOINED.fullmatch) else _COLUMNS
     for _, line in packages.each(pattern, {_KEY: "keys, which are no software"}):
         found.append(_rpm(line))
-    _put(found, packages, listed)
+    _put(found, packages, software_list)
     packages.end()
 
 
@@ -71,8 +71,8 @@ def _rpm(line: re.Match[str]) -> _Rpm:
     return _Rpm(parts["name"], told["epoch"], version, told["arch"], told["source"])
 
 
-def _put(found: Sequence[_Rpm], packages: Packages, listed: Listed) -> None:
+def _put(found: Sequence[_Rpm], packages: Packages, software_list: SoftwareList) -> None:
     origin = origins.of_rpm({one.name: one.version for one in found})
-    origin.put(listed)
+    origin.put(software_list)
     for one in found:
         packages.put(Package(one.purl(origin)))

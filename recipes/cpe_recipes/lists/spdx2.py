@@ -1,11 +1,11 @@
-"""SPDX 2.x as JSON: of each package the locators of its `externalRefs` of the types cpe23Type, cpe22Type and purl, which may be
-written as URLs. A package with the `primaryPackagePurpose` OPERATING-SYSTEM is the platform."""
+"""SPDX 2.x as JSON: of each package the locators of its `externalRefs` of the types cpe23Type, cpe22Type and purl,
+which may be written as URLs. A package with the `primaryPackagePurpose` OPERATING-SYSTEM is the platform."""
 from __future__ import annotations
 
 import re
 
 from ..feeds import Json
-from .reading import Draft, Listed, list_at
+from .software_list import Draft, SoftwareList, list_at
 
 # (no member refers to packages by what may look like a name)
 PASSED: frozenset[str] = frozenset()
@@ -17,7 +17,7 @@ _BUILT = re.compile(r"built package from: (?P<name>\S+)(?: (?P<version>\S+))?")
 _CLASSES = ("Class: lang-pkgs", "Class: os-pkgs")
 
 
-def called(value: dict[str, Json]) -> str | None:
+def identify(value: dict[str, Json]) -> str | None:
     version = value.get("spdxVersion")
     return version if isinstance(version, str) else None
 
@@ -26,23 +26,23 @@ def is_read(value: dict[str, Json]) -> bool:
     return str(value.get("spdxVersion")).startswith("SPDX-2")
 
 
-def read(value: dict[str, Json], listed: Listed) -> None:
+def read(value: dict[str, Json], software_list: SoftwareList) -> None:
     for place, package in enumerate(list_at(value, "packages", is_needed=False), 1):
-        id = f"package {place} of {listed.feed}"
+        id = f"package {place} of {software_list.feed}"
         if not isinstance(package, dict):
-            listed.put_odd(id)
+            software_list.put_odd(id)
             continue
         if _is_place(package):
             continue
         given = package.get("SPDXID")
-        draft = Draft(listed, given if isinstance(given, str) and given else id)
+        draft = Draft(software_list, given if isinstance(given, str) and given else id)
         for reference in draft.each(package, "externalRefs"):
             _add(reference, draft)
         _add_source(package.get("sourceInfo"), draft)
         is_platform = package.get("primaryPackagePurpose") == "OPERATING-SYSTEM"
         if is_platform:
             draft.add_system(package.get("name"), package.get("versionInfo"))
-        listed.put(draft, is_platform)
+        software_list.put(draft, is_platform)
 
 
 def _is_place(package: dict[str, Json]) -> bool:
@@ -50,7 +50,9 @@ def _is_place(package: dict[str, Json]) -> bool:
     if package.get("primaryPackagePurpose") != "APPLICATION" or package.get("externalRefs"):
         return False
     notes = [package.get("attributionTexts"), package.get("annotations")]
-    texts = (one.get("comment") if isinstance(one, dict) else one for each in notes if isinstance(each, list) for one in each)
+    texts = (
+        one.get("comment") if isinstance(one, dict) else one for each in notes if isinstance(each, list) for one in each
+    )
     return any(text in _CLASSES for text in texts)
 
 

@@ -1,22 +1,24 @@
-"""SPDX 3 as JSON-LD: of each package of the `@graph` the `identifier` of each `externalIdentifier` of the types `cpe22`, `cpe23` and
-`packageUrl`, and `software_packageUrl`. A package whose `software_primaryPurpose` is `operatingSystem` is the platform."""
+"""SPDX 3 as JSON-LD: of each package of the `@graph` the `identifier` of each `externalIdentifier` of the types
+`cpe22`, `cpe23` and `packageUrl`, and `software_packageUrl`. A package whose `software_primaryPurpose` is
+`operatingSystem` is the platform."""
 from __future__ import annotations
 
 from collections.abc import Mapping
 
 from ..feeds import Json
-from .reading import Draft, Listed, list_at, text_of
+from .software_list import Draft, SoftwareList, list_at, text_of
 
 # Members that refer to other elements by their ids.
 PASSED = frozenset(("spdxId", "@id", "from", "to", "element", "rootElement", "subject", "namespaceMap"))
 
-# Types of elements that are packages, as the context shortens them; without it each is a URL that ends in the word after `_`.
+# Types of elements that are packages, as the context shortens them; without it each is a URL that ends in the word
+# after `_`.
 _PACKAGES = ("software_Package", "ai_AIPackage", "dataset_DatasetPackage")
 _ENDS = ("/Software/Package", "/AI/AIPackage", "/Dataset/DatasetPackage")
 _NAMES = ("cpe22", "cpe23")
 
 
-def called(value: dict[str, Json]) -> str | None:
+def identify(value: dict[str, Json]) -> str | None:
     return "SPDX 3" if "spdx.org/rdf/3" in str(value.get("@context")) else None
 
 
@@ -24,25 +26,33 @@ def is_read(value: dict[str, Json]) -> bool:
     return True
 
 
-def read(value: dict[str, Json], listed: Listed) -> None:
+def read(value: dict[str, Json], software_list: SoftwareList) -> None:
     # (a document of one element has no graph)
     elements = list_at(value, "@graph") if "@graph" in value or not _is_package(value) else [value]
     by_id = {one["@id"]: one for one in elements if isinstance(one, dict) and isinstance(one.get("@id"), str)}
     for place, element in enumerate(elements, 1):
         if not isinstance(element, dict):
-            listed.put_odd(f"element {place} of {listed.feed}")
+            software_list.put_odd(f"element {place} of {software_list.feed}")
         elif _is_package(element):
-            _put(element, f"element {place} of {listed.feed}", by_id, listed)
+            _put(element, f"element {place} of {software_list.feed}", by_id, software_list)
 
 
 def _is_package(element: dict[str, Json]) -> bool:
     kinds = element.get("type", element.get("@type"))
-    return any(isinstance(one, str) and (one in _PACKAGES or one.endswith(_ENDS)) for one in (kinds if isinstance(kinds, list) else [kinds]))
+    return any(
+        isinstance(one, str) and (one in _PACKAGES or one.endswith(_ENDS))
+        for one in (kinds if isinstance(kinds, list) else [kinds])
+    )
 
 
-def _put(element: dict[str, Json], other: str, by_id: Mapping[str, dict[str, Json]], listed: Listed) -> None:
+def _put(
+    element: dict[str, Json], other: str, by_id: Mapping[str, dict[str, Json]], software_list: SoftwareList
+) -> None:
     given = element.get("spdxId", element.get("@id"))
-    draft = Draft(listed, given if isinstance(given, str) and given else text_of(element, ("name", "software_packageVersion")) or other)
+    draft = Draft(
+        software_list,
+        given if isinstance(given, str) and given else text_of(element, ("name", "software_packageVersion")) or other,
+    )
     draft.add_purl(element.get("software_packageUrl"), "its software_packageUrl")
     identifiers = element.get("externalIdentifier")
     # (JSON-LD may write a list of one as that one, and an object by its id)
@@ -53,7 +63,7 @@ def _put(element: dict[str, Json], other: str, by_id: Mapping[str, dict[str, Jso
     is_platform = str(element.get("software_primaryPurpose")).endswith("operatingSystem")
     if is_platform:
         draft.add_system(element.get("name"), element.get("software_packageVersion"))
-    listed.put(draft, is_platform)
+    software_list.put(draft, is_platform)
 
 
 def _add(identifier: dict[str, Json], draft: Draft) -> None:

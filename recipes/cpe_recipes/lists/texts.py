@@ -1,7 +1,7 @@
 """What the readers of texts share: the lines of a list, and packages that become components.
 
-A list that is no JSON says by its lines which tool wrote it. A form fits if nearly all of its lines are of it, so that a text of
-another kind isn't taken for it. A line that its form doesn't read is said with its number.
+A list that is no JSON says by its lines which tool wrote it. A form fits if nearly all of its lines are of it, so that
+a text of another kind isn't taken for it. A line that its form doesn't read is said with its number.
 """
 from __future__ import annotations
 
@@ -11,7 +11,7 @@ from collections.abc import Callable, Iterator, Mapping, Sequence
 from dataclasses import dataclass
 
 from ..purls import Purl
-from .reading import Draft, Listed
+from .software_list import Draft, SoftwareList
 
 # Of ten lines this many have to be of a form.
 _MOST = 9
@@ -50,7 +50,7 @@ def text_of(data: str) -> Text:
 
 @dataclass(frozen=True, slots=True)
 class Package:
-    """A package of a list: its package URL, and how the list calls it, where that isn't its name and version."""
+    """A package of a list: its package URL, and its name in the list, if that isn't its name and version."""
 
     purl: Purl
     called: str = ""
@@ -60,15 +60,17 @@ class Package:
 
 
 class Packages:
-    """Puts the packages of a text into what is found, says which of its lines aren't read, and counts what isn't there."""
+    """Adds the packages of a text, reports the lines that aren't read, and counts packages that aren't installed."""
 
-    def __init__(self, text: Text, listed: Listed, form: str) -> None:
-        self._text, self._listed, self._form = text, listed, form
+    def __init__(self, text: Text, software_list: SoftwareList, form: str) -> None:
+        self._text, self._software_list, self._form = text, software_list, form
         self._absent: Counter[str] = Counter()
 
-    def each(self, pattern: re.Pattern[str], passed: Mapping[re.Pattern[str], str] | None = None) -> Iterator[tuple[Line, re.Match[str]]]:
-        """The lines of this pattern; those that are of none are said. Lines of the patterns `passed` are no packages, and counted by
-        what stands there, if anything."""
+    def each(
+        self, pattern: re.Pattern[str], passed: Mapping[re.Pattern[str], str] | None = None
+    ) -> Iterator[tuple[Line, re.Match[str]]]:
+        """The lines that match this pattern. Lines that match one of the patterns `passed` are no packages, and are
+        counted by their first group, if it has text. All others are reported."""
         for line in self._text.lines:
             why = next((why for one, why in passed.items() if one.fullmatch(line.text)), None) if passed else None
             found = pattern.fullmatch(line.text) if why is None else None
@@ -80,22 +82,26 @@ class Packages:
                 self.absent(why)
 
     def put(self, package: Package) -> None:
-        draft = Draft(self._listed, package.id())
+        draft = Draft(self._software_list, package.id())
         draft.purl = package.purl.text()
-        self._listed.put(draft)
+        self._software_list.put(draft)
         if not package.purl.version:
-            self._listed.put_odd(draft.id, NO_VERSION)
+            self._software_list.put_odd(draft.id, NO_VERSION)
 
     def odd(self, line: Line, reason: str = "") -> None:
-        self._listed.put_odd(f"line {line.number} of {self._listed.feed}", reason or f"no line of {self._form}")
+        self._software_list.put_odd(
+            f"line {line.number} of {self._software_list.feed}", reason or f"no line of {self._form}"
+        )
 
     def absent(self, why: str) -> None:
-        """Counts a package that isn't there, though the list has a line for it."""
+        """Counts a package that isn't installed, though the list has a line for it."""
         self._absent[why] += 1
 
     def end(self) -> None:
         """Says what was counted, and whether the list may be cut off."""
         for why, count in self._absent.items():
-            self._listed.remarks.append(f"{self._listed.feed}: {why}: {count} {'package' if count == 1 else 'packages'}")
+            self._software_list.remarks.append(
+                f"{self._software_list.feed}: {why}: {count} {'package' if count == 1 else 'packages'}"
+            )
         if not self._text.is_ended:
-            self._listed.put_odd(self._listed.feed, CUT_OFF)
+            self._software_list.put_odd(self._software_list.feed, CUT_OFF)

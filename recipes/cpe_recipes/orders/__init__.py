@@ -1,4 +1,4 @@
-"""The orders that versions may have, each after its own specification, and which order what comes from where has."""
+"""The orders of versions, each by its own specification, and the orders of each kind of package."""
 from __future__ import annotations
 
 from collections.abc import Mapping
@@ -7,10 +7,18 @@ from typing import Any
 from . import apk, dpkg, golang, maven, pep440, plain, rpm, semver
 from .order import EQUAL, GREATER, LESS, Order
 
-# The orders that a version may have of which nothing is known, that of `cpe advise` last. (Go's is SemVer's, but for what it leaves
-# out.)
+# The possible orders of a version without a kind, that of `cpe advise` last. (Go's isn't among them: it is SemVer's,
+# with numbers that may be left out.)
 ALL: tuple[Order[Any], ...] = (
-    dpkg.ORDER, rpm.ORDER, pep440.ORDER, semver.ORDER, maven.ORDER, golang.ORDER, apk.SECOND, apk.THIRD, plain.ORDER
+    dpkg.ORDER,
+    rpm.ORDER,
+    pep440.ORDER,
+    semver.ORDER,
+    maven.ORDER,
+    golang.ORDER,
+    apk.SECOND,
+    apk.THIRD,
+    plain.ORDER,
 )
 
 # The orders of what a list says a component is: the type of a package URL.

@@ -1,8 +1,9 @@
-"""Alpine's orders of versions, those of apk-tools 2 and 3: numbers with dots, a letter, suffixes with numbers, and -r with a number.
+"""Alpine's orders of versions, those of apk-tools 2 and 3: numbers with dots, a letter, suffixes with numbers, and -r
+with a number.
 
-The suffixes _alpha, _beta, _pre and _rc stand before a release, and _cvs, _svn, _git, _hg and _p after it. The two orders differ
-where a number begins with a zero: version 2 counts its zeros, and takes what stands behind a zero for something more, so that
-1.0_rc1 comes after 1.0; version 3 compares such numbers as texts. Version 3 also reads ~ and what a build was made of.
+The suffixes _alpha, _beta, _pre and _rc are before a release, and _cvs, _svn, _git, _hg and _p after it. The two orders
+differ if a number begins with a zero. Version 2 counts the zeros, and reads the text after a zero as one more token, so
+that 1.0_rc1 is after 1.0. Version 3 compares such numbers as texts. Version 3 also reads ~ and the hash of a commit.
 """
 from __future__ import annotations
 
@@ -15,12 +16,13 @@ _SUFFIXES = {word: rank for rank, word in enumerate(("alpha", "beta", "pre", "rc
 _ENDING = r"(?P<suffixes>(?:_(?:alpha|beta|pre|rc|cvs|svn|git|hg|p)[0-9]*)*){build}(?:-r(?P<revision>[0-9]+))?"
 _SECOND = re.compile(r"(?P<numbers>[0-9]+(?:\.[0-9]+|[a-z](?![.a-z])[0-9]*)*)" + _ENDING.format(build=""))
 _THIRD = re.compile(
-    r"(?P<first>[0-9]+)(?P<numbers>(?:\.[0-9]+)*)(?P<letter>[a-z]?)" + _ENDING.format(build="(?:~(?P<build>[0-9a-f]+))?")
+    r"(?P<first>[0-9]+)(?P<numbers>(?:\.[0-9]+)*)(?P<letter>[a-z]?)"
+    + _ENDING.format(build="(?:~(?P<build>[0-9a-f]+))?")
 )
 _NUMBER = re.compile(r"(\.)?([0-9]+)|[a-z]")
 _SUFFIX = re.compile(r"_([a-z]+)([0-9]*)")
 
-# The kinds of tokens. Where those of two versions differ, the one that goes on with the lower kind is newer.
+# The kinds of tokens. If the tokens of two versions have different kinds, the one with the lower kind is newer.
 _BEHIND_DOT, _DIGITS, _LETTER, _SUFFIX_KIND, _SUFFIX_NUMBER, _BUILD, _REVISION, _END = range(8)
 
 Token = tuple[int, object]
@@ -29,7 +31,7 @@ Tokens = tuple[Token, ...]
 
 @functools.lru_cache(maxsize=KEPT)
 def read_second(text: str) -> Tokens | None:
-    """The tokens of a version as apk-tools 2 reads it; None where it is none."""
+    """The tokens of a version as apk-tools 2 reads it; None if it is none."""
     match = _SECOND.fullmatch(text)
     if match is None:
         return None
@@ -50,14 +52,22 @@ def read_second(text: str) -> Tokens | None:
 
 @functools.lru_cache(maxsize=KEPT)
 def read_third(text: str) -> Tokens | None:
-    """The tokens of a version as apk-tools 3 reads it; None where it is none."""
+    """The tokens of a version as apk-tools 3 reads it; None if it is none."""
     match = _THIRD.fullmatch(text)
     if match is None:
         return None
     behind = ((_DIGITS, digits) for digits in match["numbers"].split(".")[1:])
     letter = [(_LETTER, match["letter"])] if match["letter"] else []
     build = [(_BUILD, match["build"])] if match["build"] is not None else []
-    return ((_BEHIND_DOT, worth(match["first"])), *behind, *letter, *_suffixes(match), *build, *_revision(match), (_END, 0))
+    return (
+        (_BEHIND_DOT, worth(match["first"])),
+        *behind,
+        *letter,
+        *_suffixes(match),
+        *build,
+        *_revision(match),
+        (_END, 0),
+    )
 
 
 def _suffixes(match: re.Match[str]) -> list[Token]:
@@ -90,7 +100,8 @@ def _values(one: Token, other: Token) -> int:
 
 
 def _kinds(one: Token, other: Token) -> int:
-    """The order where the tokens are of two kinds: what goes on is newer, unless by a suffix that stands before a release."""
+    """The order of two tokens of different kinds: a version that continues is newer, unless a suffix before a release
+    follows."""
     if one[0] == _SUFFIX_KIND and by_value(one[1], _SUFFIXES[""]) == LESS:
         return LESS
     if other[0] == _SUFFIX_KIND and by_value(other[1], _SUFFIXES[""]) == LESS:

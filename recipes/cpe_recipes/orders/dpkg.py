@@ -1,7 +1,7 @@
 """dpkg's order of versions, by deb-version(7): [epoch:]upstream[-revision].
 
-A part is cut into runs of other characters and runs of digits in turn. In the others `~` comes before the end of a run, the end
-before letters, and letters before all else.
+A part is cut into runs of other characters and runs of digits in turn. In a run of other characters, `~` is before the
+end of the run, the end is before letters, and letters are before all else.
 """
 from __future__ import annotations
 
@@ -23,12 +23,12 @@ Part = tuple[tuple[tuple[int, ...], str], ...]
 
 @functools.lru_cache(maxsize=KEPT)
 def read(text: str) -> tuple[Part, Part, Part] | None:
-    """The epoch, the upstream version and the revision; None where it is no version of a Debian package."""
+    """The epoch, the upstream version and the revision; None if it is no version of a Debian package."""
     match = _VERSION.fullmatch(text)
     if match is None:
         return None
     upstream = match["upstream"] or match["alone"]
-    # (a colon may stand in it where there is an epoch)
+    # (the upstream version may contain a colon if there is an epoch)
     if match["epoch"] is None and ":" in upstream:
         return None
     return _part(match["epoch"] or ""), _part(upstream), _part(match["revision"] or "")

@@ -1,8 +1,8 @@
 """Maven's order of versions (ComparableVersion of maven-artifact 3.8).
 
-A version is a list of numbers, words and lists: a dot ends an item, and a hyphen, or a change between digits and others, begins a
-list within the list. Items without worth at the end of a list are dropped, so 1.0 is 1. Words that are known stand in an order of
-their own, in which the release is nothing; all other words come after it.
+A version is a list of numbers, words and lists. A dot ends an item. A hyphen, or a change between digits and other
+characters, begins a list within the list. Items without worth at the end of a list are removed, so 1.0 is 1. Known
+words have their own order, in which the release is nothing. All other words are after them.
 """
 from __future__ import annotations
 
@@ -28,7 +28,8 @@ class Number:
 
 @dataclass(frozen=True)
 class Word:
-    """A word by its rank, which goes by the alphabet: of one that isn't known the word stands behind it."""
+    """A word by its rank, a text that is compared alphabetically: unknown words have the highest rank, followed by the
+    word."""
 
     rank: str
 
@@ -44,7 +45,7 @@ def _word(text: str, is_before_digits: bool = False) -> Word:
 
 @functools.lru_cache(maxsize=KEPT)
 def read(text: str) -> list[Item] | None:
-    """The list of such a version; None where it has other characters than ASCII's, or too many."""
+    """The list of such a version; None if it has other characters than ASCII's, or too many."""
     return _Reader(text.lower()).whole if _VERSION.fullmatch(text) else None
 
 

@@ -21,7 +21,7 @@ class Order(Generic[Read]):
     between: Callable[[Read, Read], int]
 
     def compare(self, one: str, other: str) -> int | None:
-        """LESS, EQUAL or GREATER; None where one of the two is no version of this order."""
+        """LESS, EQUAL or GREATER; None if one of the two is no version of this order."""
         left, right = self.read(one), self.read(other)
         return None if left is None or right is None else self.between(left, right)
 
@@ -32,7 +32,8 @@ def numbers(one: str, other: str) -> int:
 
 
 def worth(digits: str) -> tuple[int, str]:
-    """What a run of digits is worth, as values that compare so: the length without the zeros before it, and the digits."""
+    """What a run of digits is worth, as values that compare so: the length without the zeros before it, and the
+    digits."""
     text = digits.lstrip("0")
     return len(text), text
 

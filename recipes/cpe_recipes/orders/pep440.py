@@ -17,26 +17,34 @@ _VERSION = re.compile(
 _PRE = {"alpha": "a", "beta": "b", "preview": "rc", "pre": "rc", "c": "rc"}
 _SEPARATOR = re.compile(r"[-_.]")
 
-# What is compared: epoch, release, before a release, after it, in work, and the local label, each as Python compares it.
+# What is compared: epoch, release, before a release, after it, in work, and the local label, each as Python compares
+# it.
 Key = tuple[object, ...]
 
 
 @functools.lru_cache(maxsize=KEPT)
 def read(text: str) -> Key | None:
-    """What such a version is compared by; None where it is none."""
+    """What such a version is compared by; None if it is none."""
     match = _VERSION.fullmatch(text.lower())
     if match is None:
         return None
     release = [worth(number) for number in match["release"].split(".")]
     while len(release) > 1 and release[-1] == (0, ""):
         release.pop()
-    return worth(match["epoch"] or ""), tuple(release), _before(match), _after(match), _in_work(match), _local(match["local"])
+    return (
+        worth(match["epoch"] or ""),
+        tuple(release),
+        _before(match),
+        _after(match),
+        _in_work(match),
+        _local(match["local"]),
+    )
 
 
 def _before(match: re.Match[str]) -> Key:
     if match["pre"] is not None:
         return 1, _PRE.get(match["pre"], match["pre"]), worth(match["pre_number"])
-    # (a version that is in work comes before all that come before its release)
+    # (a version in development is before all others of its release)
     return (0,) if match["post"] is None and match["dev"] is not None else (2,)
 
 

@@ -1,7 +1,7 @@
-"""The order of `cpe advise`: runs of digits and runs of letters, where all else only separates.
+"""The order of `cpe advise`: runs of digits and runs of letters; all other characters only separate.
 
-At the first place where two versions differ, a word is less than nothing, and nothing is less than a number; numbers go by what
-they are worth, words by the alphabet.
+At the first difference, a word is less than nothing, and nothing is less than a number. Numbers are compared by value,
+words alphabetically.
 """
 from __future__ import annotations
 

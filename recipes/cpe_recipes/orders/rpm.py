@@ -1,7 +1,7 @@
 """rpm's order of versions (rpmvercmp): [epoch:]version[-release].
 
-A part is cut into runs of digits and of letters, and the marks `~` and `^`; all else only separates. A number is newer than
-letters, and what goes on is newer; but `~` comes before the end, and `^` right after it.
+A part is cut into runs of digits and of letters, and the marks `~` and `^`; all other characters only separate. A
+number is newer than letters, and a version that continues is newer. But `~` is before the end, and `^` right after it.
 """
 from __future__ import annotations
 
@@ -13,7 +13,7 @@ from .order import EQUAL, GREATER, KEPT, LESS, Order, by_value, numbers
 
 _VERSION = re.compile(r"(?:(?P<epoch>[0-9]*):)?(?P<version>[A-Za-z0-9._+~^]+)(?:-(?P<release>[A-Za-z0-9._+~^]+))?")
 _RUN = re.compile(r"[0-9]+|[A-Za-z]+|[~^]")
-# How what stands at a place decides, where the kinds differ: the lesser first.
+# The order of two runs of different kinds: the lesser kind is first.
 _TILDE, _END, _CARET, _LETTERS, _DIGITS = range(5)
 
 Run = tuple[int, str]
@@ -22,7 +22,7 @@ Part = tuple[Run, ...]
 
 @functools.lru_cache(maxsize=KEPT)
 def read(text: str) -> tuple[Part, Part, Part] | None:
-    """The epoch, the version and the release; None where it is no version of an RPM package."""
+    """The epoch, the version and the release; None if it is no version of an RPM package."""
     match = _VERSION.fullmatch(text)
     return match and (_part(match["epoch"] or "0"), _part(match["version"]), _part(match["release"] or ""))
 
