@@ -2,7 +2,7 @@
 PREFIX = /usr/local
 DESTDIR =
 
-# The version of all, as pkg-config and the package tell it.
+# The version, which pkg-config and the package show.
 VERSION = 0.1.0
 # Who answers for a package that is given to others, and where it is put.
 MAINTAINER = the maintainers of cpe <root@localhost>
@@ -48,13 +48,13 @@ program:
 # nothing and ends with status 0, so the status is that of the proof and the build.
 build: need_rt
 	@[ -x build/cpe ] || echo 'The first build checks the proofs of all crates below the program: some 150 processor minutes, so an' \
-		'hour on four processors. rt tells each crate when it comes to it, and each function that is proved.'
+		'hour on four processors. rt prints the name of each crate when its proof begins, and each proved function.'
 	cd crates/cpe && rt run -- unbind < /dev/null
 	@$(take_program)
 
 # The proved part is over what rt kept of its last check.
 library: need_rt
-	cd crates/cpe_c && rt lib
+	cd crates/c_library && rt lib
 	sh library/build.sh
 
 # Two web servers. CVE-2024-98001 has ranges of versions, and is TRUE on the one and FALSE on the other, which --all shows.
@@ -90,7 +90,7 @@ test: need_rt
 	sh tests/package-checks.sh build/cpe
 	sh tests/conformance-checks.sh build/cpe
 
-# The last step of a change to a crate that the program stands on.
+# The last step of a change to a crate below the program.
 release: need_rt
 	@sh release/release.sh make '$(VERSION)'
 

@@ -3,8 +3,8 @@
 # crate, the border in library/cpe.c, and the kit's calls of malloc and free. No name but those of cpe.h can be linked with.
 set -eu
 cd "$(dirname "$0")/.."
-archive=crates/cpe_c/out/libcpe_c.a
-[ -f "$archive" ] || { echo "there is no $archive: run rt lib in crates/cpe_c first" >&2; exit 1; }
+archive=crates/c_library/out/libc_library.a
+[ -f "$archive" ] || { echo "there is no $archive: run rt lib in crates/c_library first" >&2; exit 1; }
 kit=$(dirname "$(rt doc)")
 
 parts=build/library

@@ -1,4 +1,4 @@
-/* The border of the library: what C may get wrong is tested here, and then a proved call of crates/cpe_c is made. Nothing here is
+/* The border of the library: what C may get wrong is tested here, and then a proved call of crates/c_library is made. Nothing here is
  * proved. A proved call asks that its slices are of memory that is there, of no more than PTRDIFF_MAX bytes, and that what it
  * writes overlaps with nothing else; and that a session is one that it left here. */
 #include "cpe.h"
@@ -7,7 +7,7 @@
 #include <stdlib.h>
 #include <string.h>
 
-/* As crates/cpe_c declares them, of types of crates/talks. A slice is its pointer and its length. */
+/* As crates/c_library declares them, of types of crates/c_calls. A slice is its pointer and its length. */
 struct answer {
     uint32_t code;
     size_t number;

@@ -4,7 +4,7 @@ use Rattle.std.specs.Str.{all_ascii_digits}
 use Rattle.std.specs.Str.Parse.{digits_value, ParsesUnsigned}
 use Rattle.std.proofs.lemmas.Str.Parse.{IsNumeralModel, numerals_by_value, tells_all_ascii_digits, parse_plain}
 use Rattle.std.proofs.lemmas.Bool.Decides.{nat_tests}
-use Rattle.cpe_drill.specs.declared.line.TheConstants.{MOST_LINES}
+use Rattle.drill_lines.specs.declared.line.TheConstants.{MOST_LINES}
 use Rattle.cpe_command.specs.Command.{begins_count, count_of}
 
 abbrev pick : (begins digits below : Bool) → ℕ → Option ℕ

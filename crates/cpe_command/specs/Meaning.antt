@@ -2,30 +2,30 @@
 use Rattle.std.specs.Prelude.{◌≡◌, ℕ, Bool, true, false, List, [], Some, None}
 use Rattle.std.specs.declared.option.Option.{Option}
 use Rattle.cpe_io.specs.Lines.{lines}
-use Rattle.cpe_session.specs.cpe_steps.Within.{StepsWithin}
-use Rattle.cpe_session.specs.declared.status.Status.{Status}
-use Rattle.cpe_session.specs.declared.status.Status.TheVariants.{Done, Usage}
-use Rattle.cpe_session.specs.Table.{rows_text}
-use Rattle.cpe_session.specs.Heard.{IsLeft}
-use Rattle.cpe_session.specs.Task.{Task, Fixed, Whole, task}
-use Rattle.cpe_session.specs.Folding.{IsFolded, summed_by}
+use Rattle.line_session.specs.step_count.Within.{StepsWithin}
+use Rattle.line_session.specs.declared.status.Status.{Status}
+use Rattle.line_session.specs.declared.status.Status.TheVariants.{Done, Usage}
+use Rattle.line_session.specs.Table.{rows_text}
+use Rattle.line_session.specs.Heard.{IsLeft}
+use Rattle.line_session.specs.Task.{Task, Fixed, Whole, task}
+use Rattle.line_session.specs.Folding.{IsFolded, summed_by}
 use Rattle.cpe_rows.specs.Rows.{Rows, no_rows}
-use Rattle.cpe_convert.specs.cpe_records.Edited.{line_edited}
-use Rattle.cpe_drill.specs.Generated.{generated_line}
-use Rattle.cpe_drill.specs.Looks.{line_looks, record_looks}
-use Rattle.cpe_drill.specs.Outcome.{summed}
-use Rattle.cpe_drill.specs.Drill.{drill_transcript, LeavesRows}
-use Rattle.cpe_ranges.specs.Rows.{no_rows as no_advice}
-use Rattle.cpe_convert.specs.Convert.{convert_session}
-use Rattle.cpe_ranges.specs.Records.{advice_session, most_steps}
-use Rattle.cpe_cover.specs.Lines.{cover_session, most_steps as most_cover_steps}
+use Rattle.convert_lines.specs.cpe_records.Edited.{line_edited}
+use Rattle.drill_lines.specs.Generated.{generated_line}
+use Rattle.drill_lines.specs.Looks.{line_looks, record_looks}
+use Rattle.drill_lines.specs.Outcome.{summed}
+use Rattle.drill_lines.specs.Drill.{drill_transcript, LeavesRows}
+use Rattle.advise_ranges.specs.Rows.{no_advice_rows as no_advice}
+use Rattle.convert_lines.specs.Convert.{convert_session}
+use Rattle.advise_ranges.specs.Records.{advice_session, advice_steps}
+use Rattle.cover_lines.specs.Lines.{cover_session, cover_steps as most_cover_steps}
 use Rattle.cpe_command.specs.declared.command.Command.{Command}
 use Rattle.cpe_command.specs.declared.command.Command.TheVariants.{Name, Compare, Records, Convert, Advise, Load, Cover, Make, Drill}
 use Rattle.cpe_command.specs.Command.{command_of, usage}
 use Rattle.cpe_command.specs.Loading.{load_says, LoadLeaves}
-use Rattle.name_lines.specs.Names.{name_session}
-use Rattle.name_lines.specs.Pairs.{pair_session}
-use Rattle.record_lines.specs.Records.{record_session}
+use Rattle.cpe_command.specs.Names.{name_session}
+use Rattle.cpe_command.specs.Pairs.{pair_session}
+use Rattle.cpe_command.specs.Records.{record_session}
 
 -- What a command means. Some parts depend on the bytes that a run takes from its input.
 pub record Meaning : Type 1 where
@@ -57,7 +57,7 @@ meaning_of (Some (Records command)) = record {
   looks = λ taken. summed_by line_edited line_looks no_rows (lines taken);
 }
 meaning_of (Some Convert) = record { reads = true; task = task convert_session tt; keeps = NoRows; looks = λ taken. 0 }
-meaning_of (Some Advise) = record { reads = true; task = task advice_session no_advice; keeps = NoRows; looks = most_steps }
+meaning_of (Some Advise) = record { reads = true; task = task advice_session no_advice; keeps = NoRows; looks = advice_steps }
 meaning_of (Some Load) = record { reads = true; task = Whole load_says; keeps = IsLeft LoadLeaves no_rows; looks = λ taken. 0 }
 meaning_of (Some Cover) = record { reads = true; task = task cover_session []; keeps = NoRows; looks = most_cover_steps }
 meaning_of (Some (Make count)) = record {

@@ -1,18 +1,18 @@
 // The command `load`: the whole input is read as a snapshot.
 ghost use Rattle.std.specs.Prelude.{◌≡◌, ◌++◌, ◌<◌, ℕ, List, OnOk, IfOk, IfErr, flat_map, Option};
-ghost use Rattle.cpe_session.specs.Prelude.{AppendsPrefix, Fixed, HasSinkCause, Pours};
-ghost use Rattle.cpe_session.specs.Ran.{Ran, Anything, Counted};
-ghost use Rattle.cpe_snapshot.specs.States.{Snap, most_bytes};
-ghost use Rattle.cpe_drill.specs.Summary.{number_line};
-ghost use Rattle.cpe_command.specs.Loading.{counts_text, IsNoSnapshot, load_says, LoadLeaves, refusal_told, state_text, state_told};
+ghost use Rattle.line_session.specs.Prelude.{AppendsPrefix, Fixed, HasSinkCause, Pours};
+ghost use Rattle.line_session.specs.Ran.{Ran, Anything, Counted};
+ghost use Rattle.snapshot_bytes.specs.States.{Snap, most_bytes};
+ghost use Rattle.drill_lines.specs.Summary.{number_line};
+ghost use Rattle.cpe_command.specs.Loading.{counts_text, IsNoSnapshot, load_says, LoadLeaves, refusal_reported, state_text, state_reported};
 
-use cpe_drill::{NumberLine, push_number_lines};
+use crate::table::pour_verdicts;
 use cpe_io::{Sink, SinkFault, write_all};
 use cpe_rows::Counts;
-use cpe_session::{Listener, Page, Status, Steps, write_text};
-use cpe_snapshot::LoadFault;
+use drill_lines::{NumberLine, push_number_lines};
 use engine_snapshot::{Engine, MOST_BYTES, read_snapshot};
-use record_lines::pour_verdicts;
+use line_session::{Listener, Page, Status, Steps, write_text};
+use snapshot_bytes::LoadFault;
 use std::alloc::{AllocError, Global};
 use std::marker::Brand;
 use std::mem::replace;
@@ -45,7 +45,7 @@ impl Listener for Load {
         input: &[u8],
         sink: &mut K,
     ) -> Status {
-        cpe_snapshot::law::states_have_snapshots();
+        snapshot_bytes::law::states_have_snapshots();
         match load_counted::<Brand>(alloc, input, Blank::new(1)) {
             Ok(engine) => {
                 engine.lawful();
@@ -70,7 +70,7 @@ impl Listener for Load {
 fn put(state: &mut Engine, engine: Engine)
     ensures { state.new ≡ engine }
 {
-    replace(state, engine).let_go();
+    replace(state, engine).discard();
 }
 
 // Reads a snapshot, and counts looks in a ledger of its own. No clause bounds the looks of a load.
@@ -86,7 +86,7 @@ fn load_counted<L: Ledger>(alloc: Global, bytes: &[u8], blank: Blank) -> Result<
 }
 
 fn refuse<K: Sink>(sink: &mut K) -> Status
-    ensures ran { (left : Option (List ℕ)) → Ran left left (K.held sink.old) (K.held sink.new) (Fixed refusal_told) Anything result }
+    ensures ran { (left : Option (List ℕ)) → Ran left left (K.held sink.old) (K.held sink.new) (Fixed refusal_reported) Anything result }
     ensures sink { Counted Status.WriteFault (K.faults sink.old) (K.faults sink.new) result }
 {
     write_text(sink, REFUSAL, Status::SomeRefused)
@@ -94,7 +94,7 @@ fn refuse<K: Sink>(sink: &mut K) -> Status
 
 // Writes the counts and the verdicts of the rows.
 fn write_state<K: Sink>(alloc: Global, engine: &Engine, sink: &mut K) -> Status
-    ensures ran { (left : Option (List ℕ)) → Ran left left (K.held sink.old) (K.held sink.new) (Fixed (state_told engine.now)) Anything result }
+    ensures ran { (left : Option (List ℕ)) → Ran left left (K.held sink.old) (K.held sink.new) (Fixed (state_reported engine.now)) Anything result }
     ensures sink { Counted Status.WriteFault (K.faults sink.old) (K.faults sink.new) result }
 {
     let mut page = Page::new(alloc);

@@ -1,4 +1,4 @@
--- An edit of one entry's deprecation is a change of its node.
+-- Lemmas: an edit of an entry's deprecation is a change of the entry's node.
 use Rattle.std.proofs.Common.{◌≡◌, ℕ, zero, suc, ◌+◌, Bool, true, false, cond, not, ◌&&◌, ◌||◌, List, [], ◌∷◌, length, refl, sym, ap, ◌∙◌, arith, Option, Some, None, option_map, option_and_then, slice_get, slice_set}
 use Rattle.std.specs.List.{list_any, list_all, position, position_from}
 use Rattle.std.proofs.lemmas.Option.{same_Some, slice_get_within}
@@ -18,7 +18,7 @@ use Rattle.cpe_dictionary.specs.Faults.{RepeatsByNumber, DifferentByNumber, Name
 use Rattle.cpe_dictionary.specs.Edits.{KnownAreEntries, EditsAreChanges, NamesStayDifferent, WidthAfterByNumber}
 use Rattle.cpe_dictionary.proofs.Edited.{count_few}
 
--- ---- successors
+-- ---- tests of the successors of a deprecation
 
 all_from_none : (q : Values → Bool) (i : ℕ) (ns : List Values) → position_from (λ n. not (q n)) i ns ≡ None → list_all q ns ≡ true
 all_from_none q i [] h = refl
@@ -47,7 +47,7 @@ changes_law repeats different numbers entries k e d at count known once =
       different = different (numbers_of entries d.successors) (sym (repeats entries d.successors known) ∙ once);
     }
 
--- ---- names
+-- ---- names after one entry is replaced
 
 any_set : (p : Entry → Bool) (es : List Entry) (k : ℕ) (e x : Entry) → slice_get es k ≡ Some e → p x ≡ p e → list_any p (slice_set es k x) ≡ list_any p es
 any_set p [] k e x at h = refl
@@ -65,7 +65,7 @@ different_set (z ∷ zs) (suc k) e x at same =
 pub stay_law : NamesStayDifferent
 stay_law entries k e x at same different = different_set entries k e x at same ∙ different
 
--- ---- too many ends
+-- ---- entries with too many ends
 
 abbrev too_wide_at : Option Entry → Option EditFault
 too_wide_at = option_map (λ (y : Entry). fault.TooWide y.name)

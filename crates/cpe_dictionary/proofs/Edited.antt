@@ -1,4 +1,4 @@
--- What an edit of one entry does by its number, and how many edges there are.
+-- Lemmas: what an edit of an entry does, by the entry's number, and a bound on the number of edges.
 use Rattle.std.proofs.Common.{◌≡◌, ℕ, zero, suc, ◌+◌, ◌*◌, ◌≤◌, Bool, true, false, cond, nat_le, List, [], ◌∷◌, map, length, refl, sym, ap, ◌∙◌, arith, Option, Some, None, slice_get, slice_set, zero-add}
 use Rattle.std.specs.List.{list_any, list_all, cons_option, position, position_from}
 use Rattle.std.specs.Option.{option_map_or}
@@ -55,7 +55,7 @@ numbers_each entries (n ∷ ns) h =
 pub names_law : NamesHaveNumbers
 names_law entries ns h = record { each = numbers_each entries ns h; within = numbers_within entries ns }
 
--- ---- edges
+-- ---- a bound on the number of edges
 
 numbers_few : (entries : List Entry) (ns : List Values) → length (numbers_of entries ns) ≤ length ns
 numbers_few entries [] = omega arith

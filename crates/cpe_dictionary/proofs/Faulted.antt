@@ -1,4 +1,4 @@
--- The faults of a deprecation, by numbers.
+-- Lemmas: the faults of a deprecation, by the numbers of entries.
 use Rattle.std.proofs.Common.{◌≡◌, ◌↔◌, ℕ, suc, ◌+◌, Bool, true, false, cond, eqb, nat_lt, ◌||◌, if◌then◌else◌, IsTrue, List, [], ◌∷◌, length, find, refl, sym, ap, ◌∙◌, arith, Option, Some, None, option_map, option_and_then, slice_get, zero-add, eq-eqb}
 use Rattle.std.specs.Cmp.{both_ways as both}
 use Rattle.std.specs.List.{AllByRecursion, IsDistinct, list_any, list_all, cons_option, range_with_len, position, position_from}
@@ -15,8 +15,8 @@ use Rattle.cpe_rows.specs.Faults.{repeated_from}
 use Rattle.cpe_rows.specs.Limits.{is_wide}
 use Rattle.cpe_rows.specs.declared.limits.TheConstants.{MOST_ENDS}
 use Rattle.cpe_rows.specs.declared.entry.Entry.{Entry}
-use Rattle.deprecation_graph.specs.Graph.{next_in, active_in}
-use Rattle.deprecation_graph.specs.Chains.{reaches, ends_of}
+use Rattle.deprecation_graph.specs.Graph.{next_of_node, active_in}
+use Rattle.deprecation_graph.specs.Chains.{reaches, ends_of_node}
 use Rattle.deprecation_graph.specs.Faults.{is_wide_node}
 use Rattle.cpe_dictionary.specs.Numbers.{PathsByNumber, WidthsByNumber, NodesAreNumbered, NodesAreMarked, numbers_of, node_of_entry, nodes_of_entries}
 use Rattle.cpe_dictionary.specs.Faults.{AreEntries, RepeatsByNumber, DifferentByNumber, CyclesByNumber, WidthByNumber}
@@ -25,7 +25,7 @@ use Rattle.cpe_dictionary.proofs.Places.{Placed, placed}
 -- ---- repeated successors
 
 module _ (same : (a b : Values) → IsTrue (is_same a b) ↔ (a ≡ b)) (entries : List Entry) where
-  -- names are the same exactly where their places are
+  -- two names are the same exactly if their entries have the same place
   same_place : (a b : Values) (x : Placed (is_named a) entries) (y : Placed (is_named b) entries) → is_same a b ≡ eqb x.place y.place
   same_place a b x y = both (is_same a b) (eqb x.place y.place) to from
     where
@@ -59,7 +59,7 @@ module _ (same : (a b : Values) → IsTrue (is_same a b) ↔ (a ≡ b)) (entries
 pub repeats_law : ((a b : Values) → IsTrue (is_same a b) ↔ (a ≡ b)) → RepeatsByNumber
 repeats_law same entries ns known = repeats_same same entries [] 1 ns refl known
 
--- ---- different numbers
+-- ---- numbers without repetitions are all different
 
 nothing_apart : IsDistinct eqb []
 nothing_apart = IsDistinct-from_apart eqb [] (λ i j d a b. absurd (omega arith))
@@ -82,7 +82,7 @@ different_from seen k (x ∷ xs) h = go (list_any (eqb x) seen) refl h (differen
 pub different_law : DifferentByNumber
 different_law ks h = (different_from [] 1 ks h).1
 
--- ---- cycles
+-- ---- the first successor that leads back to the entry
 
 place_more : (p : Values → Bool) (i : ℕ) (ns : List Values) → option_map (λ k. k + 1) (position_from p i ns) ≡ position_from p (i + 1) ns
 place_more p i [] = refl
@@ -106,12 +106,12 @@ cycles_law same paths numbered entries k e ns different at known =
     let nodes = nodes_of_entries entries in
     let leads : Values → Bool = λ s. leads_to entries s e.name in
     ap (option_map (λ i. i + 1)) (position_from-zero leads ns) ∙ place_more leads 0 ns
-    ∙ places_same entries leads (λ b. reaches (next_in nodes) (length nodes) b k) 1 ns known (λ n x.
+    ∙ places_same entries leads (λ b. reaches (next_of_node nodes) (length nodes) b k) 1 ns known (λ n x.
     ap (λ (m : Values). leads_to entries m e.name) ((same n x.entry.name).0 x.passes)
-    ∙ paths entries (next_in nodes) x.place k x.entry e (numbered entries different) x.at at
-    ∙ ap (λ (c : ℕ). reaches (next_in nodes) c x.place k) (sym (length-map entries (node_of_entry entries))))
+    ∙ paths entries (next_of_node nodes) x.place k x.entry e (numbered entries different) x.at at
+    ∙ ap (λ (c : ℕ). reaches (next_of_node nodes) c x.place k) (sym (length-map entries (node_of_entry entries))))
 
--- ---- too many ends
+-- ---- entries with too many ends
 
 find_at : (p : Entry → Bool) (q : ℕ → Bool) (all es : List Entry) (at : ℕ) → ((i : ℕ) → slice_get es i ≡ slice_get all (at + i)) → ((i : ℕ) (x : Entry) → slice_get es i ≡ Some x → p x ≡ q (at + i)) → find p es ≡ option_and_then (slice_get all) (find q (range_with_len at (length es)))
 find_at p q all [] at same agree = refl
@@ -136,8 +136,8 @@ width_law widths numbered marked entries different =
     let count : length nodes ≡ length entries = length-map entries (node_of_entry entries) in
     find_at (is_wide entries) (is_wide_node nodes) entries entries 0 (λ i. ap (slice_get entries) (sym (zero-add i))) (λ i x here.
     ap (nat_lt MOST_ENDS) (
-    widths entries (next_in nodes) (active_in nodes) i x (numbered entries different) (marked entries) here
-    ∙ ap (λ (c : ℕ). length (ends_of (next_in nodes) (active_in nodes) c i)) (sym count)
+    widths entries (next_of_node nodes) (active_in nodes) i x (numbered entries different) (marked entries) here
+    ∙ ap (λ (c : ℕ). length (ends_of_node (next_of_node nodes) (active_in nodes) c i)) (sym count)
     )
     ∙ ap (is_wide_node nodes) (sym (zero-add i)))
     ∙ ap (λ (c : ℕ). option_and_then (slice_get entries) (find (is_wide_node nodes) (range_with_len 0 c))) (sym count)

@@ -1,4 +1,4 @@
--- Entries with different names are numbered by their nodes.
+-- Lemmas: if all entries have different names, their nodes have the entries' numbers.
 use Rattle.std.proofs.Common.{◌≡◌, ◌↔◌, ℕ, zero, suc, Bool, true, false, not, IsTrue, List, [], ◌∷◌, refl, sym, ap, subst, ◌∙◌, inl, inr, arith, Option, Some, None, slice_get}
 use Rattle.std.specs.List.{Contains, list_any, cons_option, position}
 use Rattle.std.specs.Option.{option_map}
@@ -10,9 +10,9 @@ use Rattle.cpe_rows.specs.Chains.{successors_of}
 use Rattle.cpe_rows.specs.Lawful.{are_different}
 use Rattle.cpe_rows.specs.Rows.{is_named}
 use Rattle.cpe_rows.specs.declared.entry.Entry.{Entry}
-use Rattle.deprecation_graph.specs.Graph.{next_or_none, active_or_not, next_in, active_in}
+use Rattle.deprecation_graph.specs.Graph.{next_or_none, active_or_not, next_of_node, active_in}
 use Rattle.deprecation_graph.proofs.Rising.{Contains-cases, Contains-rest}
-use Rattle.cpe_dictionary.specs.Numbers.{AreNumbered, AreMarked, numbers_of, node_of_entry, nodes_of_entries}
+use Rattle.cpe_dictionary.specs.Numbers.{AreNumberedEntries, AreActiveEntries, numbers_of, node_of_entry, nodes_of_entries}
 use Rattle.cpe_dictionary.proofs.Numbering.{entry_at}
 use Rattle.cpe_dictionary.proofs.Places.{placed, passes_at, numbers_within}
 
@@ -72,10 +72,10 @@ module _ (same : (a b : Values) → IsTrue (is_same a b) ↔ (a ≡ b)) where
             let is : found.place ≡ j = apart entries different found.place j found.entry y found.at at ((same found.entry.name y.name).1 names) in
             subst (λ (o : Option ℕ). Contains (cons_option o (numbers_of entries ns)) j) (sym found.first) (0, omega arith, is)
 
-    next_at : (i : ℕ) (x : Entry) → slice_get entries i ≡ Some x → next_in (nodes_of_entries entries) i ≡ numbers_of entries (successors_of x)
+    next_at : (i : ℕ) (x : Entry) → slice_get entries i ≡ Some x → next_of_node (nodes_of_entries entries) i ≡ numbers_of entries (successors_of x)
     next_at i x e = ap next_or_none (slice_get-map (node_of_entry entries) entries i ∙ ap (option_map (node_of_entry entries)) e)
 
-    pub nodes_numbered : AreNumbered entries (next_in (nodes_of_entries entries))
+    pub nodes_numbered : AreNumberedEntries entries (next_of_node (nodes_of_entries entries))
     nodes_numbered = record {
       apart = apart entries different;
       edges = λ i j x y e f. (
@@ -85,5 +85,5 @@ module _ (same : (a b : Values) → IsTrue (is_same a b) ↔ (a ≡ b)) where
       closed = λ a b lt edge. let x = entry_at entries a lt in numbers_within entries (successors_of x.0) b (subst (λ (xs : List ℕ). Contains xs b) (next_at a x.0 x.1) edge);
     }
 
-pub nodes_marked : (entries : List Entry) → AreMarked entries (active_in (nodes_of_entries entries))
+pub nodes_marked : (entries : List Entry) → AreActiveEntries entries (active_in (nodes_of_entries entries))
 nodes_marked entries i x e = sym (ap active_or_not (slice_get-map (node_of_entry entries) entries i ∙ ap (option_map (node_of_entry entries)) e))

@@ -1,4 +1,4 @@
--- The graph of entries that are given their deprecations at once, and the numbers of successors of which it is made.
+-- Lemmas: the graph of entries that all get their deprecations in one call, made of the numbers of successors.
 use Rattle.std.proofs.Common.{◌≡◌, ◌↔◌, ℕ, ◌+◌, ◌≤◌, Bool, true, false, not, if◌then◌else◌, is_none, ◌&&◌, IsTrue, List, [], ◌∷◌, length, map, refl, sym, ap, subst, ◌∙◌, arith, Option, Some, None}
 use Rattle.std.specs.Cmp.{both_ways as both}
 use Rattle.std.specs.List.{All, AllByRecursion, list_all, list_any}
@@ -14,21 +14,21 @@ use Rattle.cpe_rows.specs.declared.entry.Entry.{Entry}
 use Rattle.cpe_rows.specs.declared.fault.Which.TheVariants as limit
 use Rattle.cpe_rows.proofs.NameTests.{not_same}
 use Rattle.cpe_rows.proofs.Unrefused.{none_repeated}
-use Rattle.deprecation_graph.specs.Graph.{IsLawful, Node}
+use Rattle.deprecation_graph.specs.Graph.{IsLawfulGraph, Node}
 use Rattle.deprecation_graph.specs.Laws.{ChainsArePaths}
 use Rattle.deprecation_graph.specs.Filled.{AreAllowed, IsBrief, nodes_of_lists}
 use Rattle.cpe_dictionary.specs.Faults.{DifferentByNumber, NamesHaveNumbers, RepeatsByNumber}
-use Rattle.cpe_dictionary.specs.Given.{are_entries, each_deprecated, may_have}
-use Rattle.cpe_dictionary.specs.Kept.{IsKept}
+use Rattle.cpe_dictionary.specs.Given.{are_entries, each_deprecated, may_have_deprecation}
+use Rattle.cpe_dictionary.specs.Kept.{IsDictionaryGraph}
 use Rattle.cpe_dictionary.specs.Numbers.{nodes_of_entries, NodesAreMarked, NodesAreNumbered, numbers_of, PathsByNumber, WidthsByNumber}
-use Rattle.cpe_dictionary.specs.Plans.{numbered}
+use Rattle.cpe_dictionary.specs.Plans.{numbered_successors}
 use Rattle.cpe_dictionary.proofs.Edited.{count_few}
 use Rattle.cpe_dictionary.proofs.GivenLemmas.{dictionary_given, length_given, may_have_given, nodes_given, still_different, successors_known}
 use Rattle.cpe_dictionary.proofs.LawfulNodes.{lawful_nodes, no_cycle, no_wide}
 
 -- ---- names that are all different
 
--- what differs from one more
+-- if no name of `ns` is n or in `seen`, no name of `ns` is in `n ∷ seen`
 apart_more : (n : Values) (seen ns : List Values) → list_any (is_same n) ns ≡ false → AllByRecursion (λ m. list_any (is_same m) seen ≡ false) ns
     → AllByRecursion (λ m. list_any (is_same m) (n ∷ seen) ≡ false) ns
 apart_more n seen [] h apart = tt
@@ -58,10 +58,10 @@ is_none_at (Some x) h = absurd cc
 pub different_is : (ns : List Values) → are_different is_same ns ≡ is_none (repeated_from is_same [] 1 ns)
 different_is ns = both (are_different is_same ns) (is_none (repeated_from is_same [] 1 ns)) (λ h. ap is_none (none_repeats ns h)) (λ h. none_repeated is_same not_same ns (is_none_at (repeated_from is_same [] 1 ns) h))
 
--- ---- lists of numbers
+-- ---- the lists of numbers from which the graph is made
 
 module _ (numbers : NamesHaveNumbers) (repeats : RepeatsByNumber) (differ : DifferentByNumber) (es : List Entry) where
-  brief_of : (d : Option Deprecation) → may_have es d ≡ true → IsBrief (numbered es d)
+  brief_of : (d : Option Deprecation) → may_have_deprecation es d ≡ true → IsBrief (numbered_successors es d)
   brief_of None h = record { few = omega arith; different = differ [] refl }
   brief_of (Some d) h =
       let parts = and_parts (is_count d.kind (length d.successors)) (are_entries es d.successors && are_different is_same d.successors) h in
@@ -73,13 +73,13 @@ module _ (numbers : NamesHaveNumbers) (repeats : RepeatsByNumber) (differ : Diff
         different = differ (numbers_of es d.successors) (sym (repeats es d.successors entries.0) ∙ none_repeats d.successors entries.1);
       }
 
-  all_brief : (ds : List (Option Deprecation)) → list_all (may_have es) ds ≡ true → All IsBrief (map (numbered es) ds)
+  all_brief : (ds : List (Option Deprecation)) → list_all (may_have_deprecation es) ds ≡ true → All IsBrief (map (numbered_successors es) ds)
   all_brief [] h = All-nil IsBrief
   all_brief (d ∷ ds) h =
-      let parts = and_parts (may_have es d) (list_all (may_have es) ds) h in
-      All-cons IsBrief (numbered es d) (map (numbered es) ds) (brief_of d parts.0) (all_brief ds parts.1)
+      let parts = and_parts (may_have_deprecation es d) (list_all (may_have_deprecation es) ds) h in
+      All-cons IsBrief (numbered_successors es d) (map (numbered_successors es) ds) (brief_of d parts.0) (all_brief ds parts.1)
 
--- ---- the graph
+-- ---- the graph that is made of the lists
 
 module _ (same : (a b : Values) → IsTrue (is_same a b) ↔ (a ≡ b)) (chains : ChainsArePaths) (are_numbered : NodesAreNumbered) (marked : NodesAreMarked) (paths : PathsByNumber) (widths : WidthsByNumber)
     (es : List Entry) (ds : List (Option Deprecation)) (even : length ds ≡ length es) (old : IsDictionary es) (few : length es ≤ most limit.Entries) where
@@ -87,14 +87,14 @@ module _ (same : (a b : Values) → IsTrue (is_same a b) ↔ (a ≡ b)) (chains 
   left = each_deprecated es ds
 
   abbrev lists : List (Option (List ℕ))
-  lists = map (numbered es) ds
+  lists = map (numbered_successors es) ds
 
   few_left : length left ≤ most limit.Entries
   few_left = omega (arith, few, length_given es ds)
 
-  pub kept_given : (nodes : List Node) → list_all (may_have es) ds ≡ true → nodes ≡ nodes_of_lists lists → AreAllowed lists → IsKept left nodes
+  pub kept_given : (nodes : List Node) → list_all (may_have_deprecation es) ds ≡ true → nodes ≡ nodes_of_lists lists → AreAllowed lists → IsDictionaryGraph left nodes
   kept_given nodes may are allowed =
-      let lawful : IsLawful (nodes_of_entries left) = subst IsLawful (sym (nodes_given es ds even)) allowed.lawful in
+      let lawful : IsLawfulGraph (nodes_of_entries left) = subst IsLawfulGraph (sym (nodes_given es ds even)) allowed.lawful in
       let different = still_different es ds even old may in
       record {
         lawful =
@@ -109,6 +109,6 @@ module _ (same : (a b : Values) → IsTrue (is_same a b) ↔ (a ≡ b)) (chains 
   allowed_given numbers repeats differ d =
       let may = may_have_given es ds even d in
       record {
-        lawful = subst IsLawful (nodes_given es ds even) (lawful_nodes same chains are_numbered marked paths widths left d.names_differ d few_left);
+        lawful = subst IsLawfulGraph (nodes_given es ds even) (lawful_nodes same chains are_numbered marked paths widths left d.names_differ d few_left);
         brief = all_brief numbers repeats differ es ds may;
       }

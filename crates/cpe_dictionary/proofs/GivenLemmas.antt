@@ -1,4 +1,4 @@
--- Entries that are given their deprecations at once: names stay, and nodes are those of the numbers of successors.
+-- Lemmas: giving all entries their deprecations keeps the names; the nodes have the numbers of the new successors.
 use Rattle.std.proofs.Common.{◌≡◌, ℕ, suc, ◌+◌, Bool, true, false, cond, not, ◌&&◌, ◌||◌, List, [], ◌∷◌, length, map, position, refl, sym, ap, ◌∙◌, arith}
 use Rattle.std.specs.Prelude.{Option, Some, None}
 use Rattle.std.specs.List.{cons_option, list_all, list_any, position_from}
@@ -14,12 +14,12 @@ use Rattle.cpe_rows.specs.declared.entry.Deprecation.{Deprecation}
 use Rattle.cpe_rows.specs.declared.entry.Entry.{Entry}
 use Rattle.deprecation_graph.specs.Graph.{node_of}
 use Rattle.deprecation_graph.specs.Filled.{nodes_of_lists}
-use Rattle.cpe_dictionary.specs.Given.{are_entries, each_deprecated, is_counted, may_have, successors_in}
-use Rattle.cpe_dictionary.specs.Kept.{names_of}
+use Rattle.cpe_dictionary.specs.Given.{are_entries, each_deprecated, is_counted, may_have_deprecation, successors_in}
+use Rattle.cpe_dictionary.specs.Kept.{names_of_entries}
 use Rattle.cpe_dictionary.specs.Numbers.{node_of_entry, nodes_of_entries, numbers_of}
-use Rattle.cpe_dictionary.specs.Plans.{numbered}
+use Rattle.cpe_dictionary.specs.Plans.{numbered_successors}
 
--- ---- names stay
+-- ---- names are kept
 
 module _ (p : Values → Bool) where
   pub any_given : (es : List Entry) (ds : List (Option Deprecation))
@@ -46,7 +46,7 @@ different_given [] ds = refl
 different_given (e ∷ es) [] = refl
 different_given (e ∷ es) (d ∷ ds) = λ i. not (any_given (is_same e.name) es ds i) && different_given es ds i
 
-pub names_given : (es : List Entry) (ds : List (Option Deprecation)) → names_of (each_deprecated es ds) ≡ names_of es
+pub names_given : (es : List Entry) (ds : List (Option Deprecation)) → names_of_entries (each_deprecated es ds) ≡ names_of_entries es
 names_given [] ds = refl
 names_given (e ∷ es) [] = refl
 names_given (e ∷ es) (d ∷ ds) = ap (λ (ns : List Values). e.name ∷ ns) (names_given es ds)
@@ -56,7 +56,7 @@ length_given [] ds = refl
 length_given (e ∷ es) [] = refl
 length_given (e ∷ es) (d ∷ ds) = ap suc (length_given es ds)
 
--- ---- numbers
+-- ---- the numbers of successors
 
 module _ (es : List Entry) (ds : List (Option Deprecation)) where
   place_given : (n : Values) → position (is_named n) (each_deprecated es ds) ≡ position (is_named n) es
@@ -66,24 +66,24 @@ module _ (es : List Entry) (ds : List (Option Deprecation)) where
   numbers_given [] = refl
   numbers_given (n ∷ ns) = λ i. cons_option (place_given n i) (numbers_given ns i)
 
-  node_given : (d : Option Deprecation) (e : Entry) → node_of_entry (each_deprecated es ds) (record e { deprecation = d }) ≡ node_of (numbered es d)
+  node_given : (d : Option Deprecation) (e : Entry) → node_of_entry (each_deprecated es ds) (record e { deprecation = d }) ≡ node_of (numbered_successors es d)
   node_given None e = refl
   node_given (Some d) e = λ i. record { active = false; next = numbers_given d.successors i }
 
   nodes_from : (xs : List Entry) (os : List (Option Deprecation)) → length os ≡ length xs
-      → map (node_of_entry (each_deprecated es ds)) (each_deprecated xs os) ≡ map node_of (map (numbered es) os)
+      → map (node_of_entry (each_deprecated es ds)) (each_deprecated xs os) ≡ map node_of (map (numbered_successors es) os)
   nodes_from [] [] h = refl
   nodes_from [] (o ∷ os) h = absurd (omega (arith, h))
   nodes_from (x ∷ xs) [] h = absurd (omega (arith, h))
   nodes_from (x ∷ xs) (o ∷ os) h = λ i. node_given o x i ∷ nodes_from xs os (omega (arith, h)) i
 
 pub nodes_given : (es : List Entry) (ds : List (Option Deprecation)) → length ds ≡ length es
-    → nodes_of_entries (each_deprecated es ds) ≡ nodes_of_lists (map (numbered es) ds)
+    → nodes_of_entries (each_deprecated es ds) ≡ nodes_of_lists (map (numbered_successors es) ds)
 nodes_given es ds h = nodes_from es ds es ds h
 
--- ---- what each entry may have
+-- ---- which deprecations an entry may have
 
--- a test of deprecations, as one of entries
+-- a test of all new deprecations is a test of all entries that have them
 pub by_deprecation : (q : Option Deprecation → Bool) (es : List Entry) (ds : List (Option Deprecation)) → length ds ≡ length es
     → list_all (λ (e : Entry). q e.deprecation) (each_deprecated es ds) ≡ list_all q ds
 by_deprecation q [] [] h = refl
@@ -117,8 +117,8 @@ module _ (es : List Entry) (ds : List (Option Deprecation)) (even : length ds �
   same_successors : has_successors (each_deprecated es ds) ≡ has_successors es
   same_successors = λ i e. list_all (λ (s : Values). any_given (is_same s) es ds i) (successors_of e)
 
-  -- they are a dictionary where that is so of their graph, too
-  module _ (old : IsDictionary es) (may : list_all (may_have es) ds ≡ true) where
+  -- the entries are a lawful dictionary if their graph is lawful
+  module _ (old : IsDictionary es) (may : list_all (may_have_deprecation es) ds ≡ true) where
     counts : list_all is_counted ds ≡ true
     counts = (all_parts is_counted (λ d. known d && apart d) ds may).0
 
@@ -143,8 +143,8 @@ module _ (es : List Entry) (ds : List (Option Deprecation)) (even : length ds �
       no_wide = no_wide;
     }
 
-  -- and each of a dictionary may have what it has
-  pub may_have_given : IsDictionary (each_deprecated es ds) → list_all (may_have es) ds ≡ true
+  -- each entry of a lawful dictionary may have its deprecation
+  pub may_have_given : IsDictionary (each_deprecated es ds) → list_all (may_have_deprecation es) ds ≡ true
   may_have_given d =
       all_from is_counted (λ o. known o && apart o) ds (sym (by_deprecation is_counted es ds even) ∙ d.counts)
       (all_from known apart ds (sym (by_deprecation known es ds even) ∙ sym (ap (λ (p : Entry → Bool). list_all p (each_deprecated es ds)) same_successors) ∙ d.successors)

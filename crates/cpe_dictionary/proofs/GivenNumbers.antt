@@ -1,4 +1,4 @@
--- The numbers of the successors of deprecations, where entries may have these.
+-- Lemmas: the numbers of the successors of deprecations that entries may have.
 use Rattle.std.proofs.Common.{◌≡◌, ℕ, ◌+◌, Bool, true, false, if◌then◌else◌, is_none, ◌&&◌, List, [], ◌∷◌, ◌++◌, append_assoc, drop, length, map, nat_eq, position, refl, sym, ap, ◌∙◌, Option, Some, None}
 use Rattle.std.specs.Prelude.{is_some}
 use Rattle.std.specs.List.{list_all}
@@ -11,13 +11,13 @@ use Rattle.cpe_rows.specs.Rows.{is_named}
 use Rattle.cpe_rows.specs.declared.entry.Deprecation.{Deprecation}
 use Rattle.cpe_rows.specs.declared.entry.Entry.{Entry}
 use Rattle.cpe_dictionary.specs.Faults.{RepeatsByNumber}
-use Rattle.cpe_dictionary.specs.Given.{are_entries, may_have}
+use Rattle.cpe_dictionary.specs.Given.{are_entries, may_have_deprecation}
 use Rattle.cpe_dictionary.specs.Numbers.{numbers_of}
-use Rattle.cpe_dictionary.specs.Plans.{numbered}
-use Rattle.entries_in_order.proofs.EntryLemmas.{there_by_name}
+use Rattle.cpe_dictionary.specs.Plans.{numbered_successors}
+use Rattle.cpe_dictionary.proofs.EntryLemmas.{there_by_name}
 use Rattle.cpe_dictionary.proofs.GivenGraph.{different_is}
 
--- ---- what there is where a test passes
+-- ---- a value that exists only if a test passes
 
 module _ {A : Type 0} where
   abbrev pub only_if : Bool → A → Option A
@@ -37,7 +37,7 @@ module _ {A : Type 0} where
   if_some true x y h = (refl, same_Some y x h)
   if_some false x y h = let wrong : ⊥ = cc in absurd wrong
 
--- ---- names, one after the other
+-- ---- names, one by one
 
 module _ (es : List Entry) (ns : List Values) (i : ℕ) (n : Values) (first : drop i ns ≡ n ∷ drop (i + 1) ns) where
   entries_first : are_entries es (drop i ns) ≡ (is_some (position (is_named n) es) && are_entries es (drop (i + 1) ns))
@@ -55,7 +55,7 @@ module _ (es : List Entry) (d : Deprecation) (ns : List Values) (good : Bool) (n
   count_is : is_count d.kind (length d.successors) ≡ good
   count_is = ap (λ (ms : List Values). is_count d.kind (length ms)) (sym named) ∙ sym counted
 
-  may_be : good ≡ true → may_have es (Some d) ≡ (are_entries es d.successors && are_different is_same d.successors)
+  may_be : good ≡ true → may_have_deprecation es (Some d) ≡ (are_entries es d.successors && are_different is_same d.successors)
   may_be h = ap (λ (b : Bool). b && (are_entries es d.successors && are_different is_same d.successors)) (count_is ∙ h)
 
   module _ (ks : List ℕ) (h : good ≡ true) (found : Some ks ≡ only_if (are_entries es ns) (numbers_of es ns)) where
@@ -65,7 +65,7 @@ module _ (es : List Entry) (d : Deprecation) (ns : List Values) (good : Bool) (n
     entries_found : are_entries es d.successors ≡ true
     entries_found = ap (are_entries es) (sym named) ∙ (if_some (are_entries es ns) (numbers_of es ns) ks found).0
 
-    may_if : RepeatsByNumber → may_have es (Some d) ≡ is_none (repeated_from nat_eq [] 1 ks)
+    may_if : RepeatsByNumber → may_have_deprecation es (Some d) ≡ is_none (repeated_from nat_eq [] 1 ks)
     may_if repeats =
         may_be h
         ∙ ap (λ (b : Bool). b && are_different is_same d.successors) entries_found
@@ -73,24 +73,24 @@ module _ (es : List Entry) (d : Deprecation) (ns : List Values) (good : Bool) (n
         ∙ ap is_none (repeats es d.successors entries_found ∙ ap (repeated_from nat_eq [] 1) (sym numbers_found))
 
     pub answer_found : RepeatsByNumber → (o : Option (List ℕ)) → o ≡ only_if (is_none (repeated_from nat_eq [] 1 ks)) ks
-        → o ≡ only_if (may_have es (Some d)) (numbers_of es d.successors)
+        → o ≡ only_if (may_have_deprecation es (Some d)) (numbers_of es d.successors)
     answer_found repeats o is = is ∙ (λ i. only_if (sym (may_if repeats) i) (numbers_found i))
 
--- ---- deprecations, one after the other
+-- ---- deprecations, one by one
 
 module _ (es : List Entry) (ds : List (Option Deprecation)) (i : ℕ) (d : Option Deprecation) (first : drop i ds ≡ d ∷ drop (i + 1) ds) where
-  may_first : list_all (may_have es) (drop i ds) ≡ (may_have es d && list_all (may_have es) (drop (i + 1) ds))
-  may_first = ap (list_all (may_have es)) first
+  may_first : list_all (may_have_deprecation es) (drop i ds) ≡ (may_have_deprecation es d && list_all (may_have_deprecation es) (drop (i + 1) ds))
+  may_first = ap (list_all (may_have_deprecation es)) first
 
-  pub may_not_here : may_have es d ≡ false → list_all (may_have es) (drop i ds) ≡ false
-  may_not_here h = may_first ∙ ap (λ (b : Bool). b && list_all (may_have es) (drop (i + 1) ds)) h
+  pub may_not_here : may_have_deprecation es d ≡ false → list_all (may_have_deprecation es) (drop i ds) ≡ false
+  may_not_here h = may_first ∙ ap (λ (b : Bool). b && list_all (may_have_deprecation es) (drop (i + 1) ds)) h
 
-  pub may_here : may_have es d ≡ true → list_all (may_have es) (drop i ds) ≡ list_all (may_have es) (drop (i + 1) ds)
-  may_here h = may_first ∙ ap (λ (b : Bool). b && list_all (may_have es) (drop (i + 1) ds)) h
+  pub may_here : may_have_deprecation es d ≡ true → list_all (may_have_deprecation es) (drop i ds) ≡ list_all (may_have_deprecation es) (drop (i + 1) ds)
+  may_here h = may_first ∙ ap (λ (b : Bool). b && list_all (may_have_deprecation es) (drop (i + 1) ds)) h
 
-  pub numbered_more : (done : List (Option (List ℕ))) → done ++ map (numbered es) (drop i ds) ≡ map (numbered es) ds
-      → (done ++ numbered es d ∷ []) ++ map (numbered es) (drop (i + 1) ds) ≡ map (numbered es) ds
+  pub numbered_more : (done : List (Option (List ℕ))) → done ++ map (numbered_successors es) (drop i ds) ≡ map (numbered_successors es) ds
+      → (done ++ numbered_successors es d ∷ []) ++ map (numbered_successors es) (drop (i + 1) ds) ≡ map (numbered_successors es) ds
   numbered_more done before =
-      append_assoc done (numbered es d ∷ []) (map (numbered es) (drop (i + 1) ds))
-      ∙ ap (λ (rest : List (Option Deprecation)). done ++ map (numbered es) rest) (sym first)
+      append_assoc done (numbered_successors es d ∷ []) (map (numbered_successors es) (drop (i + 1) ds))
+      ∙ ap (λ (rest : List (Option Deprecation)). done ++ map (numbered_successors es) rest) (sym first)
       ∙ before

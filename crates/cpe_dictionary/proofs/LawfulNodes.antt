@@ -1,4 +1,4 @@
--- A dictionary is lawful where its nodes are a lawful graph, and the other way round.
+-- Lemmas: a dictionary is lawful exactly if its nodes are a lawful graph.
 use Rattle.std.proofs.Common.{◌≡◌, ◌↔◌, ℕ, zero, suc, ◌<◌, ◌≤◌, Bool, true, false, is_none, IsTrue, List, [], ◌∷◌, length, refl, sym, ap, subst, ◌∙◌, inl, inr, arith, Option, Some, None, slice_get}
 use Rattle.std.specs.List.{Contains, list_all, list_any}
 use Rattle.std.specs.Option.{option_map, option_map_or}
@@ -16,13 +16,13 @@ use Rattle.cpe_rows.specs.declared.entry.Deprecation.{Deprecation}
 use Rattle.cpe_rows.specs.declared.entry.Entry.{Entry}
 use Rattle.cpe_rows.specs.declared.limits.TheConstants.{MOST_ENDS}
 use Rattle.cpe_rows.proofs.Lists.{each_element, no_element}
-use Rattle.deprecation_graph.specs.Chains.{ends_of}
-use Rattle.deprecation_graph.specs.Graph.{active_in, active_or_not, ends_in, IsLawful, next_in, next_or_none, Node}
+use Rattle.deprecation_graph.specs.Chains.{ends_of_node}
+use Rattle.deprecation_graph.specs.Graph.{active_in, active_or_not, ends_in, IsLawfulGraph, next_of_node, next_or_none, Node}
 use Rattle.deprecation_graph.specs.Laws.{ChainsArePaths}
 use Rattle.deprecation_graph.specs.Paths.{IsAcyclic, IsClosed, Leads}
 use Rattle.deprecation_graph.specs.declared.limits.TheConstants.{MOST_NODES}
 use Rattle.cpe_dictionary.specs.Faults.{AreDifferent}
-use Rattle.cpe_dictionary.specs.Numbers.{AreNumbered, node_of_entry, nodes_of_entries, NodesAreMarked, NodesAreNumbered, numbers_of, PathsByNumber, WidthsByNumber}
+use Rattle.cpe_dictionary.specs.Numbers.{AreNumberedEntries, node_of_entry, nodes_of_entries, NodesAreMarked, NodesAreNumbered, numbers_of, PathsByNumber, WidthsByNumber}
 use Rattle.cpe_dictionary.proofs.Numbering.{entry_at}
 use Rattle.cpe_dictionary.proofs.Places.{placed}
 
@@ -42,7 +42,7 @@ all_at p [] k e h at = absurd (none-some e at)
 all_at p (x ∷ xs) zero e h at = ap p (sym (same_Some x e at)) ∙ (and_parts (p x) (list_all p xs) h).0
 all_at p (x ∷ xs) (suc k) e h at = all_at p xs k e (and_parts (p x) (list_all p xs) h).1 at
 
--- ---- names among names
+-- ---- names in a list of names
 
 module _ (same : (a b : Values) → IsTrue (is_same a b) ↔ (a ≡ b)) where
   one_of : (n : Values) (ns : List Values) → Among ns n → list_any (is_same n) ns ≡ true
@@ -67,27 +67,27 @@ module _ (same : (a b : Values) → IsTrue (is_same a b) ↔ (a ≡ b)) (chains 
   count : length nodes ≡ length es
   count = length-map es (node_of_entry es)
 
-  are : AreNumbered es (next_in nodes)
+  are : AreNumberedEntries es (next_of_node nodes)
   are = numbered es different
 
   node_at : (k : ℕ) → slice_get nodes k ≡ option_map (node_of_entry es) (slice_get es k)
   node_at k = slice_get-map (node_of_entry es) es k
 
-  -- a path leads from number to number exactly where one leads from entry to entry
-  led : (j k : ℕ) (y e : Entry) → slice_get es j ≡ Some y → slice_get es k ≡ Some e → IsTrue (leads_to es y.name e.name) ↔ Leads (next_in nodes) j k
+  -- a path leads from one number to another exactly if the entry of the first leads to that of the second
+  led : (j k : ℕ) (y e : Entry) → slice_get es j ≡ Some y → slice_get es k ≡ Some e → IsTrue (leads_to es y.name e.name) ↔ Leads (next_of_node nodes) j k
   led j k y e there here =
-      let by = paths es (next_in nodes) j k y e are there here in
-      let reached = (chains (next_in nodes) (λ i. true) (length es) j are.closed (slice_get_within es j y there)).reached k in
+      let by = paths es (next_of_node nodes) j k y e are there here in
+      let reached = (chains (next_of_node nodes) (λ i. true) (length es) j are.closed (slice_get_within es j y there)).reached k in
       (λ h. reached.0 (sym by ∙ h), λ l. by ∙ reached.1 l)
 
   same_width : (k : ℕ) (e : Entry) → slice_get es k ≡ Some e → length (ends es e.name) ≡ length (ends_in nodes k)
   same_width k e here =
-      widths es (next_in nodes) (active_in nodes) k e are (marked es) here
-      ∙ ap (λ (c : ℕ). length (ends_of (next_in nodes) (active_in nodes) c k)) (sym count)
+      widths es (next_of_node nodes) (active_in nodes) k e are (marked es) here
+      ∙ ap (λ (c : ℕ). length (ends_of_node (next_of_node nodes) (active_in nodes) c k)) (sym count)
 
   -- ---- from nodes to entries
 
-  module _ (known : list_all (has_successors es) es ≡ true) (acyclic : IsAcyclic (next_in nodes)) where
+  module _ (known : list_all (has_successors es) es ≡ true) (acyclic : IsAcyclic (next_of_node nodes)) where
     uncyclic : (k : ℕ) (e : Entry) → slice_get es k ≡ Some e → is_cyclic es e ≡ false
     uncyclic k e here = no_element (λ s. leads_to es s e.name) (successors_of e) (λ s m. back s m)
       where
@@ -111,7 +111,7 @@ module _ (same : (a b : Values) → IsTrue (is_same a b) ↔ (a ≡ b)) (chains 
 
   -- ---- from entries to nodes
 
-  closed : IsClosed (next_in nodes) (length nodes)
+  closed : IsClosed (next_of_node nodes) (length nodes)
   closed a b lt edge = let below = are.closed a b (omega (arith, lt, count)) edge in omega (arith, below, count)
 
   bare_node : (e : Entry) → is_none e.deprecation ≡ true → numbers_of es (successors_of e) ≡ []
@@ -121,7 +121,7 @@ module _ (same : (a b : Values) → IsTrue (is_same a b) ↔ (a ≡ b)) (chains 
       go None t = refl
       go (Some d) t = absurd (true≢false (sym t))
 
-  bare : (a : ℕ) → IsTrue (active_in nodes a) → next_in nodes a ≡ []
+  bare : (a : ℕ) → IsTrue (active_in nodes a) → next_of_node nodes a ≡ []
   bare a h = ap next_or_none (node_at a) ∙ go (slice_get es a) (sym (ap active_or_not (node_at a)) ∙ h)
     where
       go : (o : Option Entry) → active_or_not (option_map (node_of_entry es) o) ≡ true → next_or_none (option_map (node_of_entry es) o) ≡ []
@@ -131,7 +131,7 @@ module _ (same : (a b : Values) → IsTrue (is_same a b) ↔ (a ≡ b)) (chains 
   nothing_in : (b : ℕ) → Contains [] b → ⊥
   nothing_in b c = let within = c.1 in absurd (omega arith)
 
-  acyclic_nodes : list_any (is_cyclic es) es ≡ false → IsAcyclic (next_in nodes)
+  acyclic_nodes : list_any (is_cyclic es) es ≡ false → IsAcyclic (next_of_node nodes)
   acyclic_nodes none a b edge leads = go (slice_get es a) refl
     where
       go : (o : Option Entry) → slice_get es a ≡ o → ⊥
@@ -148,7 +148,7 @@ module _ (same : (a b : Values) → IsTrue (is_same a b) ↔ (a ≡ b)) (chains 
       let few = ltb-false MOST_ENDS (length (ends es e.0.name)) (none_at (is_wide es) es k e.0 none e.1) in
       omega (arith, few, same_width k e.0 e.1)
 
-  pub lawful_nodes : IsDictionary es → length es ≤ MOST_NODES → IsLawful nodes
+  pub lawful_nodes : IsDictionary es → length es ≤ MOST_NODES → IsLawfulGraph nodes
   lawful_nodes d few = record {
     few = omega (arith, few, count);
     closed = closed;

@@ -1,4 +1,4 @@
--- The entries that a planned change leaves: their names, their places and their ends.
+-- Lemmas: the entries after a planned change, with their names, places and ends.
 use Rattle.std.proofs.Common.{◌≡◌, ℕ, zero, suc, ◌+◌, ◌<◌, Bool, cond, List, [], ◌∷◌, map, filter, refl, sym, ap, subst, ◌∙◌, position, slice_get, slice_set, if◌then◌else◌}
 use Rattle.std.specs.Prelude.{Option, Some, None, option_map}
 use Rattle.std.specs.List.{cons_option, position_from}
@@ -18,14 +18,14 @@ use Rattle.cpe_dictionary.specs.Edits.{NamesStayDifferent}
 use Rattle.cpe_dictionary.specs.Faults.{AreDifferent}
 use Rattle.cpe_dictionary.specs.Numbers.{entries_at, node_of_entry, nodes_of_entries, ChangesByNumber, EndsByNumber, NodesAreMarked, NodesAreNumbered}
 use Rattle.cpe_dictionary.proofs.Numbering.{entry_at}
-use Rattle.cpe_dictionary.specs.Kept.{names_at, rewritten}
+use Rattle.cpe_dictionary.specs.Kept.{entry_names_at, rewritten}
 use Rattle.cpe_dictionary.specs.Plans.{PlansLead, ends_at}
 use Rattle.cpe_dictionary.specs.declared.plans.Plan.{Plan}
 use Rattle.cpe_dictionary.proofs.DictionaryLemmas.{ends_named, no_entry}
 use Rattle.cpe_dictionary.proofs.Translating.{nodes_rewritten, written_set}
 
 module _ (d : Option Deprecation) (note : Option Note) where
-  -- names stand where they stood
+  -- names keep their places
   place_set : (p : Values → Bool) (i : ℕ) (es : List Entry) (k : ℕ) (e : Entry) → slice_get es k ≡ Some e
       → position_from (λ (x : Entry). p x.name) i (slice_set es k (rewritten d note e)) ≡ position_from (λ (x : Entry). p x.name) i es
   place_set p i [] k e h = refl
@@ -40,14 +40,14 @@ module _ (d : Option Deprecation) (note : Option Note) where
   name_set (x ∷ xs) (suc j) zero e h = refl
   name_set (x ∷ xs) (suc j) (suc k) e h = name_set xs j k e h
 
-  first_name : (es : List Entry) (k : ℕ) (ks : List ℕ) → names_at es (k ∷ ks) ≡ cons_option (option_map (λ (x : Entry). x.name) (slice_get es k)) (names_at es ks)
+  first_name : (es : List Entry) (k : ℕ) (ks : List ℕ) → entry_names_at es (k ∷ ks) ≡ cons_option (option_map (λ (x : Entry). x.name) (slice_get es k)) (entry_names_at es ks)
   first_name es k ks = go (slice_get es k)
     where
-      go : (o : Option Entry) → map (λ (x : Entry). x.name) (cons_option o (entries_at es ks)) ≡ cons_option (option_map (λ (x : Entry). x.name) o) (names_at es ks)
+      go : (o : Option Entry) → map (λ (x : Entry). x.name) (cons_option o (entries_at es ks)) ≡ cons_option (option_map (λ (x : Entry). x.name) o) (entry_names_at es ks)
       go None = refl
       go (Some x) = refl
 
-  names_set : (es : List Entry) (j : ℕ) (e : Entry) → slice_get es j ≡ Some e → (ks : List ℕ) → names_at (slice_set es j (rewritten d note e)) ks ≡ names_at es ks
+  names_set : (es : List Entry) (j : ℕ) (e : Entry) → slice_get es j ≡ Some e → (ks : List ℕ) → entry_names_at (slice_set es j (rewritten d note e)) ks ≡ entry_names_at es ks
   names_set es j e h [] = refl
   names_set es j e h (k ∷ ks) =
       first_name (slice_set es j (rewritten d note e)) k ks
@@ -79,9 +79,9 @@ module _ (changes : ChangesByNumber) (differ : NamesStayDifferent) (by_number : 
       ∙ ap (λ (xs : List Entry). ends xs n) (sym is)
     where
       by_place : (es next : List Entry) (p : Plan) (n : Values) (k : ℕ) → position (is_named n) next ≡ position (is_named n) es → nodes_of_entries next ≡ changed_nodes (nodes_of_entries es) p.number p.next
-          → ((ks : List ℕ) → names_at next ks ≡ names_at es ks) → AreDifferent next → (o : Option ℕ) → position (is_named n) es ≡ o → option_map_or (ends_at es p) o (n ∷ []) ≡ ends next n
+          → ((ks : List ℕ) → entry_names_at next ks ≡ entry_names_at es ks) → AreDifferent next → (o : Option ℕ) → position (is_named n) es ≡ o → option_map_or (ends_at es p) o (n ∷ []) ≡ ends next n
       by_place es next p n k place nodes names different None at = sym (alone next n (place ∙ at))
       by_place es next p n k place nodes names different (Some j) at =
           sym (names (ends_in (changed_nodes (nodes_of_entries es) p.number p.next) j))
-          ∙ ap (λ (ns : List Node). names_at next (ends_in ns j)) (sym nodes)
+          ∙ ap (λ (ns : List Node). entry_names_at next (ends_in ns j)) (sym nodes)
           ∙ ends_named next n j (place ∙ at) different by_number are_numbered are_marked

@@ -18,5 +18,9 @@ pub mod LawfulNodes
 pub mod GivenLemmas
 pub mod GivenGraph
 pub mod GivenNumbers
-pub use Rattle.entries_in_order.proofs as entries_in_order
+pub mod KeptLemmas
+pub mod AtNumbers
+pub mod EntryLemmas
+pub mod GivenDetails
 pub use Rattle.deprecation_graph.proofs as deprecation_graph
+pub use Rattle.names_in_order.proofs as names_in_order

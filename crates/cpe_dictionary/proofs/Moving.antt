@@ -1,4 +1,4 @@
--- The nodes of entries after a change of one entry, and with one entry more.
+-- Lemmas: the nodes of entries after a change of one entry, and after the addition of an entry.
 use Rattle.std.proofs.Common.{◌≡◌, ◌⊎◌, inl, inr, ℕ, zero, suc, ◌+◌, Bool, true, false, cond, is_none, List, [], ◌∷◌, ◌++◌, map, refl, sym, ap, ◌∙◌, Option, Some, None, slice_get, slice_set}
 use Rattle.std.specs.List.{list_all, list_any, cons_option, position, position_from}
 use Rattle.std.specs.Option.{option_map_or}
@@ -16,7 +16,7 @@ use Rattle.cpe_rows.specs.declared.entry.Deprecation.{Deprecation}
 use Rattle.deprecation_graph.specs.Graph.{Node, node_of}
 use Rattle.cpe_dictionary.specs.Numbers.{numbers_of, node_of_entry, nodes_of_entries, ChangesByNumber, AdditionsByNumber}
 
--- ---- an entry in the place of another
+-- ---- an entry that replaces another
 
 place_set : (p : Entry → Bool) (i : ℕ) (es : List Entry) (k : ℕ) (x e : Entry) → slice_get es k ≡ Some e → p x ≡ p e → position_from p i (slice_set es k x) ≡ position_from p i es
 place_set p i [] k x e at h = absurd (none-some e at)
@@ -45,7 +45,7 @@ module _ (entries : List Entry) (k : ℕ) (e x : Entry) (at : slice_get entries 
 pub changes_law : ChangesByNumber
 changes_law entries k e x at same = nodes_set entries k e x at same
 
--- ---- an entry more
+-- ---- an entry is added
 
 place_push : (p : Entry → Bool) (i : ℕ) (es : List Entry) (x : Entry) → list_any p es ≡ true → position_from p i (es ++ x ∷ []) ≡ position_from p i es
 place_push p i [] x h = absurd cc

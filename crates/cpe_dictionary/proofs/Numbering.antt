@@ -1,23 +1,23 @@
--- Paths of entries are paths of their numbers, and so are chains and ends.
+-- Lemmas: paths, chains and ends of entries are those of the entries' numbers.
 use Rattle.std.proofs.Common.{◌≡◌, ℕ, zero, suc, ◌+◌, ◌<◌, Bool, true, false, cond, if◌then◌else◌, List, [], ◌∷◌, map, length, refl, sym, ap, subst, ◌∙◌, inl, inr, arith, Option, Some, None, slice_get, zero-add}
 use Rattle.std.specs.Cmp.{both_ways as both}
 use Rattle.std.specs.List.{Contains, filter, list_any, range_with_len, cons_option}
 use Rattle.std.proofs.lemmas.Option.{slice_get_within, same_Some, none-some}
 use Rattle.std.proofs.lemmas.Bool.{or_left, or_right, or_cases}
 use Rattle.cpe_rows.specs.Reach.{Among, is_reached, IsDecided}
-use Rattle.cpe_rows.specs.Reach.{Leads as Comes}
+use Rattle.cpe_rows.specs.Reach.{Leads as IsReached}
 use Rattle.cpe_rows.specs.Chains.{is_active, is_successor, chain, leads_to, ends}
 use Rattle.cpe_rows.specs.Rows.{is_named}
 use Rattle.cpe_rows.specs.declared.entry.Entry.{Entry}
 use Rattle.deprecation_graph.specs.Paths.{HasEdge, Leads}
-use Rattle.deprecation_graph.specs.Chains.{reaches, chain_of, ends_of}
+use Rattle.deprecation_graph.specs.Chains.{reaches, chain_of, ends_of_node}
 use Rattle.deprecation_graph.specs.Laws.{ChainsArePaths}
 use Rattle.std.proofs.lemmas.List.{length-map}
 use Rattle.deprecation_graph.proofs.Rising.{Contains-rest}
 use Rattle.deprecation_graph.proofs.PathLemmas.{Leads-self, Leads-then, Leads-forth, Leads-below}
-use Rattle.cpe_dictionary.specs.Numbers.{AreNumbered, AreMarked, entries_at}
+use Rattle.cpe_dictionary.specs.Numbers.{AreNumberedEntries, AreActiveEntries, entries_at}
 
--- ---- places
+-- ---- the place of an entry of the dictionary
 
 place_of : (entries : List Entry) (x : Entry) → Among entries x → (i : ℕ) × (slice_get entries i ≡ Some x)
 place_of [] x h = absurd h
@@ -34,7 +34,7 @@ entry_at [] i lt = absurd (omega arith)
 entry_at (y ∷ ys) zero lt = (y, refl)
 entry_at (y ∷ ys) (suc i) lt = entry_at ys i (omega arith)
 
--- ---- what passes a test, by numbers
+-- ---- entries that pass a test, by their numbers
 
 filter_at : (p : Entry → Bool) (q : ℕ → Bool) (all es : List Entry) (at : ℕ) → ((i : ℕ) → slice_get es i ≡ slice_get all (at + i)) → ((i : ℕ) (x : Entry) → slice_get es i ≡ Some x → p x ≡ q (at + i)) → filter p es ≡ entries_at all (filter q (range_with_len at (length es)))
 filter_at p q all [] at same agree = refl
@@ -56,7 +56,7 @@ filter_at p q all (x ∷ es) at same agree =
     go true false e here rest = absurd cc
     go false true e here rest = absurd cc
 
-pub filter_entries_at : (entries : List Entry) (active : ℕ → Bool) (ks : List ℕ) → AreMarked entries active → filter is_active (entries_at entries ks) ≡ entries_at entries (filter active ks)
+pub filter_entries_at : (entries : List Entry) (active : ℕ → Bool) (ks : List ℕ) → AreActiveEntries entries active → filter is_active (entries_at entries ks) ≡ entries_at entries (filter active ks)
 filter_entries_at entries active [] marked = refl
 filter_entries_at entries active (k ∷ ks) marked = go (slice_get entries k) refl (active k) refl (filter_entries_at entries active ks marked)
   where
@@ -68,21 +68,21 @@ filter_entries_at entries active (k ∷ ks) marked = go (slice_get entries k) re
         ∙ ap (λ (xs : List Entry). x ∷ xs) rest ∙ sym (ap (λ (o : Option Entry). cons_option o (entries_at entries (filter active ks))) e)
     go (Some x) e false f rest = ap (λ (b : Bool). cond b (x ∷ filter is_active (entries_at entries ks)) (filter is_active (entries_at entries ks))) (marked k x e ∙ f) ∙ rest
 
--- ---- paths
+-- ---- paths of entries, and paths of their numbers
 
-module _ (entries : List Entry) (next : ℕ → List ℕ) (k : ℕ) (e : Entry) (ok : AreNumbered entries next) (is : slice_get entries k ≡ Some e) (itself : is_named e.name e ≡ true) where
-  to_numbers : (before : List Entry) (j : ℕ) (y : Entry) → slice_get entries j ≡ Some y → Comes is_successor entries (is_named e.name) before y → Leads next k j
+module _ (entries : List Entry) (next : ℕ → List ℕ) (k : ℕ) (e : Entry) (ok : AreNumberedEntries entries next) (is : slice_get entries k ≡ Some e) (itself : is_named e.name e ≡ true) where
+  to_numbers : (before : List Entry) (j : ℕ) (y : Entry) → slice_get entries j ≡ Some y → IsReached is_successor entries (is_named e.name) before y → Leads next k j
   to_numbers [] j y here start = subst (Leads next k) (ok.apart k j e y is here start) (Leads-self k)
   to_numbers (x ∷ before) j y here l =
       let p = place_of entries x l.0 in
       Leads-then (to_numbers before p.0 x p.1 l.2) ((ok.edges p.0 j x y p.1 here).0 l.1)
 
-  -- the entry of a number, and a path that leads to it
+  -- number j has an entry, and a path leads to this entry
   record Arrives (j : ℕ) : Type 0 where
     entry : Entry
     here : slice_get entries j ≡ Some entry
     before : List Entry
-    path : Comes is_successor entries (is_named e.name) before entry
+    path : IsReached is_successor entries (is_named e.name) before entry
 
   to_rows : (j : ℕ) → Leads next k j → Arrives j
   to_rows j l = Leads-forth Arrives step l (record { entry = e; here = is; before = []; path = itself })
@@ -105,8 +105,8 @@ module _ (entries : List Entry) (next : ℕ → List ℕ) (k : ℕ) (e : Entry) 
       (λ t. let p = d.0 t in r.1 (to_numbers p.0 j y here p.1))
       (λ t. arrive y here (to_rows j (r.0 t)) d.1)
     where
-      arrive : (z : Entry) → slice_get entries j ≡ Some z → Arrives j → ((before : List Entry) → Comes is_successor entries (is_named e.name) before z → is_reached is_successor entries (is_named e.name) z ≡ true) → is_reached is_successor entries (is_named e.name) z ≡ true
-      arrive z at h found = found h.before (subst (Comes is_successor entries (is_named e.name) h.before) (same_Some h.entry z (sym h.here ∙ at)) h.path)
+      arrive : (z : Entry) → slice_get entries j ≡ Some z → Arrives j → ((before : List Entry) → IsReached is_successor entries (is_named e.name) before z → is_reached is_successor entries (is_named e.name) z ≡ true) → is_reached is_successor entries (is_named e.name) z ≡ true
+      arrive z at h found = found h.before (subst (IsReached is_successor entries (is_named e.name) h.before) (same_Some h.entry z (sym h.here ∙ at)) h.path)
 
   pub chain_by_number : IsDecided is_successor entries (is_named e.name) → ChainsArePaths → chain entries e.name ≡ entries_at entries (chain_of next (length entries) k)
   unfolding chain_of
@@ -117,13 +117,13 @@ module _ (entries : List Entry) (next : ℕ → List ℕ) (k : ℕ) (e : Entry) 
   named (y ∷ ys) zero h = or_left (is_named e.name y) (list_any (is_named e.name) ys) (ap (is_named e.name) (same_Some y e h) ∙ itself)
   named (y ∷ ys) (suc i) h = or_right (is_named e.name y) (list_any (is_named e.name) ys) (named ys i h)
 
-  pub ends_by_number : (active : ℕ → Bool) → AreMarked entries active → IsDecided is_successor entries (is_named e.name) → ChainsArePaths → ends entries e.name ≡ map (λ x. x.name) (entries_at entries (ends_of next active (length entries) k))
+  pub ends_by_number : (active : ℕ → Bool) → AreActiveEntries entries active → IsDecided is_successor entries (is_named e.name) → ChainsArePaths → ends entries e.name ≡ map (λ x. x.name) (entries_at entries (ends_of_node next active (length entries) k))
   ends_by_number active marked decided paths =
       ap (λ (b : Bool). if b then map (λ (x : Entry). x.name) (filter is_active (chain entries e.name)) else e.name ∷ []) (named entries k is)
       ∙ ap (λ (xs : List Entry). map (λ (x : Entry). x.name) (filter is_active xs)) (chain_by_number decided paths)
       ∙ ap (map (λ (x : Entry). x.name)) (filter_entries_at entries active (chain_of next (length entries) k) marked)
 
-  -- each number of the chain has its entry
+  -- each number of the list has an entry
   length_at : (ks : List ℕ) → ((x : ℕ) → Contains ks x → x < length entries) → length (entries_at entries ks) ≡ length ks
   length_at [] below = refl
   length_at (x ∷ xs) below =
@@ -131,11 +131,11 @@ module _ (entries : List Entry) (next : ℕ → List ℕ) (k : ℕ) (e : Entry) 
       let rest = length_at xs (λ y c. below y (Contains-rest y x xs c)) in
       ap (λ (o : Option Entry). length (cons_option o (entries_at entries xs))) there.1 ∙ ap suc rest
 
-  pub widths_by_number : (active : ℕ → Bool) → AreMarked entries active → IsDecided is_successor entries (is_named e.name) → ChainsArePaths → length (ends entries e.name) ≡ length (ends_of next active (length entries) k)
+  pub widths_by_number : (active : ℕ → Bool) → AreActiveEntries entries active → IsDecided is_successor entries (is_named e.name) → ChainsArePaths → length (ends entries e.name) ≡ length (ends_of_node next active (length entries) k)
   widths_by_number active marked decided paths =
       let within = slice_get_within entries k e is in
       let members = (paths next active (length entries) k ok.closed within).ends.members in
-      let numbers = ends_of next active (length entries) k in
+      let numbers = ends_of_node next active (length entries) k in
       ap length (ends_by_number active marked decided paths)
       ∙ length-map (entries_at entries numbers) (λ (x : Entry). x.name)
       ∙ length_at numbers (λ x c. Leads-below ok.closed within ((members x).0 c).0)

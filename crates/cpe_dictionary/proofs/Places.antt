@@ -1,4 +1,4 @@
--- The place of a name, the entry there, and the numbers of names.
+-- Lemmas: the place of a name, the entry at this place, and the numbers of names.
 use Rattle.std.proofs.Common.{◌≡◌, ℕ, suc, ◌+◌, ◌<◌, Bool, true, false, cond, ◌||◌, List, [], ◌∷◌, length, inl, inr, refl, sym, ap, ◌∙◌, arith, Option, Some, None, slice_get}
 use Rattle.std.specs.List.{Contains, cons_option, list_any, position, position_from}
 use Rattle.std.proofs.lemmas.Option.{same_Some, none-some, slice_get_within}

@@ -1,4 +1,4 @@
--- Plans of deprecations: why they are refused.
+-- Lemmas: the causes to refuse a plan of a deprecation.
 use Rattle.std.proofs.Common.{◌≡◌, ℕ, zero, suc, ◌+◌, Bool, true, false, cond, not, List, [], ◌∷◌, ◌++◌, refl, sym, ap, ◌∙◌, arith, zero-add, position, slice_get, find}
 use Rattle.std.specs.Prelude.{Option, Some, None, is_some, option_map}
 use Rattle.std.specs.List.{position_from}
@@ -15,7 +15,7 @@ use Rattle.cpe_rows.specs.declared.entry.Entry.{Entry}
 use Rattle.cpe_rows.specs.declared.fault.EditFault.{EditFault}
 use Rattle.cpe_rows.specs.declared.fault.EditFault.TheVariants as fault
 use Rattle.cpe_dictionary.specs.Causes.{state_causes}
-use Rattle.cpe_dictionary.specs.Kept.{rows_of}
+use Rattle.cpe_dictionary.specs.Kept.{rows_of_entries}
 use Rattle.cpe_rows.proofs.CauseLemmas.{first_behind, first_before, cause_moves}
 use Rattle.cpe_dictionary.proofs.DictionaryLemmas.{no_entry}
 use Rattle.cpe_rows.proofs.Lists.{has_place}
@@ -48,28 +48,28 @@ pub entry_found : (es : List Entry) (n : Values) (k : ℕ) → position (is_name
 entry_found es n k place = found_from (is_named n) 0 es k (sym (position_from-zero (is_named n) es) ∙ place ∙ ap Some (sym (zero-add k)))
 
 -- whether the entry of a number is deprecated
-pub state_known : (es : List Entry) (n : Values) (k : ℕ) (active : Bool) → position (is_named n) es ≡ Some k → option_map is_active (slice_get es k) ≡ Some active → is_deprecated (rows_of es) n ≡ not active
+pub state_known : (es : List Entry) (n : Values) (k : ℕ) (active : Bool) → position (is_named n) es ≡ Some k → option_map is_active (slice_get es k) ≡ Some active → is_deprecated (rows_of_entries es) n ≡ not active
 state_known es n k active place state = ap (λ (o : Option Entry). option_map_or (λ (e : Entry). not (is_active e)) o false) (entry_found es n k place) ∙ go (slice_get es k) state
   where
     go : (o : Option Entry) → option_map is_active o ≡ Some active → option_map_or (λ (e : Entry). not (is_active e)) o false ≡ not active
     go None h = absurd (none-some active h)
     go (Some e) h = ap not (same_Some (is_active e) active h)
 
-entry_known : (es : List Entry) (n : Values) (k : ℕ) → position (is_named n) es ≡ Some k → is_entry (rows_of es) n ≡ true
+entry_known : (es : List Entry) (n : Values) (k : ℕ) → position (is_named n) es ≡ Some k → is_entry (rows_of_entries es) n ≡ true
 entry_known es n k place = sym (has_place (is_named n) es) ∙ ap is_some place
 
 pub unknown_first : (es : List Entry) (n : Values) (wanted : Bool) → position (is_named n) es ≡ None → first_some (state_causes es n wanted) ≡ Some fault.Unknown
 unknown_first es n wanted h = ap (λ (b : Bool). first_some (when (not b) fault.Unknown ∷ state wanted ∷ [])) (no_entry es n h)
   where
     state : Bool → Option EditFault
-    state b = cond b (when (is_deprecated (rows_of es) n) fault.AlreadyDeprecated) (when (not (is_deprecated (rows_of es) n)) fault.NotDeprecated)
+    state b = cond b (when (is_deprecated (rows_of_entries es) n) fault.AlreadyDeprecated) (when (not (is_deprecated (rows_of_entries es) n)) fault.NotDeprecated)
 
--- the cause of a state, of an entry that is known
+-- the first fault of the state of an entry that exists
 pub state_first : (es : List Entry) (n : Values) (k : ℕ) (wanted : Bool) → position (is_named n) es ≡ Some k
-    → first_some (state_causes es n wanted) ≡ first_some (cond wanted (when (is_deprecated (rows_of es) n) fault.AlreadyDeprecated) (when (not (is_deprecated (rows_of es) n)) fault.NotDeprecated) ∷ [])
-state_first es n k wanted place = ap (λ (b : Bool). first_some (when (not b) fault.Unknown ∷ cond wanted (when (is_deprecated (rows_of es) n) fault.AlreadyDeprecated) (when (not (is_deprecated (rows_of es) n)) fault.NotDeprecated) ∷ [])) (entry_known es n k place)
+    → first_some (state_causes es n wanted) ≡ first_some (cond wanted (when (is_deprecated (rows_of_entries es) n) fault.AlreadyDeprecated) (when (not (is_deprecated (rows_of_entries es) n)) fault.NotDeprecated) ∷ [])
+state_first es n k wanted place = ap (λ (b : Bool). first_some (when (not b) fault.Unknown ∷ cond wanted (when (is_deprecated (rows_of_entries es) n) fault.AlreadyDeprecated) (when (not (is_deprecated (rows_of_entries es) n)) fault.NotDeprecated) ∷ [])) (entry_known es n k place)
 
--- the cause of a state, by whether the entry is active
+-- the first fault of the state of an entry, if it is known whether the entry is active
 pub state_is : (es : List Entry) (n : Values) (k : ℕ) (wanted active : Bool) → position (is_named n) es ≡ Some k → option_map is_active (slice_get es k) ≡ Some active
     → first_some (state_causes es n wanted) ≡ cond wanted (when (not active) fault.AlreadyDeprecated) (when active fault.NotDeprecated)
 state_is es n k wanted active place state =

@@ -1,4 +1,4 @@
--- Going over successors: the first that is unknown, and the first number that stands earlier too.
+-- Lemmas about reading successors in order: finding the first unknown successor, and the first repeated number.
 use Rattle.std.proofs.Common.{◌≡◌, ℕ, ◌+◌, ◌<◌, Bool, true, false, cond, eqb, not, ◌||◌, if◌then◌else◌, List, [], ◌∷◌, ◌++◌, length, take, drop, get_or, refl, sym, ap, ◌∙◌, append_assoc, position, eq-eqb, arith, ◌≤◌}
 use Rattle.std.specs.Cmp.{both_ways as both}
 use Rattle.std.specs.Prelude.{Option, Some, None, is_some, option_map}
@@ -14,9 +14,9 @@ use Rattle.cpe_rows.specs.Rows.{is_named}
 use Rattle.cpe_rows.specs.declared.entry.Entry.{Entry}
 use Rattle.cpe_rows.proofs.Lists.{has_place}
 use Rattle.cpe_dictionary.specs.Numbers.{numbers_of}
-use Rattle.entries_in_order.proofs.names_in_order.Rows.{item_first}
+use Rattle.cpe_dictionary.proofs.names_in_order.Rows.{item_first}
 
--- ---- numbers that were seen
+-- ---- numbers that were already read
 
 turned : (a b : ℕ) → eqb a b ≡ eqb b a
 turned a b = both (eqb a b) (eqb b a) (λ h. eq-eqb b a (sym (eqb-true a b h))) (λ h. eq-eqb a b (sym (eqb-true b a h)))
@@ -25,7 +25,7 @@ pub any_turned : (x : ℕ) (xs : List ℕ) → list_any (λ y. eqb y x) xs ≡ l
 any_turned x [] = refl
 any_turned x (y ∷ ys) = λ i. turned y x i || any_turned x ys i
 
--- the same numbers were seen
+-- the two lists have the same numbers
 AreAlike : List ℕ → List ℕ → Type 0
 AreAlike seen more = (x : ℕ) → list_any (eqb x) seen ≡ list_any (eqb x) more
 
@@ -52,7 +52,7 @@ module _ (xs : List ℕ) (i d : ℕ) (lt : i < length xs) where
   repeated_behind k h =
       at_item k ∙ ap (λ (b : Bool). if b then Some k else repeated_from eqb (take (i + 1) xs) (k + 1) (drop (i + 1) xs)) (sym (any_turned (get_or xs i d) (take i xs)) ∙ h)
 
--- ---- names that are unknown
+-- ---- unknown names
 
 -- whether no entry has the name
 abbrev pub is_unknown : List Entry → Values → Bool
@@ -61,7 +61,7 @@ is_unknown es n = not (list_any (is_named n) es)
 pub place_from_start : (es : List Entry) (ns : List Values) → place_of (is_unknown es) ns ≡ option_map (λ k. k + 1) (position_from (is_unknown es) 0 ns)
 place_from_start es ns = ap (option_map (λ k. k + 1)) (position_from-zero (is_unknown es) ns)
 
--- a place that is counted on from i is no less
+-- a place that is counted from i is at least i
 pub position_past : (p : Entry → Bool) (i : ℕ) (es : List Entry) (k : ℕ) → position_from p i es ≡ Some k → i ≤ k
 position_past p i [] k h = absurd (none-some k h)
 position_past p i (e ∷ es) k h = go (p e) h (position_past p (i + 1) es k)

@@ -1,4 +1,4 @@
--- What a change of one entry's deprecation does, and why it is refused, by numbers.
+-- The edit of an entry's deprecation and its faults, by the numbers of entries.
 use Rattle.std.specs.Prelude.{◌≡◌, ℕ, ◌*◌, ◌<◌, ◌≤◌, List, [], true, length, find, nat_eq, position, Some, None, option_and_then, slice_get, slice_set}
 use Rattle.std.specs.List.{Contains, IsDistinct, list_any, list_all}
 use Rattle.cpe_rows.specs.cpe_name.Eleven.{Values}
@@ -15,21 +15,21 @@ use Rattle.deprecation_graph.specs.Graph.{edge_count}
 use Rattle.deprecation_graph.specs.Faults.{cycle_in, wide_in}
 use Rattle.cpe_dictionary.specs.Numbers.{numbers_of, nodes_of_entries}
 
--- no two entries have one name
+-- no two entries have the same name
 abbrev pub AreDifferent : List Entry → Type 0
 AreDifferent entries = are_different (λ e. is_named e.name) entries ≡ true
 
--- each of these names is that of an entry
+-- each name is that of an entry
 abbrev pub AreEntries : List Entry → List Values → Type 0
 AreEntries entries ns = list_all (λ n. list_any (is_named n) entries) ns ≡ true
 
--- the entry of a name is changed in its place
+-- a change of the entry of a name replaces the entry at the name's place
 abbrev pub WritesByNumber : Type 0
 WritesByNumber =
     (entries : List Entry) (f : Entry → Entry) (n : Values) (k : ℕ) (e : Entry) → position (is_named n) entries ≡ Some k → slice_get entries k ≡ Some e
     → changed f n entries ≡ slice_set entries k (f e)
 
--- each name has a number, which is that of an entry
+-- each name has a number, and each number is that of an entry
 pub record HaveNumbers (entries : List Entry) (ns : List Values) : Type 0 where
   pub each : length (numbers_of entries ns) ≡ length ns
   pub within : (k : ℕ) → Contains (numbers_of entries ns) k → k < length entries
@@ -37,7 +37,7 @@ pub record HaveNumbers (entries : List Entry) (ns : List Values) : Type 0 where
 abbrev pub NamesHaveNumbers : Type 0
 NamesHaveNumbers = (entries : List Entry) (ns : List Values) → AreEntries entries ns → HaveNumbers entries ns
 
--- the name that stands earlier too, and where there is none, numbers that are all different
+-- the first repeated name is at the place of the first repeated number
 abbrev pub RepeatsByNumber : Type 0
 RepeatsByNumber =
     (entries : List Entry) (ns : List Values) → AreEntries entries ns
@@ -46,16 +46,16 @@ RepeatsByNumber =
 abbrev pub DifferentByNumber : Type 0
 DifferentByNumber = (ks : List ℕ) → repeated_from nat_eq [] 1 ks ≡ None → IsDistinct nat_eq ks
 
--- the successor from which a path leads to the entry
+-- the first successor that leads to the entry is at the place of the first number that leads to the entry's number
 abbrev pub CyclesByNumber : Type 0
 CyclesByNumber =
     (entries : List Entry) (k : ℕ) (e : Entry) (ns : List Values) → AreDifferent entries → slice_get entries k ≡ Some e → AreEntries entries ns
     → place_of (λ s. leads_to entries s e.name) ns ≡ cycle_in (nodes_of_entries entries) k (numbers_of entries ns)
 
--- the first entry with too many ends
+-- the first entry with too many ends has the number of the least node with too many ends
 abbrev pub WidthByNumber : Type 0
 WidthByNumber = (entries : List Entry) → AreDifferent entries → find (is_wide entries) entries ≡ option_and_then (slice_get entries) (wide_in (nodes_of_entries entries))
 
--- there are few edges, where deprecations have few successors
+-- if no deprecation has too many successors, there are at most `MOST_SUCCESSORS` edges for each entry
 abbrev pub EdgesAreFew : Type 0
 EdgesAreFew = (entries : List Entry) → list_all has_count entries ≡ true → edge_count (nodes_of_entries entries) ≤ MOST_SUCCESSORS * length entries

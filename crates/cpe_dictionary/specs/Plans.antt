@@ -1,4 +1,4 @@
--- Changes of deprecations that are planned before they are made.
+-- Planned changes of deprecations.
 use Rattle.std.specs.Prelude.{◌≡◌, ◌∷◌, [], ℕ, List, Option, Some, None, length, not, option_map, position, true}
 use Rattle.std.specs.List.{list_any}
 use Rattle.std.specs.Option.{option_map_or}
@@ -14,45 +14,45 @@ use Rattle.deprecation_graph.specs.Faults.{change_fault}
 use Rattle.deprecation_graph.specs.Graph.{IsChange, changed_nodes, ends_in}
 use Rattle.cpe_dictionary.specs.Faults.{AreDifferent, AreEntries}
 use Rattle.cpe_dictionary.specs.Numbers.{nodes_of_entries, numbers_of}
-use Rattle.cpe_dictionary.specs.Kept.{names_at, rewritten, written}
+use Rattle.cpe_dictionary.specs.Kept.{entry_names_at, rewritten, written}
 use Rattle.cpe_dictionary.specs.declared.plans.Plan.{Plan}
 
--- successors for which the graph may be asked
-pub record AreAsked (es : List Entry) (d : Deprecation) (ks : List ℕ) : Type 0 where
+-- the numbers of a deprecation's successors, in a form that the graph can check
+pub record AreSuccessors (es : List Entry) (d : Deprecation) (ks : List ℕ) : Type 0 where
   pub count : is_count d.kind (length d.successors) ≡ true
   pub known : place_of (λ n. not (list_any (is_named n) es)) d.successors ≡ None
   pub entries : AreEntries es d.successors
   pub apart : repeated_from is_same [] 1 d.successors ≡ None
   pub numbers : ks ≡ numbers_of es d.successors
 
--- the entry of this number may have successors of these numbers
+-- the graph allows the change of the entry of this number to these successors
 pub record IsAllowed (es : List Entry) (k : ℕ) (next : Option (List ℕ)) : Type 0 where
   pub change : IsChange (nodes_of_entries es) k next
   pub no_fault : change_fault (nodes_of_entries es) k next ≡ None
 
--- the numbers of the successors
-abbrev pub numbered : List Entry → Option Deprecation → Option (List ℕ)
-numbered es d = option_map (λ x. numbers_of es x.successors) d
+-- the numbers of the successors of a deprecation, if there is one
+abbrev pub numbered_successors : List Entry → Option Deprecation → Option (List ℕ)
+numbered_successors es d = option_map (λ x. numbers_of es x.successors) d
 
--- a change that gives the entry of this name the deprecation, or none, and that is allowed
+-- a plan to give the entry of this name the deprecation, or none; the graph allows it
 pub record IsPlan (es : List Entry) (n : Values) (d : Option Deprecation) (p : Plan) : Type 0 where
   pub place : position (is_named n) es ≡ Some p.number
-  pub next : p.next ≡ numbered es d
+  pub next : p.next ≡ numbered_successors es d
   pub allowed : IsAllowed es p.number p.next
 
--- entries that the planned change leaves, by the deprecation and the note, or none, that it is made with
+-- the entries after the planned change, which is made with some deprecation or none, and with some note or none
 pub record AreLeftBy (es : List Entry) (p : Plan) (left : List Entry) : Type 0 where
   pub deprecation : Option Deprecation
   pub note : Option Note
-  pub next : p.next ≡ numbered es deprecation
+  pub next : p.next ≡ numbered_successors es deprecation
   pub written : left ≡ written (rewritten deprecation note) p.number es
 
--- the ends that the entry of a number would have
+-- the ends that the entry of this number would have after the planned change
 abbrev pub ends_at : List Entry → Plan → ℕ → List Values
-ends_at es p k = names_at es (ends_in (changed_nodes (nodes_of_entries es) p.number p.next) k)
+ends_at es p k = entry_names_at es (ends_in (changed_nodes (nodes_of_entries es) p.number p.next) k)
 
--- The ends of a name as the planned change would leave them, or as they are where none is planned; that they are those of the
--- entries that the change leaves is the law `plans_lead`.
+-- The ends of a name after the planned change, or its present ends if no change is planned. The law `plans_lead` says
+-- that these are its ends among the entries after the change.
 abbrev pub ends_by : List Entry → Option Plan → Values → List Values
 ends_by es None n = ends es n
 ends_by es (Some p) n = option_map_or (ends_at es p) (position (is_named n) es) (n ∷ [])

@@ -1,4 +1,4 @@
-// Why an entry can't be added.
+// The causes to refuse a new entry.
 ghost use Rattle.std.specs.Prelude.{◌≡◌, position};
 ghost use Rattle.cpe_rows.specs.Causes.{entry_causes};
 ghost use Rattle.cpe_rows.specs.Prelude.{first_some, is_named};
@@ -8,8 +8,8 @@ use crate::dictionary::Dictionary;
 use cpe_rows::{EditFault, Wfn, Which, has_wildcards, is_identifier};
 
 impl Dictionary<'_> {
-    /// The first fault of an entry of this name that is to be added, but for the weight; the number is that of the entry that has the
-    /// name already, if there is one. It takes no memory.
+    /// The first fault of a new entry that has this name, apart from the weight. If an entry already has the name,
+    /// `number` is the number of that entry. Allocates: no.
     pub fn entry_fault(&self, name: &Wfn, number: Option<u32>) -> Option<EditFault>
         requires { number ≡ position (is_named name.now) self.now }
         ensures { (entry : Entry) → entry.name ≡ name.now → result ≡ first_some (entry_causes self.now entry) }

@@ -4,8 +4,9 @@ ghost use Rattle.cpe_dictionary.specs.Answers.{ChainsOfNodes, EndsOfNodes};
 ghost use Rattle.cpe_dictionary.specs.Edits.{KnownAreEntries, EditsAreChanges, NamesStayDifferent, WidthAfterByNumber};
 ghost use Rattle.cpe_dictionary.specs.Faults.{WritesByNumber, NamesHaveNumbers, EdgesAreFew, RepeatsByNumber, DifferentByNumber, CyclesByNumber, WidthByNumber};
 
-/// The chain of an entry is the entries at the chain of its number, and its ends are the names of those at the ends of its
-/// number, as many as these. A path leads from one entry to another exactly where one leads from number to number.
+/// Law: the chain of an entry has the entries whose numbers are in the chain of its number. Its ends are the names of
+/// the entries whose numbers are the ends of its number, and are equally many. A path leads from one entry to another
+/// exactly if a path leads from the number of the first to that of the second.
 pub fn chains_by_number()
     ensures chains { ChainsByNumber }
     ensures ends { EndsByNumber }
@@ -17,8 +18,8 @@ pub fn chains_by_number()
     deprecation_graph::law::chains_are_paths();
 }
 
-/// Entries with different names are numbered by the nodes that are made of them: each is active where its entry is, and has the
-/// numbers of its entry's successors.
+/// Law: if all entries have different names, the nodes that are made of them have their numbers. A node is active
+/// exactly if its entry is, and has the numbers of its entry's successors.
 pub fn entries_are_numbered()
     ensures numbered { NodesAreNumbered }
     ensures marked { NodesAreMarked }
@@ -26,15 +27,15 @@ pub fn entries_are_numbered()
     cpe_rows::law::names_are_equal();
 }
 
-/// An entry that is written in the place of one of its name changes its own node alone, and an active entry that comes last is a
-/// node more.
+/// Law: if an entry is replaced by one of the same name, only its own node changes. If an active entry is added at the
+/// end, a node is added.
 pub fn changes_by_number()
     ensures changes { ChangesByNumber }
     ensures additions { AdditionsByNumber }
 {}
 
-/// Where names differ, the chain of an entry is the entries at the chain of its node, and its ends are the names of the active
-/// ones of these.
+/// Law: if all names are different, the chain of an entry has the entries that are in the chain of its node. Its ends
+/// are the names of the active entries of this chain.
 pub fn answers_by_number()
     ensures chains { ChainsOfNodes }
     ensures ends { EndsOfNodes }
@@ -43,17 +44,18 @@ pub fn answers_by_number()
     entries_are_numbered();
 }
 
-/// A change of the entry of a name writes at that entry's number. Names of entries have as many numbers, each that of an entry.
-/// Where no deprecation has more successors than it may, there are at most `MOST_SUCCESSORS` edges for each entry.
+/// Law: a change of the entry of a name replaces the entry at the name's place. If all given names have entries, there
+/// are as many numbers as names, and each number is that of an entry. If no deprecation has too many successors, there
+/// are at most `MOST_SUCCESSORS` edges for each entry.
 pub fn edits_by_number()
     ensures writes { WritesByNumber }
     ensures numbers { NamesHaveNumbers }
     ensures edges { EdgesAreFew }
 {}
 
-/// A successor is repeated exactly where its number is, and numbers of which none is repeated are all different. The first
-/// successor from which a path leads to the entry has the first such number, and the first entry with too many ends is that of the
-/// least such node.
+/// Law: a successor is repeated exactly if its number is. If no number is repeated, all numbers are different. The
+/// first successor that leads to the entry has the first number that leads to the entry's number. The first entry with
+/// too many ends has the number of the least node with too many ends.
 pub fn faults_by_number()
     ensures repeats { RepeatsByNumber }
     ensures different { DifferentByNumber }
@@ -65,9 +67,10 @@ pub fn faults_by_number()
     entries_are_numbered();
 }
 
-/// An edit of an entry's deprecation is a change of its node. Successors of which none is unknown are entries, and where they are
-/// also as many as their kind allows and none is repeated, the graph may be asked for the change. Names differ after it, and the
-/// first entry that would then have too many ends is that of the least node that would.
+/// Law: an edit of an entry's deprecation is a change of its node. If no successor is unknown, all successors are
+/// entries. If they are also as many as their kind allows, and none is repeated, the graph can check the change. If all
+/// names are different before the edit, they are different after it. The first entry that would have too many ends is
+/// the least node that would have too many.
 pub fn edits_are_changes()
     ensures known { KnownAreEntries }
     ensures changes { EditsAreChanges }

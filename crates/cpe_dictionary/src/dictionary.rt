@@ -6,26 +6,27 @@ ghost use Rattle.deprecation_graph.specs.Faults.{change_fault};
 ghost use Rattle.deprecation_graph.specs.Graph.{IsChange};
 ghost use Rattle.cpe_dictionary.specs.Numbers.{entries_at, nodes_of_entries};
 ghost use Rattle.cpe_dictionary.specs.Causes.{named_fault};
-ghost use Rattle.entries_in_order.specs.names_in_order.Prelude.{IsLower, near_count, StepsWithin};
-ghost use Rattle.cpe_dictionary.specs.Kept.{IsKept, names_of};
+ghost use Rattle.cpe_dictionary.specs.names_in_order.Prelude.{IsLower, near_count, StepsWithin};
+ghost use Rattle.cpe_dictionary.specs.Kept.{IsDictionaryGraph, names_of_entries};
 
+use crate::at_numbers::{active_names_at, rows_at};
 use crate::by_number::answers_by_number;
+use crate::entries::Entries;
 use cpe_rows::{
     BoxedName, Deprecation, EditFault, Entry, List, MOST_ENTRIES, Memory, Note, Row, State, Wfn,
     Which,
 };
 use deprecation_graph::{DeprecationGraph, GraphFault};
-use entries_in_order::{Entries, active_names_at, rows_at};
 use name_index::Steps;
 use std::alloc::Global;
 use std::marker::Model;
 use std::sync::ledger::Ledger;
 
-/// The entries of a dictionary, beside the table of their names: [`KeptDictionary::with`] lends them. Contracts see them as the list of
-/// the entries in their order.
+/// The entries of a dictionary, read with the table of their names. [`KeptDictionary::with`] returns it. Contracts see
+/// the list of the entries in their order.
 ///
-/// They are found by the hashes of their names, by their numbers and by their products. Their deprecations are kept a second time by
-/// numbers: node k of the graph is entry k.
+/// An entry is found by the hash of its name, by its number or by its product. Its number is its place in the order,
+/// from 0. Deprecations are also stored as a graph: node k of the graph is entry k.
 #[derive(Drop)]
 pub struct Dictionary<'t> {
     alloc: Global,
@@ -36,23 +37,23 @@ pub struct Dictionary<'t> {
 impl<'t> Model for Dictionary<'t> {
     ghost use Rattle.std.specs.Prelude.{List};
     ghost use Rattle.cpe_rows.specs.declared.entry.Entry.{Entry};
-    ghost use Rattle.cpe_dictionary.specs.Kept.{IsKept};
+    ghost use Rattle.cpe_dictionary.specs.Kept.{IsDictionaryGraph};
 
     ghost Value = { List Entry };
 
     ghost view = { λ d. d.entries };
 
-    ghost invariant = { λ d. IsKept d.entries d.graph.now.nodes };
+    ghost invariant = { λ d. IsDictionaryGraph d.entries d.graph.now.nodes };
 }
 
 impl<'t> Dictionary<'t> {
-    /// These entries, of which node k of the graph is entry k.
+    /// A dictionary of these entries. Node k of the graph has to be entry k.
     pub(crate) fn new(
         alloc: Global,
         entries: Entries<'t>,
         graph: &'t DeprecationGraph,
     ) -> Dictionary<'t>
-        requires { IsKept entries graph.now.nodes }
+        requires { IsDictionaryGraph entries graph.now.nodes }
         ensures { result ≡ entries.entry }
     {
         Dictionary {
@@ -64,12 +65,12 @@ impl<'t> Dictionary<'t> {
 }
 
 impl Dictionary<'_> {
-    /// Where its memory comes from.
+    /// The allocator.
     pub(crate) fn memory(&self) -> Global {
         self.alloc
     }
 
-    /// What is so of every dictionary. It does nothing, and tells a proof so.
+    /// Law: the entries of each dictionary are lawful, and within their limit.
     pub fn lawful(&self)
         ensures lawful { IsDictionary self.now }
         ensures few { length self.now ≤ most Which.Entries }
@@ -77,7 +78,7 @@ impl Dictionary<'_> {
         let _entries = &self.entries;
     }
 
-    /// Whether there would be too many entries with one more.
+    /// Whether a further entry would exceed the limit.
     pub(crate) fn is_full(&self) -> bool
         ensures { result ≡ nat_lt (most Which.Entries) (length self.now + 1) }
     {
@@ -91,7 +92,7 @@ impl Dictionary<'_> {
         self.entries.has(name)
     }
 
-    /// The number of the entry of this name, from 0 in their order.
+    /// The number of the entry of this name: its place, from 0.
     pub fn number_of(&self, name: &Wfn) -> Option<u32>
         ensures { result ≡ position (is_named name.now) self.now }
     {
@@ -109,49 +110,50 @@ impl Dictionary<'_> {
         self.entries.is_active(number as usize)
     }
 
-    /// Whether the entry of this name is active, or by which kind it is deprecated.
+    /// The state of the entry of this name: active, or deprecated by a kind.
     pub fn state_of(&self, name: &Wfn) -> Option<State>
         ensures { result ≡ option_map state_of (find (is_named name.now) self.now) }
     {
         self.entries.state_of(name)
     }
 
-    /// The deprecation of the entry of a number, if it has one.
+    /// The deprecation of the entry of this number, if it has one.
     pub fn deprecation_at(&self, number: u32) -> Option<&Deprecation>
         ensures { option_copied result ≡ option_and_then (λ e. e.deprecation) (slice_get self.now number) }
     {
         self.entries.deprecation_at(number as usize)
     }
 
-    /// How many entries there are.
+    /// The number of entries.
     pub fn len(&self) -> usize
         ensures { result ≡ length self.now }
     {
         self.entries.len()
     }
 
-    /// How many of them are deprecated. It goes over all of them.
+    /// The number of deprecated entries. The function reads all entries.
     pub fn count_deprecated(&self) -> usize
         ensures { result ≡ length (filter (λ e. not (is_active e)) self.now) }
     {
         self.entries.count_deprecated()
     }
 
-    /// A copy of the entry of this name.
+    /// A copy of the entry of this name, if there is one.
     ///
     /// # Errors
-    /// Only that memory ran out.
+    /// [`Memory`] if memory runs out.
     pub fn entry_of(&self, alloc: Global, name: &Wfn) -> Result<Option<Entry>, Memory>
         ensures { IfOk result (λ e. e ≡ find (is_named name.now) self.now) }
     {
         self.entries.entry_of(alloc, name)
     }
 
-    /// The entries that a name in lower case covers, in order; where asked, the active ones alone. A step is a look at the name of an
-    /// entry: it looks at most once at each to whose product that of the asked name is near, and at no other.
+    /// The entries that a name in lower case covers, in order; if `active_only` is true, only the active entries. A
+    /// step is a look at the name of an entry. Each entry whose product is near the product of the given name is looked
+    /// at at most once. No other entry is looked at.
     ///
     /// # Errors
-    /// Only that memory ran out. The bound on steps holds then, too.
+    /// [`Memory`] if memory runs out. The number of steps is bounded in this case too.
     pub fn rows_found<L: Ledger>(
         &self,
         alloc: Global,
@@ -161,27 +163,27 @@ impl Dictionary<'_> {
     ) -> Result<List<Row>, Memory>
         requires { IsLower asked.now }
         ensures rows { IfOk result (λ rs. rs ≡ found asked.now active_only self.now) }
-        ensures steps { StepsWithin steps.old steps.new (near_count asked.now (names_of self.now)) }
+        ensures steps { StepsWithin steps.old steps.new (near_count asked.now (names_of_entries self.now)) }
     {
         self.entries.rows_found(alloc, asked, active_only, steps)
     }
 
-    /// The entries of the chain of a name, and its ends. It searches the chain alone.
+    /// The entries of the chain of a name, and the ends of the name. The function searches only the chain.
     ///
     /// # Errors
-    /// Only that memory ran out.
+    /// [`Memory`] if memory runs out.
     pub fn chain(&self, alloc: Global, name: &Wfn) -> Result<(List<Row>, List<Wfn>), Memory>
         ensures links { IfOk result (λ r. r.0 ≡ map row_of (chain_of self.now name.now)) }
         ensures ends { IfOk result (λ r. r.1 ≡ ends self.now name.now) }
     {
-        cpe_rows::law::absent_names_stand_alone();
+        cpe_rows::law::absent_names_are_alone();
         match self.number_of(name) {
             Some(number) => self.chain_at(alloc, name, number),
             None => chain_of_none(alloc, name),
         }
     }
 
-    // The same of an entry, by its number.
+    // The entries of the chain of an entry, and its ends. The entry is given by its name and its number.
     fn chain_at(
         &self,
         alloc: Global,
@@ -202,14 +204,15 @@ impl Dictionary<'_> {
         ))
     }
 
-    /// The numbers of the entries of the chain of a name, rising: none where it is no entry. It searches the chain alone.
+    /// The numbers of the entries of the chain of a name, in increasing order; none if no entry has the name. The
+    /// function searches only the chain.
     ///
     /// # Errors
-    /// Only that memory ran out.
+    /// [`Memory`] if memory runs out.
     pub(crate) fn chain_numbers(&self, alloc: Global, name: &Wfn) -> Result<Vec<u32>, Memory>
         ensures { IfOk result (λ numbers. entries_at self.now numbers.items ≡ chain_of self.now name.now) }
     {
-        cpe_rows::law::absent_names_stand_alone();
+        cpe_rows::law::absent_names_are_alone();
         answers_by_number();
         match self.number_of(name) {
             Some(number) => match self.graph.chain(alloc, number) {
@@ -220,17 +223,18 @@ impl Dictionary<'_> {
         }
     }
 
-    /// The name of the entry of a number.
+    /// The name of the entry of this number.
     pub fn name_at(&self, number: u32) -> Option<&Wfn>
         ensures { option_copied result ≡ option_map (λ e. e.name) (slice_get self.now number) }
     {
         self.entries.name_at(number as usize)
     }
 
-    /// Whether the entry of a number may be deprecated with successors of these numbers, or with `None` be active.
+    /// Whether the entry of a number may be deprecated with these successors, or become active if `next` is `None`.
     ///
     /// # Errors
-    /// That a successor leads back to it, or that an entry would have too many ends; or that memory ran out.
+    /// The fault that a successor leads back to the entry, or that an entry would have too many ends.
+    /// [`EditFault::Memory`] if memory runs out.
     pub(crate) fn check(&self, number: u32, next: Option<&[u32]>) -> Result<(), EditFault>
         requires { IsChange (nodes_of_entries self.now) number (option_copied next) }
         ensures ok { OnOk result (change_fault (nodes_of_entries self.now) number (option_copied next.entry) ≡ None) }
@@ -244,7 +248,7 @@ impl Dictionary<'_> {
         }
     }
 
-    // That the entry of a number would have too many ends, by its name.
+    // The fault that the entry of this number would have too many ends. It has the name of the entry.
     fn too_wide(&self, number: u32) -> EditFault
         requires { number < length self.now }
         ensures { IsCause result (option_map (λ e. EditFault.TooWide e.name) (slice_get self.now number)) }
@@ -259,14 +263,14 @@ impl Dictionary<'_> {
     }
 }
 
-// A name again, in memory of its own.
+// A copy of a name in a box.
 fn boxed_copy(alloc: Global, name: &Wfn) -> Result<BoxedName, Memory>
     ensures { IfOk result (λ b. b ≡ name.now) }
 {
     BoxedName::new(alloc, name.copy(alloc)?)
 }
 
-// A name that is no entry has no chain, and is its own end.
+// The chain and the ends of a name without an entry: no chain, and the name as its own end.
 fn chain_of_none(alloc: Global, name: &Wfn) -> Result<(List<Row>, List<Wfn>), Memory>
     ensures links { IfOk result (λ r. r.0 ≡ []) }
     ensures ends { IfOk result (λ r. r.1 ≡ name.now ∷ []) }

@@ -1,8 +1,8 @@
-// Where deprecations lead: the ends of names, as they are and as a planned change would leave them.
+// The ends of names, in the dictionary as it is and after a planned change.
 ghost use Rattle.std.specs.Prelude.{◌≡◌, IfOk, Some, position};
 ghost use Rattle.cpe_rows.specs.Prelude.{ends, is_named};
 ghost use Rattle.deprecation_graph.specs.Graph.{changed_nodes, ends_in};
-ghost use Rattle.cpe_dictionary.specs.Kept.{names_at};
+ghost use Rattle.cpe_dictionary.specs.Kept.{entry_names_at};
 ghost use Rattle.cpe_dictionary.specs.Numbers.{nodes_of_entries};
 ghost use Rattle.cpe_dictionary.specs.Plans.{IsAllowed, ends_by};
 
@@ -13,14 +13,14 @@ use cpe_rows::{Memory, Wfn};
 use std::alloc::Global;
 
 impl Dictionary<'_> {
-    /// The numbers of the ends of an entry, rising. It searches the entry's chain.
+    /// The numbers of the ends of an entry, in increasing order. The function searches the entry's chain.
     ///
     /// # Errors
-    /// Only that memory ran out.
+    /// [`Memory`] if memory runs out.
     pub fn ends(&self, alloc: Global, name: &Wfn, number: u32) -> Result<Vec<u32>, Memory>
         requires { position (is_named name.now) self.now ≡ Some number }
         ensures numbers { IfOk result (λ ks. ks.items ≡ ends_in (nodes_of_entries self.now) number) }
-        ensures names { IfOk result (λ ks. names_at self.now ks.items ≡ ends self.now name.now) }
+        ensures names { IfOk result (λ ks. entry_names_at self.now ks.items ≡ ends self.now name.now) }
     {
         chains_by_number();
         entries_are_numbered();
@@ -30,11 +30,11 @@ impl Dictionary<'_> {
         }
     }
 
-    /// The numbers of the ends that an entry would have once the planned change is made. It searches the chain that the entry
-    /// would have.
+    /// The numbers of the ends that an entry would have after a planned change. The function searches the chain that
+    /// the entry would have.
     ///
     /// # Errors
-    /// Only that memory ran out.
+    /// [`Memory`] if memory runs out.
     pub fn ends_after(
         &self,
         alloc: Global,
@@ -45,7 +45,7 @@ impl Dictionary<'_> {
         requires number { position (is_named name.now) self.now ≡ Some number }
         requires plan { IsAllowed self.now plan.now.number plan.now.next }
         ensures numbers { IfOk result (λ ks. ks.items ≡ ends_in (changed_nodes (nodes_of_entries self.now) plan.now.number plan.now.next) number) }
-        ensures names { IfOk result (λ ks. names_at self.now ks.items ≡ ends_by self.now (Some plan.now) name.now) }
+        ensures names { IfOk result (λ ks. entry_names_at self.now ks.items ≡ ends_by self.now (Some plan.now) name.now) }
     {
         match self
             .graph

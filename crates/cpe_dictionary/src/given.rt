@@ -1,13 +1,13 @@
-// All entries are given their deprecations at once.
+// Giving all entries their deprecations in one call.
 ghost use Rattle.std.specs.Prelude.{◌≡◌, ◌∷◌, [], ◌++◌, ◌≤◌, IfErr, IfOk, None, OnErr, OnOk, Some, if◌then◌else◌, is_none, length, map, nat_eq, true};
 ghost use Rattle.std.specs.List.{list_all};
 ghost use Rattle.cpe_rows.specs.Faults.{repeated_from};
 ghost use Rattle.cpe_rows.specs.Prelude.{IsDictionary};
 ghost use Rattle.cpe_rows.specs.declared.limits.TheConstants.{MOST_SUCCESSORS};
-ghost use Rattle.cpe_dictionary.specs.Given.{are_entries, each_deprecated, may_have};
-ghost use Rattle.cpe_dictionary.specs.Kept.{entries_in, FitsTable, IsKept};
+ghost use Rattle.cpe_dictionary.specs.Given.{are_entries, each_deprecated, may_have_deprecation};
+ghost use Rattle.cpe_dictionary.specs.Kept.{entries_in, FitsTable, IsDictionaryGraph};
 ghost use Rattle.cpe_dictionary.specs.Numbers.{numbers_of};
-ghost use Rattle.cpe_dictionary.specs.Plans.{numbered};
+ghost use Rattle.cpe_dictionary.specs.Plans.{numbered_successors};
 
 use crate::by_number::{chains_by_number, edits_by_number, entries_are_numbered, faults_by_number};
 use crate::dictionary::Dictionary;
@@ -18,7 +18,7 @@ use deprecation_graph::{DeprecationGraph, FillFault, fill};
 use name_index::NameTable;
 use std::alloc::Global;
 
-// The numbers of the entries of these names, or none where one is no entry.
+// The numbers of the entries that have these names, or `None` if some name has no entry.
 fn entry_numbers(
     alloc: Global,
     dictionary: &Dictionary,
@@ -36,13 +36,13 @@ fn entry_numbers(
     Ok(Some(numbers))
 }
 
-// The numbers of the successors of a deprecation, or none where no entry may have it.
+// The numbers of the successors of a deprecation, or `None` if no entry may have this deprecation.
 fn successor_numbers(
     alloc: Global,
     dictionary: &Dictionary,
     deprecation: &Deprecation,
 ) -> Result<Option<List<u32>>, Memory>
-    ensures { IfOk result (λ o. o ≡ (if may_have dictionary.now (Some deprecation.now) then Some (numbers_of dictionary.now deprecation.now.successors) else None)) }
+    ensures { IfOk result (λ o. o ≡ (if may_have_deprecation dictionary.now (Some deprecation.now) then Some (numbers_of dictionary.now deprecation.now.successors) else None)) }
 {
     edits_by_number();
     faults_by_number();
@@ -56,7 +56,7 @@ fn successor_numbers(
     }
 }
 
-// The numbers, unless one of them is repeated.
+// The numbers, or `None` if one of them is repeated.
 fn if_different(numbers: List<u32>) -> Option<List<u32>>
     requires { length numbers ≤ MOST_SUCCESSORS }
     ensures { result ≡ (if is_none (repeated_from nat_eq [] 1 numbers) then Some numbers else None) }
@@ -67,16 +67,16 @@ fn if_different(numbers: List<u32>) -> Option<List<u32>>
     }
 }
 
-// Puts the numbers of the successors of a deprecation last, or that there is none, where an entry may have it, and answers whether
-// it may.
+// Whether an entry may have this deprecation. If so, the numbers of its successors are added to `all` as the last
+// element. The element is `None` if there is no deprecation.
 fn push_numbers(
     alloc: Global,
     dictionary: &Dictionary,
     deprecation: &Option<Deprecation>,
     all: &mut List<Option<List<u32>>>,
 ) -> Result<bool, Memory>
-    ensures may { IfOk result (λ may. may ≡ may_have dictionary.now deprecation.now) }
-    ensures numbers { IfOk result (λ may. may ≡ true → all.new ≡ all.old ++ numbered dictionary.now deprecation.now ∷ []) }
+    ensures may { IfOk result (λ may. may ≡ may_have_deprecation dictionary.now deprecation.now) }
+    ensures numbers { IfOk result (λ may. may ≡ true → all.new ≡ all.old ++ numbered_successors dictionary.now deprecation.now ∷ []) }
 {
     match deprecation {
         Some(deprecation) => match successor_numbers(alloc, dictionary, deprecation)? {
@@ -93,13 +93,13 @@ fn push_numbers(
     }
 }
 
-// By place, the numbers of the successors of each deprecation, or none at all where an entry may not have one of them.
+// For each deprecation the numbers of its successors, or `None` if an entry may not have one of the deprecations.
 fn number_all(
     alloc: Global,
     dictionary: &Dictionary,
     deprecations: &[Option<Deprecation>],
 ) -> Result<Option<List<Option<List<u32>>>>, Memory>
-    ensures { IfOk result (λ o. o ≡ (if list_all (may_have dictionary.now) deprecations.now then Some (map (numbered dictionary.now) deprecations.now) else None)) }
+    ensures { IfOk result (λ o. o ≡ (if list_all (may_have_deprecation dictionary.now) deprecations.now then Some (map (numbered_successors dictionary.now) deprecations.now) else None)) }
 {
     let mut all = List::with_room(alloc, deprecations.len())?;
     for deprecation in deprecations {
@@ -112,16 +112,17 @@ fn number_all(
 }
 
 impl Dictionary<'_> {
-    /// The graph of the entries once each has the deprecation at its place, or none.
+    /// The graph of the entries after each entry gets the deprecation at its place, or none.
     ///
     /// # Errors
-    /// [`FillFault::Unlawful`] where they would be no lawful dictionary; or that memory ran out.
+    /// [`FillFault::Unlawful`] if the entries would not be a lawful dictionary. [`FillFault::Memory`] if memory runs
+    /// out.
     pub(crate) fn graph_given(
         &self,
         deprecations: &[Option<Deprecation>],
     ) -> Result<DeprecationGraph, FillFault>
         requires { length deprecations.now ≡ length self.now }
-        ensures kept { IfOk result (λ g. IsKept (each_deprecated self.now deprecations.now) g.nodes) }
+        ensures kept { IfOk result (λ g. IsDictionaryGraph (each_deprecated self.now deprecations.now) g.nodes) }
         ensures unlawful { IfErr result (λ f. f ≡ FillFault.Unlawful → IsDictionary (each_deprecated self.now deprecations.now) → ⊥) }
     {
         cpe_rows::law::names_are_equal();
@@ -143,11 +144,12 @@ impl Dictionary<'_> {
 }
 
 impl KeptDictionary {
-    /// Gives each entry the deprecation at its place, or none, all at once, in the place of what it had; notes stay. One after the other
-    /// they might be refused for what they lead to in between. It costs the entries and their successors.
-    ///
+    /// Gives each entry the deprecation at its place, or none, instead of its old one. Notes are unchanged. All
+    /// deprecations are given in one call: given one by one, a lawful whole could have unlawful states in between. The
+    /// cost is proportional to the entries and their successors.
     /// # Errors
-    /// [`FillFault::Unlawful`] where they would be no lawful dictionary; or that memory ran out. The dictionary is then as it was.
+    /// [`FillFault::Unlawful`] if the entries would not be a lawful dictionary. [`FillFault::Memory`] if memory runs
+    /// out. The dictionary is then unchanged.
     pub fn deprecate_all(
         &mut self,
         table: &NameTable,

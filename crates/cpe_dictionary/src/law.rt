@@ -5,7 +5,7 @@ use crate::by_number::{
     chains_by_number, changes_by_number, edits_are_changes, entries_are_numbered,
 };
 
-/// The ends of a name as a planned change would leave them are its ends among the entries that the change leaves.
+/// Law: the ends of a name that a plan computes are the ends of the name after the planned change.
 pub fn plans_lead()
     ensures { PlansLead }
 {

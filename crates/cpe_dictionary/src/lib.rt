@@ -2,28 +2,35 @@
 //!
 //! A [`KeptDictionary`] keeps the numbers of its entries' names in a shared table of names. Together with the table it
 //! is a [`Dictionary`] ([`KeptDictionary::with`]), which answers all questions.
-//! [`GrowingEntries`](entries_in_order::GrowingEntries) keeps the entries in the order in which they were added, and
-//! finds them by the hashes of their names. Adding, finding or showing an entry costs the same for any number of
-//! entries, except that a new product has to be put into its place.
+//! [`GrowingEntries`](growing::GrowingEntries) keeps the entries in the order in which they were added, and finds them
+//! by the hashes of their names. Adding, finding or showing an entry costs the same for any number of
+//! entries. Only a new product costs more, as it has to be put into the order of products.
 //!
 //! A change of a deprecation is planned first. Planning decides whether the change is allowed, or finds its fault. It
-//! changes nothing. A plan says which names lead to its entry, and which ends names would have after the change. Then
-//! all memory for the change is taken, and the change is made; it can't fail. The cost of a plan grows with the number of entries that
-//! lead to the changed entry or to which it leads. The cost of a chain grows with the number of its entries. A search
-//! looks only at entries whose product the given name's product covers. It counts a step for each look.
+//! changes nothing. [`Dictionary::ends_after`] finds the ends that an entry would have after a planned change. Then all
+//! memory for the change is taken. The change itself can't fail. The cost of a plan grows with the number of entries
+//! that lead to the changed entry, or to which it leads. The cost of a chain grows with the number of its entries. A
+//! search looks only at entries whose product is near the product of the given name. It counts a step for each look.
 //!
-//! Deprecations are kept a second time by numbers: node k of a graph is entry k. By the laws of [`chains_by_number`]
-//! and those beside it, entries and graph have the same paths, and change in the same way. The laws also say when the
-//! graph may be asked.
+//! Deprecations are also stored as a graph: node k of the graph is entry k. The laws of [`chains_by_number`] and the
+//! functions beside it say that the entries and the graph have the same paths and the same changes. They also say which
+//! changes the graph can check.
 #![tactic(auto)]
 
 mod adding;
+mod at_numbers;
 mod by_number;
 mod dictionary;
 mod ends;
+mod entries;
+mod entry_ref;
 mod given;
+mod growing;
+mod kept;
 pub mod law;
+mod note_room;
 mod plans;
+mod search;
 mod sources;
 mod store;
 mod successors;
@@ -34,7 +41,7 @@ pub use by_number::{
 };
 pub use deprecation_graph::FillFault;
 pub use dictionary::Dictionary;
-pub use entries_in_order::NoteRoom;
+pub use note_room::NoteRoom;
 pub use plans::Plan;
 pub use sources::Sources;
 pub use store::KeptDictionary;

@@ -1,4 +1,4 @@
-// Changes of an entry's deprecation, which are planned before they are made.
+// Planned changes of an entry's deprecation.
 ghost use Rattle.std.specs.Prelude.{◌≡◌, IfOk, IfErr, None, Option, Some, if◌then◌else◌, not, position, option_copied};
 ghost use Rattle.cpe_rows.specs.Prelude.{first_some, is_named, IsCause, when};
 ghost use Rattle.cpe_rows.specs.declared.entry.Note.{Note};
@@ -10,18 +10,18 @@ use crate::dictionary::Dictionary;
 use crate::successors::find_successors;
 use cpe_rows::{Deprecation, EditFault, List, Wfn};
 
-/// A change of an entry's deprecation that its dictionary allows, by numbers. It is made by
-/// [`KeptDictionary::commit`](crate::KeptDictionary::commit).
+/// A change of an entry's deprecation that its dictionary allows. Entries are given by their numbers, which are their
+/// places from 0. [`KeptDictionary::commit`](crate::KeptDictionary::commit) makes the change.
 #[derive(Debug, Drop)]
 pub struct Plan {
     /// The number of the entry.
     pub number: u32,
-    /// The numbers of its successors, or none where it is to be active.
+    /// The numbers of the entry's successors, or `None` if the entry becomes active.
     pub next: Option<List<u32>>,
 }
 
 impl Plan {
-    /// The numbers of the successors, or none where the entry is to be active.
+    /// The numbers of the entry's successors, or `None` if the entry becomes active.
     pub(crate) fn next(&self) -> Option<&[u32]>
         ensures { option_copied result ≡ self.now.next }
     {
@@ -33,11 +33,12 @@ impl Plan {
 }
 
 impl Dictionary<'_> {
-    /// Plans to give the entry of this name a deprecation, or none; the number is that of this entry, if there is one. It has to be
-    /// active before, or deprecated.
+    /// A plan to give the entry of this name a deprecation, or to make it active if there is none. If an entry has the
+    /// name, `number` is its number. Before the change the entry has to be active if `active` is true, and deprecated
+    /// otherwise.
     ///
     /// # Errors
-    /// The first fault of such a change but for the weight, or that memory ran out.
+    /// The first fault of the change, apart from the weight, or [`EditFault::Memory`] if memory runs out.
     pub fn plan(
         &self,
         name: &Wfn,
@@ -57,7 +58,7 @@ impl Dictionary<'_> {
         }
     }
 
-    // Plans to give the entry of this name and number a deprecation.
+    // A plan to give a deprecation to the entry that has this name and this number.
     fn plan_deprecation(
         &self,
         name: &Wfn,
@@ -76,7 +77,7 @@ impl Dictionary<'_> {
         })
     }
 
-    // Plans to take the deprecation of the entry of this name and number away.
+    // A plan to remove the deprecation of the entry that has this name and this number.
     fn plan_restoration(&self, name: &Wfn, number: u32) -> Result<Plan, EditFault>
         requires { position (is_named name.now) self.now ≡ Some number }
         ensures plan { IfOk result (λ p. IsPlan self.now name.now None p) }
@@ -90,7 +91,7 @@ impl Dictionary<'_> {
         Ok(Plan { number, next: None })
     }
 
-    // The number of the entry of this name, which has to be active, or deprecated.
+    // The number of the entry of this name. The entry has to be active if `active` is true, and deprecated otherwise.
     fn find_in_state(&self, name: &Wfn, number: Option<u32>, active: bool) -> Result<u32, EditFault>
         requires { number ≡ position (is_named name.now) self.now }
         ensures place { IfOk result (λ k. position (is_named name.now) self.now ≡ Some k) }
@@ -108,7 +109,7 @@ impl Dictionary<'_> {
     }
 }
 
-// Why an entry that is active, or isn't, is refused where it has to be, or must not be.
+// The fault of an entry that is active but has to be deprecated, or the other way round.
 fn state_fault(is_active: bool, wanted: bool) -> Option<EditFault>
     ensures { result ≡ (if wanted then when (not is_active) EditFault.AlreadyDeprecated else when is_active EditFault.NotDeprecated) }
 {

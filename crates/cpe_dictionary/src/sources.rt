@@ -1,4 +1,4 @@
-// The entries from which deprecations lead to an entry.
+// The sources of an entry: the entries whose chain contains it.
 ghost use Rattle.std.specs.Prelude.{◌≡◌, ◌↔◌, IfOk, IsTrue, Some, position, Contains};
 ghost use Rattle.std.specs.List.Sorted.{IsStrictlyIncreasing};
 ghost use Rattle.cpe_rows.specs.Prelude.{is_named, leads_to};
@@ -10,8 +10,8 @@ use cpe_rows::{Memory, Wfn};
 use std::alloc::Global;
 use std::marker::Model;
 
-/// The entries from which deprecations lead to an entry: itself, and those whose chain has it. Contracts see them as the entries of the
-/// dictionary and the name of that one.
+/// The sources of an entry: the entry itself and all entries whose chain contains it. Contracts see the entries of the
+/// dictionary and the name of the entry.
 #[derive(Drop)]
 pub struct Sources<'d> {
     dictionary: Dictionary<'d>,
@@ -32,7 +32,7 @@ impl<'d> Model for Sources<'d> {
     ghost invariant = { λ s. AreSourcesOf s.dictionary s.entry.now s.numbers.items };
 }
 
-// Whether a number is one of these, which rise.
+// Whether a number is in an increasing list of numbers.
 fn has_number(numbers: &[u32], number: u32) -> bool
     requires { IsStrictlyIncreasing numbers.now }
     ensures { IsTrue result ↔ Contains numbers.now number }
@@ -44,11 +44,11 @@ fn has_number(numbers: &[u32], number: u32) -> bool
 }
 
 impl<'d> Dictionary<'d> {
-    /// The entries from which deprecations lead to the one of this name and number. It searches the graph backwards, and costs these
-    /// entries and the edges that lead to them.
+    /// The sources of the entry that has this name and this number. The function searches the graph backwards. Its cost
+    /// is proportional to the sources and the edges between them.
     ///
     /// # Errors
-    /// Only that memory ran out.
+    /// [`Memory`] if memory runs out.
     pub fn sources(self, alloc: Global, entry: &'d Wfn, number: u32) -> Result<Sources<'d>, Memory>
         requires { position (is_named entry.now) self ≡ Some number }
         ensures { IfOk result (λ s. s ≡ (self.entry, entry.now)) }
@@ -68,19 +68,19 @@ impl<'d> Dictionary<'d> {
 }
 
 impl Sources<'_> {
-    /// Their numbers, rising.
+    /// The numbers of the sources, in increasing order.
     pub fn numbers(&self) -> &[u32]
         ensures { AreSourcesOf self.now.0 self.now.1 result.now }
     {
         &self.numbers
     }
 
-    /// Whether deprecations lead from this name to the entry: from a name that is no entry they lead nowhere. The name is found by its
-    /// hash, and nothing is searched anew.
+    /// Whether this name leads to the entry. A name without an entry doesn't. The name is found by its hash, without
+    /// another search of the graph.
     pub fn has(&self, name: &Wfn) -> bool
         ensures { result ≡ leads_to self.now.0 name.now self.now.1 }
     {
-        cpe_rows::law::absent_names_stand_alone();
+        cpe_rows::law::absent_names_are_alone();
         match self.dictionary.number_of(name) {
             Some(number) => has_number(&self.numbers, number),
             None => false,

@@ -1,4 +1,4 @@
-// A dictionary as it is kept beside a table of names.
+// A dictionary as it is stored, beside a table of names.
 ghost use Rattle.std.specs.Prelude.{◌≡◌, ◌+◌, ◌++◌, ◌∷◌, [], ◌≤◌, IfOk, OnOk, length, map, option_copied, option_map, position, slice_get, false};
 ghost use Rattle.std.specs.List.{filter_map, list_any};
 ghost use Rattle.name_index.specs.Prelude.{IsLive, kept_at};
@@ -6,22 +6,23 @@ ghost use Rattle.cpe_rows.specs.Prelude.{chain, is_named, IsDictionary, most};
 ghost use Rattle.cpe_rows.specs.declared.fault.Which.TheVariants as Which;
 ghost use Rattle.cpe_dictionary.specs.Kept.{entries_in, FitsTable, new_entry, rewritten, written};
 ghost use Rattle.cpe_rows.specs.Lent.{entry_lent};
-ghost use Rattle.cpe_dictionary.specs.Plans.{IsAllowed, numbered};
+ghost use Rattle.cpe_dictionary.specs.Plans.{IsAllowed, numbered_successors};
 ghost use Rattle.cpe_dictionary.specs.Room.{MayAddEntry, MayChange, SameStored};
 ghost use Rattle.deprecation_graph.specs.Graph.{successors};
 
 use crate::by_number::{changes_by_number, edits_by_number};
 use crate::dictionary::Dictionary;
+use crate::growing::GrowingEntries;
+use crate::note_room::NoteRoom;
 use crate::plans::Plan;
 use cpe_rows::{Deprecation, EntryRef, Memory, Note, Provenance, Text, Wfn};
 use deprecation_graph::DeprecationGraph;
-use entries_in_order::{GrowingEntries, NoteRoom};
 use name_index::{NameId, NameTable};
 use std::alloc::Global;
 use std::marker::Model;
 
-/// A dictionary as it is kept: the numbers of its entries' names in a table that others use, too, and beside each what its entry has.
-/// Its entries are those of [`with`](KeptDictionary::with).
+/// A dictionary as it is stored. It has the numbers of its entries' names in a table that others share, and beside each
+/// number the other parts of the entry. Its entries are those of [`with`](KeptDictionary::with).
 #[derive(Drop)]
 pub struct KeptDictionary {
     alloc: Global,
@@ -38,7 +39,7 @@ impl Model for KeptDictionary {
     ghost view = { λ d. stored_of d.entries d.graph };
 }
 
-// How many successors there are.
+// The number of successors of a change.
 fn count(next: Option<&[u32]>) -> usize
     ensures { result ≡ length (successors (option_copied next.entry)) }
 {
@@ -49,7 +50,7 @@ fn count(next: Option<&[u32]>) -> usize
 }
 
 impl KeptDictionary {
-    /// The dictionary without entries. It takes no memory.
+    /// The dictionary without entries. Allocates: no.
     pub fn new(alloc: Global) -> KeptDictionary
         ensures held { result.names.held ≡ [] }
         ensures numbers { result.names.numbers ≡ [] }
@@ -63,7 +64,7 @@ impl KeptDictionary {
         }
     }
 
-    /// The entries, beside the table of their names.
+    /// The entries, read with the table of their names.
     pub fn with<'t>(&'t self, table: &'t NameTable) -> Dictionary<'t>
         requires { FitsTable table.now self.now }
         ensures { result ≡ entries_in table.now self.now }
@@ -71,7 +72,8 @@ impl KeptDictionary {
         Dictionary::new(self.alloc, self.entries.with(table), &self.graph)
     }
 
-    /// The number of the entry whose name has this number in the table, if there is one. It looks at one place alone.
+    /// The number of the entry whose name has the number `id` in the table, if there is such an entry. Only one place
+    /// is looked at.
     pub fn number_of(&self, table: &NameTable, id: NameId) -> Option<u32>
         requires fits { FitsTable table.now self.now }
         requires live { IsLive table.now id.0 }
@@ -83,7 +85,7 @@ impl KeptDictionary {
         }
     }
 
-    // The place of the entry whose name has this number.
+    // The place of the entry whose name has the number `id` in the table.
     fn place_of(&self, table: &NameTable, id: NameId) -> Option<usize>
         requires fits { FitsTable table.now self.now }
         requires live { IsLive table.now id.0 }
@@ -92,7 +94,7 @@ impl KeptDictionary {
         self.entries.place_of(table, id)
     }
 
-    /// The entry at a place from 0, lent. There is none exactly where the place is the number of entries or more.
+    /// A reference to the entry at a place from 0. There is none exactly if the place is the number of entries or more.
     pub fn entry_at<'t>(&'t self, table: &'t NameTable, k: usize) -> Option<EntryRef<'t>>
         requires { FitsTable table.now self.now }
         ensures { option_map entry_lent result ≡ slice_get (entries_in table.now self.now) k }
@@ -100,10 +102,11 @@ impl KeptDictionary {
         self.entries.entry_at(table, k)
     }
 
-    /// The entries of the chain of a name, lent: none where it is no entry. It searches the chain alone.
+    /// References to the entries of the chain of a name; none if no entry has the name. The function searches only the
+    /// chain.
     ///
     /// # Errors
-    /// Only that memory ran out.
+    /// [`Memory`] if memory runs out.
     pub fn chain_lent<'t>(
         &'t self,
         table: &'t NameTable,
@@ -117,21 +120,21 @@ impl KeptDictionary {
         self.entries.lent_at(table, alloc, &numbers)
     }
 
-    /// The numbers in the table of the names of the entries of these numbers.
+    /// The numbers, in the table, of the names of these entries. The entries are given by their places.
     ///
     /// # Errors
-    /// Only that memory ran out.
+    /// [`Memory`] if memory runs out.
     pub fn ids_at(&self, alloc: Global, numbers: &[u32]) -> Result<Vec<NameId>, Memory>
         ensures { IfOk result (λ v. v.items ≡ filter_map (slice_get self.now.names.numbers) numbers.now) }
     {
         self.entries.ids_at(alloc, numbers)
     }
 
-    /// Takes the memory to add an entry whose name has this number in the table, which [`add`](KeptDictionary::add) then needs. The
-    /// entries stay.
+    /// Takes the memory that [`add`](KeptDictionary::add) needs for an entry whose name has the number `id` in the
+    /// table. The entries are unchanged.
     ///
     /// # Errors
-    /// Only that memory ran out.
+    /// [`Memory`] if memory runs out.
     pub fn reserve_entry(&mut self, table: &NameTable, id: NameId) -> Result<(), Memory>
         requires fits { FitsTable table.now self.old }
         requires live { IsLive table.now id.0 }
@@ -146,8 +149,8 @@ impl KeptDictionary {
         self.entries.reserve(table, id)
     }
 
-    /// Puts an active entry last whose name has this number in the table, which no entry has, and for which there is room. What it
-    /// brings is moved, and it takes no memory.
+    /// Adds an active entry at the end. Its name has the number `id` in the table. No entry may have this name, and the
+    /// room has to be reserved. The title and the provenance are moved. Allocates: no.
     pub fn add(&mut self, table: &NameTable, id: NameId, title: Text, provenance: Provenance)
         requires fits { FitsTable table.now self.old }
         requires live { IsLive table.now id.0 }
@@ -163,11 +166,11 @@ impl KeptDictionary {
         self.graph.add_node();
     }
 
-    /// Takes the memory to make a planned change, which [`commit`](KeptDictionary::commit) then needs: for its edges, and for a note.
-    /// The entries stay.
+    /// Takes the memory that [`commit`](KeptDictionary::commit) needs for a planned change: for its edges, and for a
+    /// note. Returns the room for the note. The entries are unchanged.
     ///
     /// # Errors
-    /// Only that memory ran out.
+    /// [`Memory`] if memory runs out.
     pub fn reserve_change(&mut self, table: &NameTable, plan: &Plan) -> Result<NoteRoom, Memory>
         requires fits { FitsTable table.now self.old }
         requires allowed { IsAllowed (entries_in table.now self.old) plan.now.number plan.now.next }
@@ -182,8 +185,8 @@ impl KeptDictionary {
         self.entries.note_room(self.alloc, plan.number as usize)
     }
 
-    /// Makes a planned change for which there is room: the entry gets this deprecation, or none, and a note, if there is one, that goes
-    /// last. It takes no memory.
+    /// Makes a planned change for which there is room. The entry gets this deprecation, or becomes active if there is
+    /// none. A note, if given, is added at the end of the entry's notes. Allocates: no.
     pub fn commit(
         &mut self,
         table: &NameTable,
@@ -193,7 +196,7 @@ impl KeptDictionary {
         room: NoteRoom,
     )
         requires fits { FitsTable table.now self.old }
-        requires numbers { plan.now.next ≡ numbered (entries_in table.now self.old) deprecation }
+        requires numbers { plan.now.next ≡ numbered_successors (entries_in table.now self.old) deprecation }
         requires allowed { IsAllowed (entries_in table.now self.old) plan.now.number plan.now.next }
         requires lawful { IsDictionary (written (rewritten deprecation note) plan.now.number (entries_in table.now self.old)) }
         requires room { MayChange self.old plan.now room }

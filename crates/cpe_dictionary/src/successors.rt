@@ -8,14 +8,14 @@ ghost use Rattle.cpe_rows.specs.declared.entry.Note.{Note};
 ghost use Rattle.cpe_rows.specs.declared.fault.EditFault.TheVariants as fault;
 ghost use Rattle.cpe_dictionary.specs.Numbers.{numbers_of};
 ghost use Rattle.cpe_dictionary.specs.Causes.{deprecation_causes};
-ghost use Rattle.cpe_dictionary.specs.Plans.{AreAsked, IsAllowed};
+ghost use Rattle.cpe_dictionary.specs.Plans.{AreSuccessors, IsAllowed};
 
 use crate::by_number::{edits_are_changes, edits_by_number, faults_by_number};
 use crate::dictionary::Dictionary;
 use cpe_rows::{Deprecation, EditFault, Kind, List, MOST_SUCCESSORS, Wfn};
 use std::alloc::Global;
 
-/// Whether a deprecation of this kind may have so many successors.
+/// Whether a deprecation of this kind may have this number of successors.
 pub(crate) fn is_count(kind: Kind, count: usize) -> bool
     ensures { result ≡ is_count kind count }
 {
@@ -27,7 +27,7 @@ pub(crate) fn is_count(kind: Kind, count: usize) -> bool
     }
 }
 
-// The numbers of the entries of these names.
+// The numbers of the entries that have these names.
 fn find_numbers(
     alloc: Global,
     dictionary: &Dictionary,
@@ -51,7 +51,7 @@ fn find_numbers(
     Ok(numbers)
 }
 
-/// The place, from 1, of the first number that stands earlier too.
+/// The place, from 1, of the first number that is equal to an earlier one.
 pub(crate) fn find_repeated(numbers: &[u32]) -> Option<u32>
     requires { length numbers.now ≤ MOST_SUCCESSORS }
     ensures { result ≡ repeated_from nat_eq [] 1 numbers.now }
@@ -66,13 +66,13 @@ pub(crate) fn find_repeated(numbers: &[u32]) -> Option<u32>
     None
 }
 
-// The numbers of the successors of a deprecation, of which the graph may be asked.
+// The numbers of the successors of a deprecation, in a form that the graph can check.
 fn find_different(
     alloc: Global,
     dictionary: &Dictionary,
     deprecation: &Deprecation,
 ) -> Result<List<u32>, EditFault>
-    ensures ok { IfOk result (λ ks. AreAsked dictionary.now deprecation.now ks) }
+    ensures ok { IfOk result (λ ks. AreSuccessors dictionary.now deprecation.now ks) }
     ensures err { IfErr result (λ f. (n : Values) (note : Option Note) → IsCause f (first_some (deprecation_causes dictionary.now n deprecation.now note))) }
 {
     edits_by_number();
@@ -89,10 +89,10 @@ fn find_different(
     Ok(numbers)
 }
 
-/// The numbers of the successors that a deprecation gives the entry of this name and number, where it may have them.
+/// The numbers of the successors of a deprecation of the entry that has this name and this number.
 ///
 /// # Errors
-/// The first fault of the deprecation, or that memory ran out.
+/// The first fault of the deprecation, or [`EditFault::Memory`] if memory runs out.
 pub(crate) fn find_successors(
     alloc: Global,
     dictionary: &Dictionary,

@@ -14,7 +14,7 @@ use Rattle.cpe_rows.specs.Lawful.{has_successors, IsDictionary, IsLawful}
 use Rattle.cpe_rows.specs.Limits.{exceeds, limited, most}
 use Rattle.cpe_rows.specs.Names.{is_same}
 use Rattle.cpe_rows.specs.Rows.{is_named, Rows}
-use Rattle.cpe_rows.specs.Weight.{check_weight, entry_weight, name_weight, statement_weight, total, weight}
+use Rattle.cpe_rows.specs.Weight.{check_weight, entry_weight, name_weight, statement_weight, total_weight, weight}
 use Rattle.cpe_rows.specs.declared.entry.Deprecation.{Deprecation}
 use Rattle.cpe_rows.specs.declared.entry.Entry.{Entry}
 use Rattle.cpe_rows.specs.declared.fault.Which.{Which}
@@ -24,18 +24,18 @@ use Rattle.cpe_rows.specs.declared.statement.Statement.{Statement}
 use Rattle.cpe_rows.proofs.Limited.{each_within}
 use Rattle.cpe_rows.proofs.Lists.{no_element}
 use Rattle.cpe_rows.proofs.NameTests.{same_is}
-use Rattle.cpe_weight.specs.Capped.{capped}
-use Rattle.engine_edits.specs.fact_laws.Asked.{names_kept}
+use Rattle.row_weight.specs.Capped.{capped}
+use Rattle.engine_edits.specs.fact_laws.Asked.{names_of_rows}
 use Rattle.verdicts.specs.cpe_dictionary.Given.{each_deprecated}
-use Rattle.verdicts.specs.cpe_dictionary.Kept.{rows_of}
+use Rattle.verdicts.specs.cpe_dictionary.Kept.{rows_of_entries}
 use Rattle.verdicts.proofs.cpe_dictionary.GivenLemmas.{any_given, length_given, names_given}
 use Rattle.name_index.specs.Table.{Names}
 use Rattle.engine_edits.specs.fact_laws.Shown.{holds_in, Shows}
-use Rattle.verdicts.specs.cpe_registry.Registered.{Registered}
+use Rattle.verdicts.specs.name_registry.Registered.{Registered}
 use Rattle.verdicts.specs.Verdicts.{HasVerdicts, VerdictsNow}
 use Rattle.cpe_engine.specs.Adopting.{given_weight, IsBare, with_deprecations}
-use Rattle.engine_edits.specs.Parts.{AreKept, AreOf, rows_in}
-use Rattle.engine_edits.specs.declared.parts.Parts.{Parts}
+use Rattle.engine_edits.specs.Parts.{AreLawfulParts, AreOf, rows_in}
+use Rattle.engine_edits.specs.declared.parts.EngineParts.{EngineParts}
 use Rattle.engine_edits.proofs.PartsLemmas.{by_lists, stay_kept, weight_within}
 
 -- ---- weight
@@ -54,21 +54,21 @@ one_given : (e : Entry) (d : Option Deprecation) → e.deprecation ≡ None
 one_given e d active = beside_none e d ∙ ap (λ (o : Option Deprecation). entry_weight (record e { deprecation = o }) + given_weight d) (sym active)
 
 all_given_weigh : (es : List Entry) (ds : List (Option Deprecation)) → length ds ≡ length es → AreActive es
-    → total (map entry_weight (each_deprecated es ds)) ≡ total (map entry_weight es) + total (map given_weight ds)
+    → total_weight (map entry_weight (each_deprecated es ds)) ≡ total_weight (map entry_weight es) + total_weight (map given_weight ds)
 all_given_weigh [] [] even active = refl
 all_given_weigh [] (d ∷ ds) even active = absurd (omega (arith, even))
 all_given_weigh (e ∷ es) [] even active = absurd (omega (arith, even))
 all_given_weigh (e ∷ es) (d ∷ ds) even active =
-    sums (entry_weight (record e { deprecation = d })) (entry_weight e) (given_weight d) (total (map entry_weight (each_deprecated es ds))) (total (map entry_weight es)) (total (map given_weight ds))
+    sums (entry_weight (record e { deprecation = d })) (entry_weight e) (given_weight d) (total_weight (map entry_weight (each_deprecated es ds))) (total_weight (map entry_weight es)) (total_weight (map given_weight ds))
     (one_given e d active.0) (all_given_weigh es ds (omega (arith, even)) active.1)
   where
     sums : (new old one news olds ones : ℕ) → new ≡ old + one → news ≡ olds + ones → new + news ≡ (old + olds) + (one + ones)
     sums new old one news olds ones h k = omega arith
 
 pub weighs_given : (rows : Rows) (ds : List (Option Deprecation)) → length ds ≡ length rows.entries → AreActive rows.entries
-    → weight (with_deprecations rows ds) ≡ weight rows + total (map given_weight ds)
+    → weight (with_deprecations rows ds) ≡ weight rows + total_weight (map given_weight ds)
 weighs_given rows ds even active =
-    sums (total (map entry_weight (each_deprecated rows.entries ds))) (total (map entry_weight rows.entries)) (total (map given_weight ds)) (total (map name_weight rows.items)) (total (map statement_weight rows.statements)) (total (map check_weight rows.checks))
+    sums (total_weight (map entry_weight (each_deprecated rows.entries ds))) (total_weight (map entry_weight rows.entries)) (total_weight (map given_weight ds)) (total_weight (map name_weight rows.items)) (total_weight (map statement_weight rows.statements)) (total_weight (map check_weight rows.checks))
     (all_given_weigh rows.entries ds even active)
   where
     sums : (new old ones items statements checks : ℕ) → new ≡ old + ones
@@ -77,10 +77,10 @@ weighs_given rows ds even active =
 
 -- the weight that was counted is the weight of the rows, if it isn't too large
 pub counted_given : (rows : Rows) (ds : List (Option Deprecation)) (before n : ℕ) → length ds ≡ length rows.entries → AreActive rows.entries
-    → before ≡ weight rows → n ≡ capped (before + total (map given_weight ds))
+    → before ≡ weight rows → n ≡ capped (before + total_weight (map given_weight ds))
     → n ≡ capped (weight (with_deprecations rows ds))
 counted_given rows ds before n even active was counted =
-    counted ∙ ap (λ (k : ℕ). capped (k + total (map given_weight ds))) was ∙ ap capped (sym (weighs_given rows ds even active))
+    counted ∙ ap (λ (k : ℕ). capped (k + total_weight (map given_weight ds))) was ∙ ap capped (sym (weighs_given rows ds even active))
 
 pub exact_given : (next : Rows) (n : ℕ) → n ≡ capped (weight next) → n ≤ MOST_WEIGHT → n ≡ weight next
 exact_given next n counted below = let within : weight next ≤ most limit.Weight = omega (arith, counted, below) in counted ∙ min-eq_left (omega (arith, within))
@@ -143,19 +143,19 @@ module _ (rows : Rows) (ds : List (Option Deprecation)) (old : IsLawful rows) (l
 
 -- ---- registry and verdicts
 
-names_stay : (rows : Rows) (ds : List (Option Deprecation)) → names_kept (with_deprecations rows ds) ≡ names_kept rows
+names_stay : (rows : Rows) (ds : List (Option Deprecation)) → names_of_rows (with_deprecations rows ds) ≡ names_of_rows rows
 names_stay rows ds = ap (λ (ns : List Values). ns ++ rows.items ++ flat_map (λ (s : Statement). fact_names s.test) rows.statements) (names_given rows.entries ds)
 
 -- rows with nothing but entries
 module _ (rows : Rows) (bare : IsBare rows) where
-  only : rows ≡ rows_of rows.entries
+  only : rows ≡ rows_of_entries rows.entries
   only = λ k. record { entries = rows.entries; items = bare.items k; statements = bare.statements k; checks = bare.checks k }
 
-  only_given : (ds : List (Option Deprecation)) → with_deprecations rows ds ≡ rows_of (each_deprecated rows.entries ds)
+  only_given : (ds : List (Option Deprecation)) → with_deprecations rows ds ≡ rows_of_entries (each_deprecated rows.entries ds)
   only_given ds = λ k. record { entries = each_deprecated rows.entries ds; items = bare.items k; statements = bare.statements k; checks = bare.checks k }
 
   pub are_given : (old new : Registered) (v : VerdictsNow) (ds : List (Option Deprecation))
-      → ((names : Names) (w : VerdictsNow) (was now : List Entry) → HasVerdicts names w (rows_of was) → HasVerdicts names w (rows_of now))
+      → ((names : Names) (w : VerdictsNow) (was now : List Entry) → HasVerdicts names w (rows_of_entries was) → HasVerdicts names w (rows_of_entries now))
       → new.table ≡ old.table → new.entries ≡ each_deprecated rows.entries ds → new.items ≡ rows.items → AreOf old v rows [] → AreOf new v (with_deprecations rows ds) []
   are_given old new v ds stay table entries items are =
       by_lists old new v (with_deprecations rows ds) [] table entries items
@@ -164,7 +164,7 @@ module _ (rows : Rows) (bare : IsBare rows) where
 
 -- ---- an engine's parts
 
-module _ (p : Parts) (kept : AreKept p) (bare : IsBare (rows_in p)) (ds : List (Option Deprecation)) (even : length ds ≡ length (rows_in p).entries) (n : ℕ) (counted : n ≡ capped (p.weight + total (map given_weight ds))) where
+module _ (p : EngineParts) (kept : AreLawfulParts p) (bare : IsBare (rows_in p)) (ds : List (Option Deprecation)) (even : length ds ≡ length (rows_in p).entries) (n : ℕ) (counted : n ≡ capped (p.weight + total_weight (map given_weight ds))) where
   abbrev next : Rows
   next = with_deprecations (rows_in p) ds
 
@@ -174,13 +174,13 @@ module _ (p : Parts) (kept : AreKept p) (bare : IsBare (rows_in p)) (ds : List (
   pub too_heavy : MOST_WEIGHT < n → IsLawful next → ⊥
   too_heavy above lawful = too_much next n by_weight above lawful
 
-  module _ (new : Registered) (stay : (names : Names) (w : VerdictsNow) (was now : List Entry) → HasVerdicts names w (rows_of was) → HasVerdicts names w (rows_of now))
+  module _ (new : Registered) (stay : (names : Names) (w : VerdictsNow) (was now : List Entry) → HasVerdicts names w (rows_of_entries was) → HasVerdicts names w (rows_of_entries now))
       (table : new.table ≡ p.registry.table) (entries : new.entries ≡ each_deprecated p.registry.entries ds) (items : new.items ≡ p.registry.items) where
     pub adopted : AreOf new p.verdicts next []
     adopted = are_given (rows_in p) bare p.registry new p.verdicts ds stay table entries items kept.are
 
-    pub kept_adopted : (made : Parts) → made.registry ≡ new → made.verdicts ≡ p.verdicts → made.weight ≡ n → n ≤ MOST_WEIGHT
-        → IsDictionary new.entries → AreKept made
+    pub kept_adopted : (made : EngineParts) → made.registry ≡ new → made.verdicts ≡ p.verdicts → made.weight ≡ n → n ≤ MOST_WEIGHT
+        → IsDictionary new.entries → AreLawfulParts made
     kept_adopted made registry verdicts weighed below d =
         let exact = exact_given next n by_weight below in
         stay_kept made next n (lawful_given (rows_in p) ds kept.lawful (omega (arith, exact, below)) (subst IsDictionary entries d)) weighed exact

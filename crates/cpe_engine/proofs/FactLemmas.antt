@@ -16,12 +16,12 @@ use Rattle.cpe_rows.specs.Truth.{same_truth}
 use Rattle.cpe_rows.specs.Verdict.{fact_truth, finds_item, is_followed, truth}
 use Rattle.cpe_rows.specs.declared.statement.Mode.{Mode}
 use Rattle.cpe_rows.specs.declared.truth.Truth.TheVariants.{True, False}
-use Rattle.cpe_explain.specs.checked_certificates.Leading.{followed}
-use Rattle.cpe_explain.specs.checked_certificates.Relates.{related, is_ruled_out}
-use Rattle.cpe_explain.specs.checked_certificates.declared.relates.Relates.{Relates}
-use Rattle.cpe_explain.specs.checked_certificates.declared.relates.Relates.TheVariants.{Covers, MayCover}
-use Rattle.cpe_explain.proofs.checked_certificates.Facts.{found_is}
-use Rattle.cpe_explain.proofs.Firsts.{some_found}
+use Rattle.certificate_search.specs.certificate_check.Leading.{followed}
+use Rattle.certificate_search.specs.certificate_check.Relates.{related, is_ruled_out}
+use Rattle.certificate_search.specs.certificate_check.declared.relates.Relates.{Relates}
+use Rattle.certificate_search.specs.certificate_check.declared.relates.Relates.TheVariants.{Covers, MayCover}
+use Rattle.certificate_search.proofs.certificate_check.Facts.{found_is}
+use Rattle.certificate_search.proofs.Firsts.{some_found}
 
 or_nothing : (b : Bool) → (b || false) ≡ b
 or_nothing true = refl
@@ -73,9 +73,9 @@ module _ (rows : Rows) (mode : Mode) (fact : Values) where
       ∙ (sym (found_is (related relates) rows mode fact)
       ∙ not_found relates (none_related relates (finds_item covers rows mode fact) (finds_item maybe rows mode fact) h)))
 
-  pub found_told : (relates : Values → Values → Bool) (o : Option (Bor Values)) → option_copied o ≡ find (met relates) rows.items
+  pub found_reported : (relates : Values → Values → Bool) (o : Option (Bor Values)) → option_copied o ≡ find (met relates) rows.items
       → is_some o ≡ finds_item relates rows mode fact
-  found_told relates o e =
+  found_reported relates o e =
       copied_some o ∙ (ap is_some e ∙ (some_found (met relates) rows.items ∙ sym (found_is relates rows mode fact)))
 
 -- ---- the entry of a name, by its place

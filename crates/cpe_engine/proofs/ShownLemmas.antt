@@ -20,9 +20,9 @@ use Rattle.name_index.specs.declared.table.NameId.{NameId}
 use Rattle.name_index.specs.Table.{Names}
 use Rattle.engine_edits.specs.fact_laws.Asked.{leads}
 use Rattle.engine_edits.specs.fact_laws.Shown.{name_at, names_at}
-use Rattle.cpe_explain.specs.checked_certificates.Leading.{followed}
-use Rattle.cpe_explain.specs.checked_certificates.Relates.{related}
-use Rattle.cpe_explain.specs.checked_certificates.declared.relates.Relates.{Relates}
+use Rattle.certificate_search.specs.certificate_check.Leading.{followed}
+use Rattle.certificate_search.specs.certificate_check.Relates.{related}
+use Rattle.certificate_search.specs.certificate_check.declared.relates.Relates.{Relates}
 use Rattle.verdicts.specs.Items.{AreItemsTo}
 use Rattle.cpe_engine.specs.Shown.{AreShown}
 

@@ -6,8 +6,8 @@ use Rattle.cpe_rows.specs.Names.{is_same}
 use Rattle.cpe_rows.specs.Rows.{Rows}
 use Rattle.cpe_rows.specs.declared.statement.Mode.{Mode}
 use Rattle.engine_edits.specs.fact_laws.Asked.{leads}
-use Rattle.cpe_explain.specs.checked_certificates.Relates.{related}
-use Rattle.cpe_explain.specs.checked_certificates.declared.relates.Relates.{Relates}
+use Rattle.certificate_search.specs.certificate_check.Relates.{related}
+use Rattle.certificate_search.specs.certificate_check.declared.relates.Relates.{Relates}
 
 -- An item is found exactly if it leads, in this mode, to a name that one of the names covers, or may cover: `relates` says which.
 abbrev pub AreShown : Rows → Mode → Relates → List Values → List Values → Type 0

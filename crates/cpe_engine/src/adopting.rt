@@ -1,15 +1,15 @@
 // Rows that an engine takes over: its entries get their deprecations all at once.
 ghost use Rattle.std.specs.Prelude.{◌≡◌, ◌+◌, IfErr, IfOk, OnOk, length, map};
 ghost use Rattle.cpe_rows.specs.Prelude.{IsLawful};
-ghost use Rattle.cpe_rows.specs.Weight.{total};
-ghost use Rattle.cpe_weight.specs.Capped.{capped};
+ghost use Rattle.cpe_rows.specs.Weight.{total_weight};
+ghost use Rattle.row_weight.specs.Capped.{capped};
 ghost use Rattle.cpe_engine.specs.Adopting.{given_weight, IsBare, with_deprecations};
-ghost use Rattle.engine_edits.specs.Parts.{AreKept, rows_in};
+ghost use Rattle.engine_edits.specs.Parts.{AreLawfulParts, rows_in};
 
 use crate::engine::Engine;
 use cpe_rows::{Deprecation, List, MOST_WEIGHT};
-use cpe_weight::with_deprecation;
-use engine_edits::Parts;
+use engine_edits::EngineParts;
+use row_weight::with_deprecation;
 use verdicts::FillFault;
 
 /// Why rows can't be taken over.
@@ -42,13 +42,13 @@ impl Engine {
         let Engine { alloc, mut parts } = self;
         match deprecate_all(&mut parts, deprecations) {
             Ok(()) => Ok(Engine { alloc, parts }),
-            Err(fault) => Err(let_go(parts, fault)),
+            Err(fault) => Err(discard(parts, fault)),
         }
     }
 }
 
 // Drops the parts of an engine whose rows can't be taken over, and returns the given fault.
-fn let_go(parts: Parts, fault: AdoptFault) -> AdoptFault
+fn discard(parts: EngineParts, fault: AdoptFault) -> AdoptFault
     ensures { result ≡ fault }
 {
     drop(parts);
@@ -57,13 +57,13 @@ fn let_go(parts: Parts, fault: AdoptFault) -> AdoptFault
 
 // Gives each entry the deprecation at its place in the list, or none.
 fn deprecate_all(
-    parts: &mut Parts,
+    parts: &mut EngineParts,
     deprecations: List<Option<Deprecation>>,
 ) -> Result<(), AdoptFault>
-    requires kept { AreKept parts.old }
+    requires kept { AreLawfulParts parts.old }
     requires bare { IsBare (rows_in parts.old) }
     requires even { length deprecations ≡ length (rows_in parts.old).entries }
-    ensures kept { OnOk result (AreKept parts.new) }
+    ensures kept { OnOk result (AreLawfulParts parts.new) }
     ensures ok { OnOk result (rows_in parts.new ≡ with_deprecations (rows_in parts.old) deprecations) }
     ensures unlawful { IfErr result (λ f. f ≡ AdoptFault.Unlawful → IsLawful (with_deprecations (rows_in parts.old) deprecations) → ⊥) }
 {
@@ -86,7 +86,7 @@ fn deprecate_all(
 
 // The given weight plus the weight of each of these deprecations, or the largest number if the sum is larger.
 fn with_all(weight: u64, deprecations: &[Option<Deprecation>]) -> u64
-    ensures { result ≡ capped (weight + total (map given_weight deprecations.now)) }
+    ensures { result ≡ capped (weight + total_weight (map given_weight deprecations.now)) }
 {
     let mut sum = weight;
     for deprecation in deprecations {

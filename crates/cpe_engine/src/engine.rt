@@ -6,14 +6,14 @@ ghost use Rattle.cpe_rows.specs.Counts.{counts_of};
 ghost use Rattle.cpe_rows.specs.Valid.{is_valid_query};
 ghost use Rattle.cpe_rows.specs.Weight.{weight};
 ghost use Rattle.cpe_rows.specs.Lent.{entry_lent};
-ghost use Rattle.name_index.specs.cpe_steps.Within.{StepsWithin};
-ghost use Rattle.cpe_engine.specs.Looks.{edit_looks, looks};
+ghost use Rattle.name_index.specs.step_count.Within.{StepsWithin};
+ghost use Rattle.cpe_engine.specs.Looks.{edit_looks, query_looks};
 
 use cpe_rows::{
     Changed, CheckKey, Counts, Edit, EditFault, EntryRef, List, Memory, Query, Reply, Statement,
     Text, Truth, Wfn,
 };
-use engine_edits::{ItemSlots, Parts};
+use engine_edits::{EngineParts, ItemSlots};
 use name_index::Steps;
 use std::alloc::Global;
 use std::marker::Model;
@@ -24,14 +24,14 @@ use std::sync::ledger::Ledger;
 #[derive(Drop)]
 pub struct Engine {
     pub(crate) alloc: Global,
-    pub(crate) parts: Parts,
+    pub(crate) parts: EngineParts,
 }
 
 impl Model for Engine {
     ghost use Rattle.std.specs.Coded.{codes};
     ghost use Rattle.cpe_rows.specs.Rows.{Rows};
     ghost use Rattle.cpe_rows.specs.contracts.test.Test as test;
-    ghost use Rattle.engine_edits.specs.Parts.{AreKept, rows_in};
+    ghost use Rattle.engine_edits.specs.Parts.{AreLawfulParts, rows_in};
 
     ghost Value = { Rows };
 
@@ -39,7 +39,7 @@ impl Model for Engine {
 
     ghost view = { λ e. rows_in e.parts };
 
-    ghost invariant = { λ e. AreKept e.parts };
+    ghost invariant = { λ e. AreLawfulParts e.parts };
 }
 
 impl Engine {
@@ -50,12 +50,12 @@ impl Engine {
         cpe_rows::law::rows_stay_lawful();
         Engine {
             alloc,
-            parts: Parts::new(alloc),
+            parts: EngineParts::new(alloc),
         }
     }
 
     /// Drops the engine, with all that it keeps. A crate that calls it need not prove how each part of an engine is dropped.
-    pub fn let_go(self) {
+    pub fn discard(self) {
         drop(self);
     }
 
@@ -221,7 +221,7 @@ impl Engine {
     ) -> Result<Reply, Memory>
         requires { is_valid_query query ≡ true }
         ensures answer { IfOk result (λ r. r ≡ answer self.now query) }
-        ensures steps { StepsWithin steps.old steps.new (looks self.now query) }
+        ensures steps { StepsWithin steps.old steps.new (query_looks self.now query) }
     {
         match query {
             Query::Lookup(name) => Ok(self.lookup(name)),
@@ -245,7 +245,7 @@ impl Engine {
     {
         match self.parts.registry.dictionary().entry_of(alloc, &name) {
             Ok(entry) => Ok(Reply::Show { name, entry }),
-            Err(memory) => Err(let_go(name, memory)),
+            Err(memory) => Err(discard(name, memory)),
         }
     }
 
@@ -258,13 +258,13 @@ impl Engine {
     ) -> Result<Reply, Memory>
         requires { is_lower name ≡ true }
         ensures answer { IfOk result (λ r. r ≡ answer self.now (Query.Search name active_only)) }
-        ensures steps { StepsWithin steps.old steps.new (looks self.now (Query.Search name active_only)) }
+        ensures steps { StepsWithin steps.old steps.new (query_looks self.now (Query.Search name active_only)) }
     {
         cpe_rows::law::names_are_equal();
         let dictionary = self.parts.registry.dictionary();
         match dictionary.rows_found(alloc, &name, active_only, steps) {
             Ok(rows) => Ok(Reply::Search { name, rows }),
-            Err(memory) => Err(let_go(name, memory)),
+            Err(memory) => Err(discard(name, memory)),
         }
     }
 
@@ -276,7 +276,7 @@ impl Engine {
     ) -> Result<Reply, Memory>
         requires { is_lower name ≡ true }
         ensures answer { IfOk result (λ r. r ≡ answer self.now (Query.Items name)) }
-        ensures steps { StepsWithin steps.old steps.new (looks self.now (Query.Items name)) }
+        ensures steps { StepsWithin steps.old steps.new (query_looks self.now (Query.Items name)) }
     {
         cpe_rows::law::names_are_equal();
         let parts = &self.parts;
@@ -285,7 +285,7 @@ impl Engine {
             .items_met(alloc, &parts.registry, &name, steps)
         {
             Ok((rows, maybe)) => Ok(Reply::Items { name, rows, maybe }),
-            Err(memory) => Err(let_go(name, memory)),
+            Err(memory) => Err(discard(name, memory)),
         }
     }
 
@@ -294,7 +294,7 @@ impl Engine {
     {
         match self.parts.registry.dictionary().chain(alloc, &name) {
             Ok((links, ends)) => Ok(Reply::Chain { name, links, ends }),
-            Err(memory) => Err(let_go(name, memory)),
+            Err(memory) => Err(discard(name, memory)),
         }
     }
 
@@ -307,7 +307,7 @@ impl Engine {
 }
 
 // Drops the name of a query after memory ran out. Under a `?` each of its eleven values would be dropped in place.
-fn let_go(name: Wfn, memory: Memory) -> Memory {
+fn discard(name: Wfn, memory: Memory) -> Memory {
     drop(name);
     memory
 }

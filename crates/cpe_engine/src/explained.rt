@@ -2,14 +2,14 @@
 ghost use Rattle.std.specs.Prelude.{◌≡◌, IfOk, IfSome, None, find, slice_get, true};
 ghost use Rattle.std.specs.Option.{option_copied, option_map_or};
 ghost use Rattle.cpe_rows.specs.Verdict.{fact_truth, finds_item, is_followed, truth};
-ghost use Rattle.cpe_explain.specs.checked_certificates.Leading.{followed};
-ghost use Rattle.cpe_explain.specs.checked_certificates.Relates.{related};
+ghost use Rattle.certificate_search.specs.certificate_check.Leading.{followed};
+ghost use Rattle.certificate_search.specs.certificate_check.Relates.{related};
 
 use crate::engine::Engine;
 use crate::leading::{ends_of, first_followed, first_shown};
 use crate::slots::{first_related, item_of};
 use crate::truths::kept_truth;
-use cpe_explain::{ExplainedRows, PlainRows, Relates};
+use certificate_search::{ExplainedRows, PlainRows, Relates};
 use cpe_rows::{CheckKey, Deprecation, EntryRef, Memory, Mode, Statement, Text, Truth, Wfn};
 use std::alloc::Global;
 
@@ -74,7 +74,7 @@ impl Engine {
 
 impl Engine {
     // The truth of a fact, if it is kept.
-    fn told_truth(&self, mode: Mode, name: &Wfn) -> Option<Truth>
+    fn stored_truth(&self, mode: Mode, name: &Wfn) -> Option<Truth>
         ensures { IfSome result (λ truth. truth ≡ fact_truth self.now mode name.now) }
     {
         kept_truth(&self.parts.registry, &self.parts.verdicts, mode, name)
@@ -84,7 +84,7 @@ impl Engine {
     fn is_ruled_out(&self, relates: Relates, mode: Mode, name: &Wfn) -> bool
         ensures { result ≡ true → find (is_followed (related relates) (followed self.now mode) name.now) self.now.items ≡ None }
     {
-        match self.told_truth(mode, name) {
+        match self.stored_truth(mode, name) {
             Some(truth) => relates.is_ruled_out(truth),
             None => false,
         }
@@ -175,7 +175,7 @@ impl PlainRows for Engine {
     }
 
     fn find_fact(&self, alloc: Global, mode: Mode, name: &Wfn) -> Result<Truth, Memory> {
-        match self.told_truth(mode, name) {
+        match self.stored_truth(mode, name) {
             Some(truth) => Ok(truth),
             None => self.sought_truth(alloc, mode, name),
         }
@@ -194,10 +194,6 @@ impl ExplainedRows for Engine {
             return Ok(None);
         }
         self.sought_item(alloc, relates, mode, name)
-    }
-
-    fn entries_len(&self) -> usize {
-        Engine::entries_len(self)
     }
 
     fn ends<'a>(&'a self, alloc: Global, name: &'a Wfn) -> Result<Vec<&'a Wfn>, Memory> {

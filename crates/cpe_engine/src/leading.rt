@@ -5,14 +5,14 @@ ghost use Rattle.cpe_rows.specs.Prelude.{ends, is_followed, IsLower, Rows};
 ghost use Rattle.name_index.specs.Table.{IsLive};
 ghost use Rattle.engine_edits.specs.fact_laws.Asked.{leads};
 ghost use Rattle.engine_edits.specs.fact_laws.Shown.{names_at};
-ghost use Rattle.verdicts.specs.cpe_registry.Registered.{AreLive, name_in};
+ghost use Rattle.verdicts.specs.name_registry.Registered.{AreRegistryNames, name_in};
 ghost use Rattle.verdicts.specs.Items.{AreItemsTo};
 ghost use Rattle.verdicts.specs.Rows.{AreOfRows};
-ghost use Rattle.cpe_explain.specs.checked_certificates.Leading.{followed};
-ghost use Rattle.cpe_explain.specs.checked_certificates.Relates.{related};
+ghost use Rattle.certificate_search.specs.certificate_check.Leading.{followed};
+ghost use Rattle.certificate_search.specs.certificate_check.Relates.{related};
 ghost use Rattle.cpe_engine.specs.Shown.{AreShown};
 
-use cpe_explain::Relates;
+use certificate_search::Relates;
 use cpe_rows::{Memory, Mode, Wfn};
 use engine_edits::ItemSlots;
 use name_index::NameId;
@@ -32,7 +32,7 @@ fn names_of<'a>(
     alloc: Global,
     ids: &[NameId],
 ) -> Result<Vec<&'a Wfn>, Memory>
-    requires { AreLive registry.now.table ids.now }
+    requires { AreRegistryNames registry.now.table ids.now }
     ensures { IfOk result (λ names. map (λ n. n.now) names.items ≡ names_at registry.now.table ids.now) }
 {
     let mut names = Vec::with_capacity(alloc, ids.len())?;
@@ -65,7 +65,7 @@ pub(crate) fn ends_of<'a>(
 ) -> Result<Vec<&'a Wfn>, Memory>
     ensures { IfOk result (λ names. map (λ n. n.now) names.items ≡ ends registry.now.entries name.now) }
 {
-    cpe_rows::law::absent_names_stand_alone();
+    cpe_rows::law::absent_names_are_alone();
     match registry.find(name) {
         Some(id) => numbered_ends(registry, alloc, id),
         None => alone(alloc, name),
@@ -149,8 +149,8 @@ fn items_shown(
     name: &Wfn,
 ) -> Result<Vec<NameId>, Memory>
     requires lower { IsLower name.now }
-    requires stood { (rows : Rows) × AreOfRows registry.now verdicts.now rows }
-    ensures live { IfOk result (λ v. AreLive registry.now.table v.items) }
+    requires rows_before { (rows : Rows) × AreOfRows registry.now verdicts.now rows }
+    ensures live { IfOk result (λ v. AreRegistryNames registry.now.table v.items) }
     ensures items { (rows : Rows) → AreOfRows registry.now verdicts.now rows → IfOk result (λ v. AreItemsTo rows mode (related relates name.now) (names_at registry.now.table v.items)) }
 {
     match relates {
@@ -170,8 +170,8 @@ fn all_shown(
     names: &[&Wfn],
 ) -> Result<Vec<NameId>, Memory>
     requires lower { AllByRecursion IsLower (map (λ n. n.now) names.now) }
-    requires stood { (rows : Rows) × AreOfRows registry.now verdicts.now rows }
-    ensures live { IfOk result (λ v. AreLive registry.now.table v.items) }
+    requires rows_before { (rows : Rows) × AreOfRows registry.now verdicts.now rows }
+    ensures live { IfOk result (λ v. AreRegistryNames registry.now.table v.items) }
     ensures items { (rows : Rows) → AreOfRows registry.now verdicts.now rows → IfOk result (λ v. AreShown rows mode relates (map (λ n. n.now) names.now) (names_at registry.now.table v.items)) }
 {
     let mut all = Vec::new(alloc);
@@ -196,7 +196,7 @@ pub(crate) fn first_shown<'a>(
     name: &Wfn,
 ) -> Result<Option<&'a Wfn>, Memory>
     requires lower { IsLower name.now }
-    requires stood { (rows : Rows) × AreOfRows registry.now verdicts.now rows }
+    requires rows_before { (rows : Rows) × AreOfRows registry.now verdicts.now rows }
     ensures { (rows : Rows) → AreOfRows registry.now verdicts.now rows → IfOk result (λ item. option_copied item ≡ find (is_followed (related relates) (followed rows mode) name.now) rows.items) }
 {
     let names = leads_of(registry, alloc, mode, name)?;

@@ -1,8 +1,8 @@
 // Items by their slots, and the first item that a name covers or may cover.
 ghost use Rattle.std.specs.Prelude.{◌≡◌, find, length, slice_get, filter_map, option_copied};
-ghost use Rattle.cpe_explain.specs.checked_certificates.Relates.{related};
+ghost use Rattle.certificate_search.specs.certificate_check.Relates.{related};
 
-use cpe_explain::Relates;
+use certificate_search::Relates;
 use cpe_rows::Wfn;
 use engine_edits::ItemSlots;
 

@@ -1,7 +1,7 @@
--- Where the text of a name was written, all is so that is said of it, and where none was, too.
+-- Lemmas: the clauses of `WritesOutput` and `WritesBound` hold, whether a text is written or not.
 use Rattle.std.proofs.Common.{◌≡◌, ℕ, ◌≤◌, List, ◌++◌, length, take, Option, None, Some, Result, Ok, Err, refl, sym, ap, ◌∙◌}
 use Rattle.std.specs.Option.{option_map}
-use Rattle.cpe_grammar.proofs.Results.{left_over}
+use Rattle.name_grammar.proofs.Results.{left_over}
 use Rattle.cpe_name.specs.Eleven.{Values, Written}
 use Rattle.cpe_name.specs.Text.{output_text}
 use Rattle.cpe_name.specs.WfnText.{IsWfnText}
@@ -11,10 +11,10 @@ use Rattle.cpe_name.proofs.Bindings.{found_written, only_written, said_written, 
 use Rattle.cpe_name.proofs.Unbinding.{Unbinds, behind, one_name, never, says_text, place_said}
 use Rattle.cpe_fs.specs.Writing.{WritesBound, WritesOutput}
 
--- ---- to the text of a name
+-- ---- from a binding to the text of a name
 
 module _ {Has : Values → List ℕ → Type 0} {Leaves : List ℕ → ℕ → Type 0} {read : List ℕ → Result Values ℕ} {says : List ℕ → Result (List ℕ) ℕ} (binding : Unbinds Has Leaves read says) where
-  -- the output text of a name that has the text was written
+  -- `WritesOutput` holds if the output text of a name that has the text is written
   pub written_output : (s : List ℕ) (at most : ℕ) (old new : List ℕ) (end : ℕ) (name : Values) → Has name s → take end new ≡ take at old ++ output_text name → end ≤ most → length new ≡ length old
       → WritesOutput Has Leaves says s at most old new (Ok end)
   written_output s at most old new end name has written within long = record {
@@ -27,7 +27,7 @@ module _ {Has : Values → List ℕ → Type 0} {Leaves : List ℕ → ℕ → T
     unchanged = tt;
   }
 
-  -- no name has the text, which goes wrong at this place
+  -- `WritesOutput` holds if no name has the text, and the result is the text's place
   pub refused_output : (s : List ℕ) (at most : ℕ) (old : List ℕ) (place : ℕ) → Leaves s place → WritesOutput Has Leaves says s at most old old (Err place)
   refused_output s at most old place leaves = record {
     found = tt;
@@ -39,13 +39,13 @@ module _ {Has : Values → List ℕ → Type 0} {Leaves : List ℕ → ℕ → T
     unchanged = refl;
   }
 
--- ---- and from it
+-- ---- from the text of a name to a binding
 
 module _ (bind : Values → List ℕ) (says : List ℕ → Option (List ℕ)) (s : List ℕ) (at most : ℕ) (old : List ℕ) (same : says s ≡ bound_by bind s) where
   as_said : option_map (λ said. take at old ++ said) (bound_by bind s) ≡ option_map (λ said. take at old ++ said) (says s)
   as_said = ap (option_map (λ said. take at old ++ said)) (sym same)
 
-  -- what a name that has the text is bound to was written
+  -- `WritesBound` holds if what `bind` returns for a name that has the text is written
   pub written_bound : (new put : List ℕ) (end : ℕ) (t : Written) (are : AreWritten s t) → take end new ≡ take at old ++ put → put ≡ bind are.name → end ≤ most → length new ≡ length old
       → WritesBound bind says s at most old new (Some end)
   written_bound new put end t are written is within long = record {
@@ -58,7 +58,7 @@ module _ (bind : Values → List ℕ) (says : List ℕ → Option (List ℕ)) (s
     unchanged = λ e. absurd cc;
   }
 
-  -- no name has the text
+  -- `WritesBound` holds if no name has the text, and nothing is written
   pub nothing_bound : (IsWfnText s → ⊥) → WritesBound bind says s at most old old None
   nothing_bound never = record {
     found = tt;

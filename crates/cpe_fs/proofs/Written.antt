@@ -1,4 +1,4 @@
--- A component with its bare `.` and `-` quoted is the text of its value.
+-- Lemmas: a component with a backslash before each bare `.` and `-` is the text of its value.
 use Rattle.std.proofs.Common.{◌≡◌, ◌≢◌, ℕ, true, false, ◌||◌, eqb, List, [], ◌∷◌, ◌++◌, refl, sym, ap, ◌∙◌, inl, inr, arith}
 use Rattle.std.specs.List.{flat_map}
 use Rattle.std.proofs.lemmas.List.Concat.{flat_map-append}
@@ -11,7 +11,7 @@ use Rattle.cpe_values.specs.declared.value.Value.TheVariants as value
 use Rattle.cpe_values.specs.declared.spelling.Style.TheVariants as style
 use Rattle.cpe_values.specs.Parts.{Parts, IsText}
 use Rattle.cpe_values.specs.Values.{IsValue}
-use Rattle.cpe_values.specs.Spelling.{edge_text, is_word, character, spelling}
+use Rattle.cpe_values.specs.Spelling.{edge_text, is_word, style_character, spelling}
 use Rattle.cpe_name.specs.Names.{value_of}
 use Rattle.cpe_name.specs.Text.{value_text, output_text}
 use Rattle.cpe_name.specs.declared.attribute.Attribute.{Attribute}
@@ -21,10 +21,10 @@ use Rattle.cpe_name.proofs.Lists.{slot_by}
 use Rattle.cpe_name.proofs.OutputTexts.{output_from_is}
 use Rattle.cpe_name.proofs.Repeated.{each_made}
 use Rattle.cpe_name.proofs.WholeTexts.{good_value}
-use Rattle.cpe_fs.specs.Grammar.{component}
-use Rattle.cpe_fs.specs.Spans.{is_only, AreComponents}
+use Rattle.cpe_fs.specs.Grammar.{fs_component}
+use Rattle.cpe_fs.specs.Spans.{is_only, AreFsComponents}
 use Rattle.cpe_name.specs.Spans.{texts}
-use Rattle.cpe_fs.specs.SpanValues.{value_at}
+use Rattle.cpe_fs.specs.SpanValues.{fs_value_at}
 use Rattle.cpe_fs.specs.Rewriting.{requoted, span_text}
 use Rattle.cpe_name.specs.Eleven.{Written}
 use Rattle.cpe_fs.proofs.ValueLemmas.{value_back, only_is}
@@ -38,8 +38,8 @@ quotes c h = rw h refl
 keeps : (c : ℕ) → (eqb c 46 || eqb c 45) ≡ false → requoted c ≡ c ∷ []
 keeps c h = rw h refl
 
--- the spelling of a character in one style makes that in the other
-character_requoted : (c : ℕ) → flat_map requoted (character style.Formatted c) ≡ character style.Wfn c
+-- the spelling of a character in a formatted string, requoted, is its spelling in a name
+character_requoted : (c : ℕ) → flat_map requoted (style_character style.Formatted c) ≡ style_character style.Wfn c
 character_requoted c =
     elim (cases_Bool (is_word c)) [
       | inl w ↦ rw (w, word_is_kept c w) refl
@@ -53,12 +53,12 @@ character_requoted c =
           ]
     ]
 
-body_requoted : (b : List ℕ) → flat_map requoted (flat_map (character style.Formatted) b) ≡ flat_map (character style.Wfn) b
+body_requoted : (b : List ℕ) → flat_map requoted (flat_map (style_character style.Formatted) b) ≡ flat_map (style_character style.Wfn) b
 body_requoted [] = refl
 body_requoted (c ∷ b) =
-    flat_map-append requoted (character style.Formatted c) (flat_map (character style.Formatted) b)
-    ∙ ap (λ (u : List ℕ). u ++ flat_map requoted (flat_map (character style.Formatted) b)) (character_requoted c)
-    ∙ ap (λ (u : List ℕ). character style.Wfn c ++ u) (body_requoted b)
+    flat_map-append requoted (style_character style.Formatted c) (flat_map (style_character style.Formatted) b)
+    ∙ ap (λ (u : List ℕ). u ++ flat_map requoted (flat_map (style_character style.Formatted) b)) (character_requoted c)
+    ∙ ap (λ (u : List ℕ). style_character style.Wfn c ++ u) (body_requoted b)
 
 edge_requoted : (e : Edge) → flat_map requoted (edge_text e) ≡ edge_text e
 edge_requoted edge.None = refl
@@ -67,21 +67,21 @@ edge_requoted (edge.Marks n) = each_made requoted 63 63 n refl
 
 spelling_requoted : (t : Parts) → flat_map requoted (spelling style.Formatted t) ≡ spelling style.Wfn t
 spelling_requoted t =
-    flat_map-append requoted (edge_text t.lead ++ flat_map (character style.Formatted) t.body) (edge_text t.trail)
-    ∙ ap (λ (u : List ℕ). u ++ flat_map requoted (edge_text t.trail)) (flat_map-append requoted (edge_text t.lead) (flat_map (character style.Formatted) t.body))
+    flat_map-append requoted (edge_text t.lead ++ flat_map (style_character style.Formatted) t.body) (edge_text t.trail)
+    ∙ ap (λ (u : List ℕ). u ++ flat_map requoted (edge_text t.trail)) (flat_map-append requoted (edge_text t.lead) (flat_map (style_character style.Formatted) t.body))
     ∙ rw (edge_requoted t.lead, body_requoted t.body, edge_requoted t.trail) refl
 
 -- ---- components
 
--- a text is spelled neither `*` nor `-`
-text_is_not : (t : Parts) (v : Value) (byte : ℕ) → IsText t → value_at (byte ∷ []) ≡ v → value.Text t ≢ v → is_only byte (spelling style.Formatted t) ≡ false
+-- the component of a text is neither `*` nor `-`
+text_is_not : (t : Parts) (v : Value) (byte : ℕ) → IsText t → fs_value_at (byte ∷ []) ≡ v → value.Text t ≢ v → is_only byte (spelling style.Formatted t) ≡ false
 text_is_not t v byte good is other =
     elim (cases_Bool (is_only byte (spelling style.Formatted t))) [
-      | inl h ↦ absurd (other (sym (value_back (value.Text t) good) ∙ ap value_at (only_is byte (spelling style.Formatted t) h) ∙ is))
+      | inl h ↦ absurd (other (sym (value_back (value.Text t) good) ∙ ap fs_value_at (only_is byte (spelling style.Formatted t) h) ∙ is))
       | inr h ↦ h
     ]
 
-spelled : (v : Value) → IsValue v → span_text (component v) ≡ value_text v
+spelled : (v : Value) → IsValue v → span_text (fs_component v) ≡ value_text v
 unfolding span_text
 spelled value.Any good = refl
 spelled value.Na good = refl
@@ -90,9 +90,9 @@ spelled (value.Text t) good =
 
 -- ---- names
 
--- what is written of the components is the output text of the name
-pub components_say : (s : List ℕ) (c : Written) (are : AreComponents s c) → output_from span_text c ≡ output_text are.name
+-- what is written from the components is the output text of the name
+pub components_say : (s : List ℕ) (c : Written) (are : AreFsComponents s c) → output_from span_text c ≡ output_text are.name
 components_say s c are = output_from_is span_text are.name c each where
   each : (a : Attribute) → span_text (slot (texts c) a) ≡ value_text (value_of are.name a)
   each a =
-      ap (λ (us : List (List ℕ)). span_text (slot us a)) are.are ∙ ap span_text (slot_by (λ b. component (value_of are.name b)) a) ∙ spelled (value_of are.name a) (good_value are.name a are.fs.0)
+      ap (λ (us : List (List ℕ)). span_text (slot us a)) are.are ∙ ap span_text (slot_by (λ b. fs_component (value_of are.name b)) a) ∙ spelled (value_of are.name a) (good_value are.name a are.fs.0)

@@ -1,18 +1,18 @@
-// From names to formatted strings (NIST IR 7695, 6.2.2).
+// Writes the formatted strings of names (NIST IR 7695, 6.2.2).
 ghost use Rattle.std.specs.Prelude.{◌≡◌, ◌++◌, ◌∷◌, ◌+◌, ◌*◌, ◌^◌, ◌<◌, ◌≤◌, drop, length, true, IfOk, OnOk, flat_map};
-ghost use Rattle.cpe_values.specs.Spelling.{edge_text, character};
+ghost use Rattle.cpe_values.specs.Spelling.{edge_text, style_character};
 ghost use Rattle.cpe_values.specs.declared.spelling.Style.TheVariants as style;
 ghost use Rattle.cpe_values.specs.declared.value.Value.TheVariants.{Any};
 ghost use Rattle.cpe_name.specs.Names.{attributes, value_of};
-ghost use Rattle.cpe_fs.specs.Grammar.{component, fs_text};
-ghost use Rattle.cpe_fs.specs.Scanning.{any_tail};
+ghost use Rattle.cpe_fs.specs.Grammar.{fs_component, fs_text};
+ghost use Rattle.cpe_fs.specs.Scanning.{any_fs_tail};
 
 use cpe_name::{ATTRIBUTES, Attribute, Wfn};
 use cpe_values::{Edge, Memory, Style, Value, is_bare_byte, push_spelling, skip_bare};
 use std::alloc::Global;
 
 pub(crate) fn push_component(out: &mut Vec<u8>, value: &Value) -> Result<(), Memory>
-    ensures { OnOk result (out.new.items ≡ out.old.items ++ component value.now) }
+    ensures { OnOk result (out.new.items ≡ out.old.items ++ fs_component value.now) }
 {
     match value {
         Value::Any => out.push(b'*')?,
@@ -22,9 +22,9 @@ pub(crate) fn push_component(out: &mut Vec<u8>, value: &Value) -> Result<(), Mem
     Ok(())
 }
 
-// A colon and a component for each attribute.
+// Writes a colon and a component for each attribute.
 fn push_fields(out: &mut Vec<u8>, name: &Wfn, which: &[Attribute]) -> Result<(), Memory>
-    ensures { OnOk result (out.new.items ≡ out.old.items ++ flat_map (λ a. 58 ∷ component (value_of name.now a)) which.now) }
+    ensures { OnOk result (out.new.items ≡ out.old.items ++ flat_map (λ a. 58 ∷ fs_component (value_of name.now a)) which.now) }
 {
     for attribute in which {
         out.push(b':')?;
@@ -42,7 +42,7 @@ fn is_any(value: &Value) -> bool
 // Whether each value after the version is ANY, as in most names.
 #[tactic(auto, using(crate::proofs::AnyTail::tail_written))]
 fn is_any_tail(name: &Wfn) -> bool
-    ensures { result ≡ true → flat_map (λ a. 58 ∷ component (value_of name.now a)) (drop 4 attributes) ≡ any_tail }
+    ensures { result ≡ true → flat_map (λ a. 58 ∷ fs_component (value_of name.now a)) (drop 4 attributes) ≡ any_fs_tail }
 {
     is_any(name.get(Attribute::Update))
         && is_any(name.get(Attribute::Edition))
@@ -53,9 +53,9 @@ fn is_any_tail(name: &Wfn) -> bool
         && is_any(name.get(Attribute::Other))
 }
 
-// What comes after the version. Seven times ANY is put at once.
+// Writes what follows the version. If all seven values are ANY, they are written at once.
 fn push_tail(out: &mut Vec<u8>, name: &Wfn) -> Result<(), Memory>
-    ensures { OnOk result (out.new.items ≡ out.old.items ++ flat_map (λ a. 58 ∷ component (value_of name.now a)) (drop 4 attributes)) }
+    ensures { OnOk result (out.new.items ≡ out.old.items ++ flat_map (λ a. 58 ∷ fs_component (value_of name.now a)) (drop 4 attributes)) }
 {
     if is_any_tail(name) {
         out.extend_from_slice(b":*:*:*:*:*:*:*")?;
@@ -64,20 +64,20 @@ fn push_tail(out: &mut Vec<u8>, name: &Wfn) -> Result<(), Memory>
     push_fields(out, name, &ATTRIBUTES[4..])
 }
 
-/// The formatted string of a name (NIST IR 7695, 6.2.2). Each name has exactly one, and letter case is kept.
+/// The formatted string of a name (NIST IR 7695, 6.2.2). Each name has exactly one. Letters keep their case.
 ///
 /// # Errors
-/// Only that memory ran out.
+/// Only if memory runs out.
 pub fn bind_fs(alloc: Global, name: &Wfn) -> Result<Vec<u8>, Memory>
     ensures { IfOk result (λ text. text.items ≡ fs_text name.now) }
 {
     append_fs(Vec::new(alloc), name)
 }
 
-/// Puts the formatted string of a name, as [`bind_fs`] gives it, after what a buffer holds.
+/// Appends the formatted string of a name, as [`bind_fs`] writes it, to a buffer.
 ///
 /// # Errors
-/// Only that memory ran out; the buffer is then dropped.
+/// Only if memory runs out. The buffer is then dropped.
 pub fn append_fs(buffer: Vec<u8>, name: &Wfn) -> Result<Vec<u8>, Memory>
     ensures { IfOk result (λ text. text.items ≡ buffer.items ++ fs_text name.now) }
 {
@@ -100,7 +100,7 @@ fn edge_len(edge: Edge) -> u64
 }
 
 fn characters_len(body: &[u8]) -> u128
-    ensures value { result ≡ length (flat_map (character style.Formatted) body.now) }
+    ensures value { result ≡ length (flat_map (style_character style.Formatted) body.now) }
     ensures small { result ≤ 2 * length body.now }
 {
     let mut len = 0u128;
@@ -114,10 +114,10 @@ fn characters_len(body: &[u8]) -> u128
     len
 }
 
-// Most bodies have bare characters alone: these take a byte each.
+// The length of a body in a formatted string. Most bodies have only bare characters, with one byte each.
 #[tactic(auto, using(crate::proofs::BareLengths::bare_lengths))]
 fn body_len(body: &[u8]) -> u128
-    ensures value { result ≡ length (flat_map (character style.Formatted) body.now) }
+    ensures value { result ≡ length (flat_map (style_character style.Formatted) body.now) }
     ensures small { result < 2 ^ 65 }
 {
     let rest = skip_bare(body);
@@ -126,7 +126,7 @@ fn body_len(body: &[u8]) -> u128
 }
 
 fn component_len(value: &Value) -> u128
-    ensures value { result ≡ length (component value.now) }
+    ensures value { result ≡ length (fs_component value.now) }
     ensures small { result < 2 ^ 66 }
 {
     match value {
@@ -142,7 +142,7 @@ fn component_len(value: &Value) -> u128
 
 fn fields_len(name: &Wfn, which: &[Attribute]) -> u128
     requires { length which.now < 12 }
-    ensures value { result ≡ length (flat_map (λ a. 58 ∷ component (value_of name.now a)) which.now) }
+    ensures value { result ≡ length (flat_map (λ a. 58 ∷ fs_component (value_of name.now a)) which.now) }
     ensures small { result < 2 ^ 70 }
 {
     let mut len = 0u128;
@@ -152,7 +152,7 @@ fn fields_len(name: &Wfn, which: &[Attribute]) -> u128
     len
 }
 
-/// The length of the formatted string of a name, in bytes. It takes no memory.
+/// The length of the formatted string of a name, in bytes. Allocates: no.
 pub fn fs_len(name: &Wfn) -> u128
     ensures { result ≡ length (fs_text name.now) }
 {

@@ -1,13 +1,13 @@
-// The formatted string of a name, written from where its values lie in one of its texts (NIST IR 7695, 6.2.2).
-// The room is the caller's: nothing here takes memory.
+// Writes the formatted string of a name from the name's text, in which the values were found before (NIST IR 7695,
+// 6.2.2). The caller gives the room; nothing here allocates.
 ghost use Rattle.std.specs.Prelude.{◌≡◌, ◌≤◌, ◌+◌, ◌*◌, ◌-◌, ◌++◌, ◌∷◌, [], length, take, codes, ◌&&◌, ◌==◌};
 ghost use Rattle.cpe_name.specs.Spans.{texts, total_length};
 ghost use Rattle.cpe_fs.specs.Unquoting.{begins_bare, unquoted, component_from, keyed, written_string};
 
 use crate::BOUND_FRAME;
-use cpe_grammar::but_last;
+use byte_room::{put, put_byte};
 use cpe_name::Written;
-use cpe_room::{put, put_byte};
+use name_grammar::but_last;
 
 fn begins_bare(bytes: &[u8]) -> bool
     ensures { result ≡ begins_bare bytes.now }
@@ -15,14 +15,14 @@ fn begins_bare(bytes: &[u8]) -> bool
     matches!(bytes, [b'.' | b'-', ..])
 }
 
-// Before `.` and `-` a formatted string has no backslash.
+// Whether the byte is a backslash before `.` or `-`. A formatted string doesn't have this backslash.
 fn is_dropped(byte: u8, behind: &[u8]) -> bool
     ensures { result ≡ (byte == 92 && begins_bare behind.now) }
 {
     byte == b'\\' && begins_bare(behind)
 }
 
-// The byte is always written, and kept where it isn't dropped: no branch depends on the byte.
+// Always writes the byte. If the byte is dropped, the next write overwrites it. So no branch depends on the byte.
 #[tactic(auto, unfolding(crate::specs::Unquoting::unquoted))]
 fn put_kept(room: &mut [u8], at: usize, byte: u8, behind: &[u8]) -> usize
     requires { at + 1 ≤ length room.old }

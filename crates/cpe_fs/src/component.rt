@@ -1,9 +1,9 @@
-// The component of one value, by itself (NIST IR 7695, 6.2).
+// The component of a single value (NIST IR 7695, 6.2).
 ghost use Rattle.std.specs.Prelude.{◌≡◌, ℕ, List, Some, None, IfOk, IfErr, MatchResult};
 ghost use Rattle.cpe_values.specs.declared.value.Value.{Value};
 ghost use Rattle.cpe_values.specs.Values.{IsValue};
-ghost use Rattle.cpe_fs.specs.Grammar.{component};
-ghost use Rattle.cpe_fs.specs.Component.{HasComponent, IsComponent, RefusesComponent, is_component, read_component};
+ghost use Rattle.cpe_fs.specs.Grammar.{fs_component};
+ghost use Rattle.cpe_fs.specs.Component.{HasComponent, IsFsComponent, RefusesComponent, is_component, read_component};
 
 use crate::bind::push_component;
 use crate::scan::scan_text;
@@ -12,10 +12,10 @@ use cpe_values::{Memory, Value};
 use std::alloc::Global;
 use thiserror::Error;
 
-/// Why a text has no value.
+/// Why no value was read from a text.
 #[derive(Clone, Copy, Debug, PartialEq, Eq, Error)]
 pub enum ComponentFault {
-    /// It is the component of no value.
+    /// No value has this text as its component.
     #[error("no value has this text")]
     NotComponent,
     /// Memory ran out.
@@ -30,19 +30,20 @@ fn is_component(text: &[u8]) -> bool
     matches!(scan_text(text), Ok([]))
 }
 
-/// The value that has this text as its component in a formatted string (NIST IR 7695, 6.2): `*` is ANY, `-` is NA, and
-/// all else spells a text. Letter case is kept. Which attribute may have the value is not asked.
+/// The value that has this text as its component in a formatted string (NIST IR 7695, 6.2). `*` is ANY, `-` is NA, and
+/// anything else is a text. Letters keep their case. The function doesn't check which attributes may have the value.
 ///
 /// # Errors
-/// [`NotComponent`](ComponentFault::NotComponent) exactly where no value has it; else memory ran out.
+/// [`NotComponent`](ComponentFault::NotComponent) exactly if no value has this text. Otherwise
+/// [`Memory`](ComponentFault::Memory), if memory runs out.
 pub fn unbind_component(alloc: Global, text: &[u8]) -> Result<Value, ComponentFault>
-    // What is answered has this component.
+    // The returned value has this component.
     ensures found { IfOk result (λ value. HasComponent value text.now) }
-    // A value that has this component is found, unless memory runs out.
+    // If a value has this component, it is returned, unless memory runs out.
     ensures only { (value : Value) → HasComponent value text.now → MatchResult result (λ found. found ≡ value) (λ fault. fault ≡ ComponentFault.Memory) }
-    // A text that no value has is refused as such, whatever the memory.
+    // The error `NotComponent` means that no value has this text. The error `Memory` means that some value has it.
     ensures refused { IfErr result (λ fault. RefusesComponent fault text.now) }
-    // The same by a function.
+    // The result equals that of the function `read_component`, unless memory runs out.
     ensures read { MatchResult result (λ value. read_component text.now ≡ Some value) (λ fault. fault ≡ ComponentFault.NotComponent → read_component text.now ≡ None) }
 {
     if !is_component(text) {
@@ -54,23 +55,24 @@ pub fn unbind_component(alloc: Global, text: &[u8]) -> Result<Value, ComponentFa
     }
 }
 
-/// The component of a value in a formatted string (NIST IR 7695, 6.2). Each value has exactly one, and letter case is kept.
+/// The component of a value in a formatted string (NIST IR 7695, 6.2). Each value has exactly one. Letters keep their
+/// case.
 ///
 /// # Errors
-/// Out of memory alone.
+/// Only if memory runs out.
 pub fn bind_component(alloc: Global, value: &Value) -> Result<Vec<u8>, Memory>
-    ensures { IfOk result (λ text. text.items ≡ component value.now) }
+    ensures { IfOk result (λ text. text.items ≡ fs_component value.now) }
 {
     let mut out = Vec::new(alloc);
     push_component(&mut out, value)?;
     Ok(out)
 }
 
-/// What `read_component` says of a text: the value that has it, and none exactly where no value has it. No text is that of
-/// two values.
+/// Law: `read_component` returns the value that has a text as its component. If no value has the text, it returns
+/// nothing. No text is the component of two values.
 pub fn read_component_is()
     ensures named { (value : Value) (s : List ℕ) → HasComponent value s → read_component s ≡ Some value }
     ensures found { (value : Value) (s : List ℕ) → read_component s ≡ Some value → HasComponent value s }
-    ensures none { (s : List ℕ) → read_component s ≡ None → ¬ (IsComponent s) }
-    ensures bound { (value : Value) → IsValue value → HasComponent value (component value) }
+    ensures none { (s : List ℕ) → read_component s ≡ None → ¬ (IsFsComponent s) }
+    ensures bound { (value : Value) → IsValue value → HasComponent value (fs_component value) }
 {}

@@ -1,11 +1,11 @@
-// Names borrowed from their formatted strings.
+// Reads formatted strings as names that borrow the bytes of their texts.
 ghost use Rattle.std.specs.Prelude.{◌≡◌, Ok, Err, map, IfOk, IfErr, IfSome, OnOk, MatchResult};
 ghost use Rattle.std.specs.List.{AllByRecursion};
 ghost use Rattle.cpe_values.specs.Borrowed.{value_lent};
 ghost use Rattle.cpe_name.specs.Prelude.{name_lent, named, texts};
 ghost use Rattle.cpe_fs.specs.Grammar.{Fs, IsFs, LeavesAt};
-ghost use Rattle.cpe_fs.specs.Spans.{IsSpan};
-ghost use Rattle.cpe_fs.specs.SpanValues.{value_at};
+ghost use Rattle.cpe_fs.specs.Spans.{IsFsSpan};
+ghost use Rattle.cpe_fs.specs.SpanValues.{fs_value_at};
 ghost use Rattle.cpe_fs.specs.Unbound.{read_fs};
 
 use crate::scan::scan_fs;
@@ -13,10 +13,11 @@ use crate::values::is_only;
 use cpe_name::{NameRef, Written};
 use cpe_values::{ValueRef, lend_spelling};
 
-// The value that has this text, where its body stands there as it is.
+// The value that has this component, borrowed from its bytes. `None` if a character of the body has a backslash before
+// it.
 fn lend_value(span: &[u8]) -> Option<ValueRef<'_>>
-    requires { IsSpan span.now }
-    ensures { IfSome result (λ value. value_lent value ≡ value_at span.now) }
+    requires { IsFsSpan span.now }
+    ensures { IfSome result (λ value. value_lent value ≡ fs_value_at span.now) }
 {
     if is_only(span, b'*') {
         Some(ValueRef::Any)
@@ -27,10 +28,10 @@ fn lend_value(span: &[u8]) -> Option<ValueRef<'_>>
     }
 }
 
-// The values of components.
+// The name whose values have these components. `None` if a value can't be borrowed.
 fn lend_values<'a>(written: &Written<'a>) -> Option<NameRef<'a>>
-    requires { AllByRecursion IsSpan (texts written.now) }
-    ensures { IfSome result (λ name. name_lent name ≡ named (map value_at (texts written.now))) }
+    requires { AllByRecursion IsFsSpan (texts written.now) }
+    ensures { IfSome result (λ name. name_lent name ≡ named (map fs_value_at (texts written.now))) }
 {
     Some(NameRef {
         part: lend_value(written.part)?,
@@ -47,19 +48,18 @@ fn lend_values<'a>(written: &Written<'a>) -> Option<NameRef<'a>>
     })
 }
 
-/// The name that has this formatted string (NIST IR 7695, 6.2.3), borrowed from it where each body stands there as it
-/// is: `None` where a character stands after a backslash, and [`unbind_fs`](crate::unbind_fs) makes that name.
-/// It takes no memory.
+/// The name that has this formatted string, borrowed from its bytes (NIST IR 7695, 6.2.3). `None` if a character has a
+/// backslash before it; [`unbind_fs`](crate::unbind_fs) makes such a name. Allocates: no.
 ///
 /// # Errors
-/// The place of the text as in [`FsFault::At`](crate::FsFault::At), exactly where no name has it.
+/// The place of the text as in [`FsFault::At`](crate::FsFault::At), exactly if no name has it.
 pub fn lend_fs(text: &[u8]) -> Result<Option<NameRef<'_>>, usize>
-    // What is lent has this text.
+    // A lent name has this text.
     ensures lent { IfOk result (λ lent. IfSome lent (λ name. Fs (name_lent name) text.now)) }
-    // Only a text that some name has is not refused, whether its name is lent or not.
+    // If there is no error, some name has this text.
     ensures had { OnOk result (IsFs text.now) }
     ensures refused { IfErr result (LeavesAt text.now) }
-    // The same by a function.
+    // The result equals that of the function `read_fs`, if a name is lent or there is an error.
     ensures read { MatchResult result (λ lent. IfSome lent (λ name. read_fs text.now ≡ Ok (name_lent name))) (λ place. read_fs text.now ≡ Err place) }
 {
     match scan_fs(text) {

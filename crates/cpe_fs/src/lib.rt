@@ -1,15 +1,16 @@
-//! Formatted strings: the binding of names to texts of eleven components (NIST IR 7695, 6.2).
+//! Formatted strings: the binding that writes a name as eleven components (NIST IR 7695, 6.2).
 //!
-//! A text is scanned once, from the left. The scan takes no memory. It decides whether the text is a formatted string,
-//! and finds its components. From these the name is made, or another form of the text is written.
+//! A text is scanned once, from left to right, without allocation. The scan decides whether the text is a formatted
+//! string, and finds its components. From these components, a function makes the name, or writes another text of the
+//! name.
 #![tactic(auto)]
 
 ghost use Rattle.std.specs.Prelude.{◌≡◌, ℕ, List, ◌+◌, ◌*◌, ◌≤◌, length, Ok, Err, Some, None, IfOk, IfErr, MatchResult};
 ghost use Rattle.cpe_name.specs.Prelude.{IsName, IsWfnText, Values, WfnText};
 ghost use Rattle.cpe_name.specs.Text.{output_text};
-ghost use Rattle.cpe_fs.specs.Grammar.{fs_text, Fs, LeavesAt, Refuses};
+ghost use Rattle.cpe_fs.specs.Grammar.{fs_text, Fs, LeavesAt, RefusesFs};
 ghost use Rattle.cpe_fs.specs.Bound.{bound, Binds};
-ghost use Rattle.cpe_fs.specs.Unbound.{read_fs, unbound, Says};
+ghost use Rattle.cpe_fs.specs.Unbound.{read_fs, unbound, HasOutputText};
 ghost use Rattle.cpe_fs.specs.Writing.{WritesBound, WritesOutput};
 
 mod bind;
@@ -32,19 +33,19 @@ pub use lend::lend_fs;
 use std::alloc::Global;
 use thiserror::Error;
 
-/// The bytes that an output text has beside its values: the names of the attributes, the brackets,
-/// the commas and the quotes.
+/// A bound on the bytes of an output text that aren't in its values: names of attributes, brackets, commas and quotes.
 pub const UNBOUND_FRAME: usize = 127;
 
-/// The bytes that a formatted string has beside the values of the text that it is made from: `cpe:2.3`, eleven colons,
-/// and eleven values that the text may leave out.
+/// A bound on the bytes of a formatted string that aren't in the values of the text from which it is made: `cpe:2.3`,
+/// eleven colons, and a `*` for each value that the text omits.
 pub const BOUND_FRAME: usize = 29;
 
-/// Why a text has no name.
+/// Why no name was read from a text.
 #[derive(Clone, Copy, Debug, PartialEq, Eq, Error)]
 pub enum FsFault {
-    /// It is the formatted string of no name. The place is the length of its longest prefix with which some formatted
-    /// string begins: at the byte after it the text goes wrong, or it is cut off there.
+    /// No name has this text. The number is the place of the text: the length of its longest beginning that is also the
+    /// beginning of a formatted string. The text has an error at the byte after that beginning, or ends there too
+    /// early.
     #[error("no name has this text: it goes wrong at byte {0}")]
     At(usize),
     /// Memory ran out.
@@ -52,18 +53,19 @@ pub enum FsFault {
     Memory,
 }
 
-/// The name that has this formatted string (NIST IR 7695, 6.2.3). Letter case is kept.
+/// The name that has this formatted string (NIST IR 7695, 6.2.3). Letters keep their case.
 ///
 /// # Errors
 ///
-/// `At` the place exactly where no name has this text, whatever the memory; else `Memory` where memory runs out.
+/// `At` with the place, exactly if no name has this text. `Memory` if a name has this text, but memory runs out.
 pub fn unbind_fs(alloc: Global, text: &[u8]) -> Result<Wfn, FsFault>
-    // What is found has this text.
+    // The returned name has this text.
     ensures found { IfOk result (λ name. Fs name text.now) }
-    // A name that has this text is found, unless memory runs out.
+    // If a name has this text, it is returned, unless memory runs out.
     ensures only { (name : Values) → Fs name text.now → MatchResult result (λ found. found ≡ name) (λ fault. fault ≡ FsFault.Memory) }
-    // A text that no name has is refused as such and with its place, whatever the memory.
-    ensures refused { IfErr result (λ fault. Refuses fault text.now) }
+    // The error `At` has the place of the text, which no name has. The error `Memory` means that some name has the
+    // text.
+    ensures refused { IfErr result (λ fault. RefusesFs fault text.now) }
 {
     let components = match scan_fs(text) {
         Ok(components) => components,
@@ -75,13 +77,12 @@ pub fn unbind_fs(alloc: Global, text: &[u8]) -> Result<Wfn, FsFault>
     }
 }
 
-/// Writes the output text of the name that has this formatted string into `room`, from `at` on, and
-/// makes no name. It answers the place after what was written; what stands from there on is not told.
-/// It takes no memory.
+/// Writes an output text into `room`, from `at` on, and returns the place after it. It is the output text of the name
+/// that has this formatted string. The bytes of `room` from the returned place on are unspecified. Allocates: no.
 ///
 /// # Errors
 ///
-/// The place of the text as in [`FsFault::At`], exactly where no name has it; the room is then as it was.
+/// The place of the text as in [`FsFault::At`], exactly if no name has it. `room` is then unchanged.
 pub fn write_unbound(room: &mut [u8], at: usize, text: &[u8]) -> Result<usize, usize>
     requires { at + 2 * length text.now + UNBOUND_FRAME ≤ length room.old }
     ensures { WritesOutput Fs LeavesAt unbound text.now at (at + 2 * length text.now + UNBOUND_FRAME) room.old room.new result }
@@ -92,31 +93,33 @@ pub fn write_unbound(room: &mut [u8], at: usize, text: &[u8]) -> Result<usize, u
     }
 }
 
-/// What `read_fs` says of a text: the name that has it, and its place exactly where no name has it.
+/// Law: `read_fs` returns the name that has a text as its formatted string. If no name has the text, it returns the
+/// text's place.
 pub fn read_fs_is()
     ensures named { (name : Values) (s : List ℕ) → Fs name s → read_fs s ≡ Ok name }
     ensures found { (name : Values) (s : List ℕ) → read_fs s ≡ Ok name → Fs name s }
     ensures refused { (s : List ℕ) (place : ℕ) → read_fs s ≡ Err place → LeavesAt s place }
 {}
 
-/// What `unbound` says of a text: the output text of the name that has it, and its place exactly where no name has it.
+/// Law: `unbound` returns the output text of the name that has a text as its formatted string. If no name has the text,
+/// it returns the text's place.
 pub fn unbound_is()
     ensures named { (name : Values) (s : List ℕ) → Fs name s → unbound s ≡ Ok (output_text name) }
-    ensures found { (s text : List ℕ) → unbound s ≡ Ok text → Says s text }
+    ensures found { (s text : List ℕ) → unbound s ≡ Ok text → HasOutputText s text }
     ensures refused { (s : List ℕ) (place : ℕ) → unbound s ≡ Err place → LeavesAt s place }
 {}
 
-/// Each name has one formatted string, and no text is that of two names. So [`unbind_fs`] gives back the name of what
-/// [`bind_fs`] wrote, and `bind_fs` writes again each text that `unbind_fs` has read.
+/// Law: each name has one formatted string, and no text is the formatted string of two names. So, from what [`bind_fs`]
+/// writes, [`unbind_fs`] reads the same name. And `bind_fs` writes again each text that `unbind_fs` has read.
 pub fn one_text()
     ensures some { (name : Values) → IsName name → Fs name (fs_text name) }
     ensures text { (name : Values) (a b : List ℕ) → Fs name a → Fs name b → a ≡ b }
     ensures name { (a b : Values) (text : List ℕ) → Fs a text → Fs b text → a ≡ b }
 {}
 
-/// Writes the formatted string of the name that has this text (NIST IR 7695, 5 and 6.2.2) into `room`, from `at` on,
-/// and makes no name. It answers the place after what was written; what stands from there on is not told.
-/// It takes no memory. There is no answer exactly where no name has the text; the room is then as it was.
+/// Writes a formatted string into `room`, from `at` on, and returns the place after it. It is the formatted string of
+/// the name that has this text (NIST IR 7695, 5 and 6.2.2). The bytes of `room` from the returned place on are
+/// unspecified. Returns `None` exactly if no name has the text; `room` is then unchanged. Allocates: no.
 pub fn write_bound(room: &mut [u8], at: usize, text: &[u8]) -> Option<usize>
     requires { at + length text.now + BOUND_FRAME ≤ length room.old }
     ensures { WritesBound fs_text bound text.now at (at + length text.now + BOUND_FRAME) room.old room.new result }
@@ -127,7 +130,7 @@ pub fn write_bound(room: &mut [u8], at: usize, text: &[u8]) -> Option<usize>
     Some(put_string(room, at, &written))
 }
 
-/// What `bound` says of a text: the formatted string of the name that has it, and nothing exactly where no name has it.
+/// Law: `bound` returns the formatted string of the name that has a text. If no name has the text, it returns nothing.
 pub fn bound_is()
     ensures named { (name : Values) (s : List ℕ) → WfnText name s → bound s ≡ Some (fs_text name) }
     ensures found { (s text : List ℕ) → bound s ≡ Some text → Binds s text }

@@ -1,23 +1,23 @@
-// Where the components of a formatted string lie (NIST IR 7695, 6.2). Nothing here takes memory.
+// Finds the components of a formatted string (NIST IR 7695, 6.2). Nothing here allocates.
 //
-// Each function takes a prefix of a text. It answers what is left after it, or how many bytes are
-// left where no formatted string goes on.
+// Each function reads the beginning of the bytes, and returns the bytes after it. If the bytes don't fit, the error is
+// the number of bytes from the first wrong byte on.
 ghost use Rattle.std.specs.Prelude.{◌≡◌, ◌==◌, ◌≤◌, ◌-◌, ◌+◌, ◌∷◌, [], true, take, length, Ok, Err, IfOk, IfErr};
-ghost use Rattle.cpe_grammar.specs.Place.{StopsAt};
-ghost use Rattle.cpe_grammar.specs.Scanners.{Scanner, Tells, one};
+ghost use Rattle.name_grammar.specs.Place.{StopsAt};
+ghost use Rattle.name_grammar.specs.Scanners.{Scanner, IsScan, scan_one};
 ghost use Rattle.cpe_name.specs.Prelude.{attributes, texts};
 ghost use Rattle.cpe_fs.specs.Grammar.{IsFs};
-ghost use Rattle.cpe_fs.specs.Scanning.{is_hyphen, led_end, text_end, part_end, language_end, field_end, fields_end, any_tail};
-ghost use Rattle.cpe_fs.specs.Spans.{AreComponents, behind_field, component_at, components_at, any_components};
+ghost use Rattle.cpe_fs.specs.Scanning.{is_hyphen_byte, led_end, text_end, part_end, language_end, field_end, fs_fields_end, any_fs_tail};
+ghost use Rattle.cpe_fs.specs.Spans.{AreFsComponents, behind_field, component_at, components_at, any_components};
 
-use cpe_grammar::{prefix_of, scan_byte, scan_literal};
 use cpe_name::{Hyphen, Written, scan_language_tag};
 use cpe_values::{Style, scan_edge, scan_stem, starts_body};
+use name_grammar::{prefix_of, scan_byte, scan_literal};
 
-// After an asterisk: the end of the component, or what the asterisk leads.
+// Reads what follows an asterisk at the beginning of a component: nothing, or a body with its trail.
 #[tactic(auto, unfolding(crate::specs::Scanning::led_end))]
 fn scan_led(bytes: &[u8]) -> Result<&[u8], usize>
-    ensures { Tells (λ rest. rest.now) result (led_end bytes.now) }
+    ensures { IsScan (λ rest. rest.now) result (led_end bytes.now) }
 {
     match bytes {
         [byte, ..] if starts_body(Style::Formatted, *byte) => scan_stem(Style::Formatted, bytes),
@@ -27,7 +27,7 @@ fn scan_led(bytes: &[u8]) -> Result<&[u8], usize>
 
 #[tactic(auto, unfolding(crate::specs::Scanning::text_end))]
 pub(crate) fn scan_text(bytes: &[u8]) -> Result<&[u8], usize>
-    ensures { Tells (λ rest. rest.now) result (text_end bytes.now) }
+    ensures { IsScan (λ rest. rest.now) result (text_end bytes.now) }
 {
     match bytes {
         [b'*', rest @ ..] => scan_led(rest),
@@ -38,13 +38,13 @@ pub(crate) fn scan_text(bytes: &[u8]) -> Result<&[u8], usize>
     }
 }
 
-// A hyphen stands bare in a formatted string.
+// The hyphen of a language tag in a formatted string, which is always bare.
 struct BareHyphen;
 
 impl Hyphen for BareHyphen {
-    ghost begins = { is_hyphen };
+    ghost begins = { is_hyphen_byte };
 
-    ghost end = { one is_hyphen };
+    ghost end = { scan_one is_hyphen_byte };
 
     #[inline(always)]
     fn begins_with(byte: u8) -> bool {
@@ -57,12 +57,12 @@ impl Hyphen for BareHyphen {
     }
 }
 
-// What a component may be.
+// A kind of component, with its scanner.
 trait Component {
     ghost end: { Scanner };
 
     fn scan(bytes: &[u8]) -> Result<&[u8], usize>
-        ensures { Tells (λ rest. rest.now) result (end bytes.now) };
+        ensures { IsScan (λ rest. rest.now) result (end bytes.now) };
 }
 
 struct Part;
@@ -105,10 +105,10 @@ impl Component for Language {
     }
 }
 
-// A colon and a component: the component, and what is left after it.
+// Reads a colon and a component. Returns the component, and the bytes after it.
 #[tactic(auto, unfolding(crate::specs::Scanning::field_end, crate::specs::Spans::behind_field, crate::specs::Spans::component_at))]
 fn scan_field<C: Component>(bytes: &[u8]) -> Result<(&[u8], &[u8]), usize>
-    ensures told { Tells (λ x. x.1.now) result (field_end C.end bytes.now) }
+    ensures scans { IsScan (λ x. x.1.now) result (field_end C.end bytes.now) }
     ensures component { IfOk result (λ x. x.0.now ≡ component_at C.end bytes.now) }
     ensures rest { IfOk result (λ x. x.1.now ≡ behind_field C.end bytes.now) }
 {
@@ -117,10 +117,10 @@ fn scan_field<C: Component>(bytes: &[u8]) -> Result<(&[u8], &[u8]), usize>
     Ok((prefix_of(start, rest), rest))
 }
 
-// What follows the version of most names: seven times ANY.
+// Whether the rest is seven times ANY, as it is after the version of most names.
 #[inline(always)]
 fn is_any_tail(bytes: &[u8]) -> bool
-    ensures { result ≡ true → bytes.now ≡ any_tail }
+    ensures { result ≡ true → bytes.now ≡ any_fs_tail }
 {
     bytes.len() == 14 && bytes == b":*:*:*:*:*:*:*".as_slice()
 }
@@ -150,7 +150,7 @@ fn with_any_tail<'a>(
 }
 
 fn scan_fields(bytes: &[u8]) -> Result<(Written, &[u8]), usize>
-    ensures told { Tells (λ x. x.1.now) result (fields_end attributes bytes.now) }
+    ensures scans { IsScan (λ x. x.1.now) result (fs_fields_end attributes bytes.now) }
     ensures texts { IfOk result (λ x. texts x.0 ≡ components_at attributes bytes.now) }
 {
     let (part, rest) = scan_field::<Part>(bytes)?;
@@ -183,11 +183,11 @@ fn scan_fields(bytes: &[u8]) -> Result<(Written, &[u8]), usize>
     Ok((components, rest))
 }
 
-// The components of a formatted string, or how many bytes are left where the text leaves the
-// grammar.
+// The components of a formatted string. If the text is none, the error is the number of bytes from the first wrong byte
+// on.
 #[tactic(auto, using(crate::proofs::Whole::start_leaves, crate::proofs::Whole::fields_leave))]
 pub(crate) fn scan_fs(text: &[u8]) -> Result<Written, usize>
-    ensures found { IfOk result (AreComponents text.now) }
+    ensures found { IfOk result (AreFsComponents text.now) }
     ensures refused { IfErr result (StopsAt IsFs text.now) }
 {
     let (components, behind) = scan_fields(scan_literal(b"cpe:2.3", text)?)?;

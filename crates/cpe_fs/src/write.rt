@@ -1,13 +1,13 @@
-// The text of a well-formed name, written from where the components of its formatted string lie
-// (NIST IR 7695, 6.2.3). The room is the caller's: nothing here takes memory.
+// Writes the text of a well-formed name from the components of its formatted string (NIST IR 7695, 6.2.3). The caller
+// gives the room; nothing here allocates.
 ghost use Rattle.std.specs.Prelude.{◌≡◌, ◌≤◌, ◌+◌, ◌*◌, ◌++◌, ◌∷◌, [], length, take, codes, ◌||◌, ◌==◌, flat_map};
-ghost use Rattle.cpe_fs.specs.Rewriting.{requoted, in_quotes, span_text};
+ghost use Rattle.cpe_fs.specs.Rewriting.{requoted, fs_in_quotes, span_text};
 
+use byte_room::{put, put_byte};
 use cpe_name::PutValue;
-use cpe_room::{put, put_byte};
 
-// The backslash is always written, and kept where the character stands bare in a formatted string alone: no branch depends on the
-// byte.
+// Writes a backslash and the byte. The backslash is kept only before `.` and `-`, which are bare in a formatted string
+// but quoted in a name. Otherwise the byte overwrites it. So no branch depends on the byte.
 fn put_character(room: &mut [u8], at: usize, byte: u8) -> usize
     requires { at + 2 ≤ length room.old }
     ensures at { result ≤ at + 2 }
@@ -37,7 +37,7 @@ fn put_in_quotes(room: &mut [u8], at: usize, span: &[u8]) -> usize
     requires { at + 2 * length span.now + 2 ≤ length room.old }
     ensures at { result ≤ at + 2 * length span.now + 2 }
     ensures room { length room.new ≡ length room.old }
-    ensures written { take result room.new ≡ take at room.old ++ in_quotes span.now }
+    ensures written { take result room.new ≡ take at room.old ++ fs_in_quotes span.now }
 {
     let at = put_byte(room, at, b'"');
     let at = put_requoted(room, at, span);
@@ -58,7 +58,7 @@ fn put_span(room: &mut [u8], at: usize, span: &[u8]) -> usize
     }
 }
 
-// The texts of values from their components.
+// Writes the texts of values from their components.
 pub(crate) struct FromComponents;
 
 impl PutValue for FromComponents {

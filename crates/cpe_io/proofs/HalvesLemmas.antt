@@ -1,4 +1,4 @@
--- The halves of a line, by the places of its spaces.
+-- Lemmas: the places of the spaces in a line decide whether the line has two texts, and which.
 use Rattle.std.proofs.Common.{◌≡◌, ℕ, ◌+◌, ◌-◌, ◌<◌, zero, suc, true, false, List, [], ◌∷◌, ◌==◌, refl, sym, ap, ◌∙◌, length, take, drop, get_or, Some, None, arith, length-drop}
 use Rattle.std.specs.List.{slice_split, onto_first, count_by}
 use Rattle.std.proofs.lemmas.List.{take_all}
@@ -9,7 +9,7 @@ use Rattle.cpe_io.specs.Halves.{is_space, only_two, halves}
 not_space : (x : ℕ) → ((x == 32) ≡ true → ⊥) → is_space x ≡ false
 not_space x = elim (x == 32) as (λ b. (b ≡ true → ⊥) → b ≡ false) [ true ↦ λ never. absurd (never refl) | false ↦ λ _. refl ]
 
--- without a space there is one piece
+-- bytes without a space are one piece
 cut_none : (bytes : List ℕ) → ((k : ℕ) → k < length bytes → (get_or bytes k 0 == 32) ≡ true → ⊥) → slice_split is_space bytes ≡ bytes ∷ []
 cut_none [] h = refl
 cut_none (x ∷ xs) h =
@@ -25,7 +25,7 @@ cut_first (x ∷ xs) (suc k) high before here =
     slice_split-cons_no is_space x xs (not_space x (before 0 (omega arith)))
     ∙ ap (onto_first x) (cut_first xs k (omega (arith, high)) (λ j l e. before (suc j) (omega arith) e) here)
 
--- there is always a piece
+-- a line with two spaces or more has three pieces or more, so it has no two texts
 three_pieces : (one two : List ℕ) (line : List ℕ) → only_two (one ∷ two ∷ slice_split is_space line) ≡ None
 three_pieces one two line = go (slice_split is_space line) (length-slice_split is_space line) where
   go : (pieces : List (List ℕ)) → length pieces ≡ count_by is_space line + 1 → only_two (one ∷ two ∷ pieces) ≡ None
@@ -41,11 +41,11 @@ found_first bytes k is =
     cut_first bytes k is.0.high (λ j l e. is.0.before j (omega arith) l e) is.1
     ∙ ap (λ (n : ℕ). take k bytes ∷ slice_split is_space (drop n bytes)) next
 
--- a line without a space has no halves
+-- a line without a space has no two texts
 pub no_space : (line : List ℕ) → IsFirstByte (is_byte 32) line None → halves line ≡ None
 no_space line none = ap only_two (found_none line none)
 
--- what stands after the first
+-- the bytes after the first space
 abbrev tail : List ℕ → ℕ → List ℕ
 tail line k = take (length line - (k + 1)) (drop (k + 1) line)
 
@@ -55,13 +55,13 @@ tail_is line k = take_all (length line - (k + 1)) (drop (k + 1) line) (omega (ar
 found_behind : (line : List ℕ) (k : ℕ) → IsFirstByte (is_byte 32) line (Some k) → slice_split is_space line ≡ take k line ∷ slice_split is_space (tail line k)
 found_behind line k first = found_first line k first ∙ ap (λ (l : List ℕ). take k line ∷ slice_split is_space l) (sym (tail_is line k))
 
--- one with a second space has none either
+-- a line with a second space has no two texts
 pub more_spaces : (line : List ℕ) (k n : ℕ) → IsFirstByte (is_byte 32) line (Some k) → IsFirstByte (is_byte 32) (tail line k) (Some n) → halves line ≡ None
 more_spaces line k n first second =
     ap only_two (found_behind line k first ∙ ap (λ (ps : List (List ℕ)). take k line ∷ ps) (found_first (tail line k) n second))
     ∙ three_pieces (take k line) (take n (tail line k)) (drop (n + 1) (tail line k))
 
--- one with a space alone has what stands before and after it
+-- a line with a single space has the texts before and after this space
 pub one_space : (line : List ℕ) (k : ℕ) → IsFirstByte (is_byte 32) line (Some k) → IsFirstByte (is_byte 32) (tail line k) None → halves line ≡ Some (take k line, tail line k)
 one_space line k first second =
     ap only_two (found_behind line k first ∙ ap (λ (ps : List (List ℕ)). take k line ∷ ps) (found_none (tail line k) second))

@@ -5,13 +5,14 @@ use Rattle.std.specs.Io.KnownBytes.{IsAtEnd}
 use Rattle.cpe_io.specs.declared.line.LineFault.TheVariants as fault
 use Rattle.cpe_io.specs.Causes.{Rose}
 use Rattle.cpe_io.specs.Shown.{Answer, text_of}
-use Rattle.cpe_io.specs.Reading.{Reading, Answers, IsFirstOf, IsSpent, Takes, rest_of}
+use Rattle.cpe_io.specs.Reading.{ReaderState, AnswersLine, IsFirstOf, IsSpent, TakesBytes, rest_of_source}
 
--- It answers the next line of the bytes that were kept and those that the source gave, or that none is left, or its first fault and that
--- one from then on. `left` is what the source has left, and `faults` its count of them.
-pub record Finds (left left_now : Option (List ℕ)) (faults faults_now : ℕ) (old now : Reading) (answer : Answer) : Type 0 where
-  pub takes : Takes left left_now old now (Answers old now answer)
-  pub first : (old.ended ≡ true → IsAtEnd left) → IsFirstOf answer (rest_of old left) (rest_of now left_now)
+-- A call returns the first line of the bytes that were kept and those that the source returned, or the end, or a fault.
+-- After a fault it returns this fault from then on. `left` are the bytes that the source still has, and `faults` is the
+-- source's count of faults.
+pub record FindsLine (left left_now : Option (List ℕ)) (faults faults_now : ℕ) (old now : ReaderState) (answer : Answer) : Type 0 where
+  pub takes : TakesBytes left left_now old now (AnswersLine old now answer)
+  pub first : (old.ended ≡ true → IsAtEnd left) → IsFirstOf answer (rest_of_source old left) (rest_of_source now left_now)
   pub text : now.text ≡ text_of answer
   pub end : (old.ended ≡ true → IsAtEnd left) → now.ended ≡ true → IsAtEnd left_now
   pub below : now.ended ≡ true → now.taken < now.budget

@@ -1,4 +1,4 @@
--- The two texts of a line that has exactly one space.
+-- A line with exactly one space, cut into its two texts.
 use Rattle.std.specs.Prelude.{ℕ, Bool, ◌==◌, List, [], ◌∷◌, Some, None}
 use Rattle.std.specs.declared.option.Option.{Option}
 use Rattle.std.specs.List.{slice_split}
@@ -12,6 +12,6 @@ only_two (one ∷ []) = None
 only_two (one ∷ two ∷ []) = Some (one, two)
 only_two (one ∷ two ∷ three ∷ more) = None
 
--- what stands before and after the only space of a line that has exactly one
+-- the texts before and after the only space of a line, or nothing if there is not exactly one space
 abbrev pub halves : List ℕ → Option (List ℕ × List ℕ)
 halves line = only_two (slice_split is_space line)

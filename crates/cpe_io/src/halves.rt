@@ -1,10 +1,10 @@
-// The two texts of a line that has exactly one space.
+// A line with exactly one space, cut into its two texts.
 ghost use Rattle.std.specs.Prelude.{◌≡◌, Some, None, MatchOption};
 ghost use Rattle.cpe_io.specs.Halves.{halves};
 
 use memchr::memchr;
 
-/// What stands before and after the only space of a line that has exactly one.
+/// The texts before and after the only space of the line. `None` if the number of spaces is not 1.
 pub fn cut_in_halves(line: &[u8]) -> Option<(&[u8], &[u8])>
     ensures { MatchOption result (halves line.now ≡ None) (λ both. halves line.now ≡ Some (both.0.now, both.1.now)) }
 {

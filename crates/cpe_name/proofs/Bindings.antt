@@ -1,4 +1,4 @@
--- What the text of a name says under a binding is the text of the one name that has it.
+-- Lemmas: `bound_by` is the text to which the only name with a given text is bound.
 use Rattle.std.proofs.Common.{◌≡◌, ℕ, List, ◌++◌, map, Option, Some, None, refl, sym, ap, ◌∙◌}
 use Rattle.std.specs.Option.{option_map}
 use Rattle.cpe_name.specs.Eleven.{Values, Written}
@@ -22,7 +22,7 @@ text_is s t e = cc
 not_both : (s : List ℕ) → text_said s ≡ nothing_said → ⊥
 not_both s e = cc
 
--- the text of a name says to what the name is bound
+-- `bound_by` is the text to which the text's name is bound
 pub says_text : (bind : Values → List ℕ) (name : Values) (s : List ℕ) → WfnText name s → bound_by bind s ≡ Some (bind name)
 unfolding bound_by
 says_text bind name s has =
@@ -34,27 +34,27 @@ no_text : (bind : Values → List ℕ) (s : List ℕ) → all_at s ≡ None → 
 unfolding bound_by
 no_text bind s e = rw e refl
 
--- what is said is bound to a name that has the text
+-- a text of `bound_by` is bound to a name that has the text `s`
 pub says_name : (bind : Values → List ℕ) (s text : List ℕ) → bound_by bind s ≡ Some text → BindsBy bind s text
 says_name bind s text is = go (all_at s) refl where
   go : (r : Option (List (List ℕ))) → all_at s ≡ r → BindsBy bind s text
   go (Some m) e = let so = all_reads s m e in record { name = so.name; has = so.has; is = text_is text (bind so.name) (sym is ∙ says_text bind so.name s so.has) }
   go None e = absurd (not_both text (sym is ∙ no_text bind s e))
 
--- where nothing is said no name has the text
+-- if `bound_by` is nothing, no name has the text
 pub says_nothing : (bind : Values → List ℕ) (s : List ℕ) → bound_by bind s ≡ None → IsWfnText s → ⊥
 says_nothing bind s none is = not_both (bind is.0) (sym (says_text bind is.0 s is.1) ∙ none)
 
--- nothing is said of a text that no name has
+-- if no name has the text, `bound_by` is nothing
 pub nothing_is_said : (bind : Values → List ℕ) (s : List ℕ) → (IsWfnText s → ⊥) → bound_by bind s ≡ None
 nothing_is_said bind s never = go (bound_by bind s) refl where
   go : (r : Option (List ℕ)) → bound_by bind s ≡ r → bound_by bind s ≡ None
   go (Some text) e = let so = says_name bind s text e in absurd (never (so.name, so.has))
   go None e = e
 
--- ---- after what stood before
+-- ---- appended to earlier bytes
 
--- what the code put is that to which the name that it found is bound
+-- the code appended the text to which the name of `s` is bound
 module _ (bind : Values → List ℕ) (s old new put : List ℕ) (t : Written) (are : AreWritten s t) (written : new ≡ old ++ put) (is : put ≡ bind are.name) where
   whole : new ≡ old ++ bind are.name
   whole = written ∙ ap (λ (u : List ℕ). old ++ u) is
@@ -68,6 +68,6 @@ module _ (bind : Values → List ℕ) (s old new put : List ℕ) (t : Written) (
   pub said_written : text_said new ≡ option_map (λ said. old ++ said) (bound_by bind s)
   said_written = ap text_said whole ∙ ap (option_map (λ said. old ++ said)) (sym (says_text bind are.name s are.has))
 
--- nothing is put where no name has the text
+-- nothing is appended if no name has the text
 pub nothing_written : (bind : Values → List ℕ) (s old : List ℕ) → (IsWfnText s → ⊥) → nothing_said ≡ option_map (λ said. old ++ said) (bound_by bind s)
 nothing_written bind s old never = ap (option_map (λ said. old ++ said)) (sym (nothing_is_said bind s never))

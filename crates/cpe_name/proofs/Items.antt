@@ -1,4 +1,4 @@
--- One attribute is read exactly.
+-- Lemmas: one attribute with its value is read exactly.
 use Rattle.std.proofs.Common.{◌≡◌, ◌⊎◌, ℕ, zero, suc, ◌-◌, ◌<◌, Bool, true, false, ◌&&◌, cond, eqb, List, [], ◌∷◌, ◌++◌, length, take, drop, Result, Ok, Err, Option, Some, None, refl, sym, ap, subst, ◌∙◌, inl, inr, append_assoc, arith, replicate, length-append}
 use Rattle.std.specs.Prelude.{codes}
 use Rattle.std.proofs.lemmas.List.{nil_from_length, take_at, append_cancel_right}
@@ -12,20 +12,20 @@ use Rattle.cpe_values.specs.Spelling.{spelling}
 use Rattle.cpe_values.specs.Unspelling.{body_at, behind_body, parts_at}
 use Rattle.cpe_values.specs.Values.{IsValue}
 use Rattle.cpe_values.proofs.Unspelled.{parts_are}
-use Rattle.cpe_grammar.specs.Scanners.{literal}
-use Rattle.cpe_grammar.proofs.Results.{left_over}
-use Rattle.cpe_grammar.proofs.Scans.{literal_scans}
+use Rattle.name_grammar.specs.Scanners.{literal}
+use Rattle.name_grammar.proofs.Results.{left_over}
+use Rattle.name_grammar.proofs.Scans.{literal_scans}
 use Rattle.cpe_name.specs.declared.attribute.Attribute.{Attribute}
 use Rattle.cpe_name.specs.declared.attribute.Attribute.TheVariants.{Part, Vendor, Product, Version, Update, Edition, Language, SwEdition, TargetSw, TargetHw, Other}
 use Rattle.cpe_name.specs.Names.{attributes, Suits}
 use Rattle.cpe_name.specs.Text.{attribute_name, value_text}
-use Rattle.cpe_name.specs.Scanning.{◌>>?◌, value_end, value_at, cut, between, is_lone, is_part_text, is_language_text, has_shape, may_have, left_behind, after_at, key_text, or_found, name_at, item_at, skip, next_at}
+use Rattle.cpe_name.specs.Scanning.{◌>>?◌, value_end, value_at, cut, text_between, is_lone, is_part_text, is_language_text, has_text_shape, may_have_text, left_of_scan, after_at, key_text, or_found, name_at, item_at, skip, next_at}
 use Rattle.cpe_name.proofs.QuotedTexts.{IsInQuotes, IsValueText, value_scans, value_taken}
 use Rattle.cpe_name.proofs.Shapes.{part_from, part_passes, language_from, language_passes}
 
 -- ---- options
 
--- typed, so that equations between them have one type
+-- an option with its type given, so that equations between options have the same type
 abbrev pub found : {A : Type 0} → A → Option A
 found x = Some x
 
@@ -38,19 +38,19 @@ some_is x y e = cc
 pub none≢some : {A : Type 0} (x : A) → nothing_found ≡ found x → ⊥
 none≢some x e = cc
 
--- what went on was there
+-- if two steps in turn found a result, the first step found a value
 pub went_on : {A B : Type 0} (o : Option A) (f : A → Option B) (y : B) → (o >>? f) ≡ found y → (x : A) × (o ≡ Some x) × (f x ≡ Some y)
 went_on (Some x) f y e = (x, refl, e)
 went_on None f y e = absurd (none≢some y e)
 
--- which way a test went
+-- which branch a test took
 pub chosen : {X : Type 0} (b : Bool) (x y z : X) → cond b x y ≡ z → ((b ≡ true) × (x ≡ z)) ⊎ ((b ≡ false) × (y ≡ z))
 chosen true x y z e = inl (refl, e)
 chosen false x y z e = inr (refl, e)
 
--- ---- bytes that are known
+-- ---- bytes that begin with a known text
 
-left_is : (o : Result (List ℕ) ℕ) (r : List ℕ) → left_behind o ≡ Some r → o ≡ Ok r
+left_is : (o : Result (List ℕ) ℕ) (r : List ℕ) → left_of_scan o ≡ Some r → o ≡ Ok r
 left_is (Ok rest) r e = ap left_over (some_is rest r e)
 left_is (Err left) r e = absurd (none≢some r e)
 
@@ -68,7 +68,7 @@ after_short (c ∷ cs) (d ∷ s) h =
       | inr is ↦ rw is refl
     ]
 
--- ---- names
+-- ---- names of attributes
 
 or_parts_found : (o : Option (List ℕ)) (a : Attribute) (other : Option (Attribute × List ℕ)) (x : Attribute × List ℕ) → or_found o a other ≡ Some x → ((o ≡ Some x.1) × (a ≡ x.0)) ⊎ (other ≡ Some x)
 or_parts_found (Some r) a other x e = let is = some_is (a, r) x e in inl (ap (λ (y : Attribute × List ℕ). Some y.1) is, ap (λ (y : Attribute × List ℕ). y.0) is)
@@ -97,21 +97,21 @@ name_again TargetSw r = refl
 name_again TargetHw r = refl
 name_again Other r = refl
 
--- where the key of an attribute stands, no other does
+-- if the key of an attribute is at the start, that attribute is found
 pub name_found : (a : Attribute) (s r : List ℕ) → after_at (key_text a) s ≡ Some r → name_at attributes s ≡ Some (a, r)
 name_found a s r e = ap (name_at attributes) (after_reads (key_text a) s r e) ∙ name_again a r
 
 -- ---- values
 
-any_again : (r : List ℕ) → left_behind (value_end (codes "ANY" ++ r)) ≡ Some r
+any_again : (r : List ℕ) → left_of_scan (value_end (codes "ANY" ++ r)) ≡ Some r
 unfolding value_end literal
 any_again r = refl
 
--- where ANY stands, that is the value
-pub any_found : (s r : List ℕ) → after_at (codes "ANY") s ≡ Some r → left_behind (value_end s) ≡ Some r
-any_found s r e = ap (λ (u : List ℕ). left_behind (value_end u)) (after_reads (codes "ANY") s r e) ∙ any_again r
+-- if `ANY` is at the start, it is the value
+pub any_found : (s r : List ℕ) → after_at (codes "ANY") s ≡ Some r → left_of_scan (value_end s) ≡ Some r
+any_found s r e = ap (λ (u : List ℕ). left_of_scan (value_end u)) (after_reads (codes "ANY") s r e) ∙ any_again r
 
--- the text of a value that the attribute may have
+-- the bytes are the text of a value that the attribute may have
 pub record IsSlot (a : Attribute) (u : List ℕ) : Type 0 where
   pub value : Value
   pub suits : Suits a value
@@ -120,7 +120,7 @@ pub record IsSlot (a : Attribute) (u : List ℕ) : Type 0 where
 lone_text : (t : Parts) → t ≡ parts edge.None (45 ∷ []) edge.None → is_lone (value_text (value.Text t)) ≡ true
 lone_text t e = ap (λ (x : Parts). is_lone (value_text (value.Text x))) e
 
--- what is between quotes and no hyphen that stands alone is a text
+-- a text between quotes that is not one hyphen alone is a value's text
 a_text : (u : List ℕ) (q : IsInQuotes u) → is_lone u ≡ false → IsText q.text
 a_text u q h = record {
   lead = q.lead;
@@ -145,7 +145,7 @@ a_value u t h =
       ]
     ]
 
--- of an attribute whose texts have a shape
+-- a text that passes the test of an attribute's shape is that of a value that the attribute may have
 shaped_slot : (a : Attribute) (shape : List ℕ → Bool) → Suits a value.Any → Suits a value.Na → ((u : List ℕ) → shape (34 ∷ u) ≡ true → (v : Value) × Suits a v × (34 ∷ u ≡ value_text v))
     → (v : Value) (u : List ℕ) → u ≡ value_text v → shape u ≡ true → IsSlot a u
 shaped_slot a shape any na from value.Any u is h = record { value = value.Any; suits = any; is = is }
@@ -154,26 +154,26 @@ shaped_slot a shape any na from (value.Text t) u is h =
     let p = from _ (ap shape (sym is) ∙ h) in
     record { value = p.0; suits = p.1; is = is ∙ p.2 }
 
-shaped : (a : Attribute) (u : List ℕ) (g : IsGood u) → has_shape a u ≡ true → IsSlot a u
+shaped : (a : Attribute) (u : List ℕ) (g : IsGood u) → has_text_shape a u ≡ true → IsSlot a u
 shaped Part u g h = shaped_slot Part is_part_text (tt, refl) (tt, refl) part_from g.value u g.is h
 shaped Language u g h = shaped_slot Language is_language_text (tt, refl) (tt, refl) language_from g.value u g.is h
 shaped _ u g h = record { value = g.value; suits = g.good; is = g.is }
 
-a_slot : (a : Attribute) (u : List ℕ) → IsValueText u → may_have a u ≡ true → IsSlot a u
+a_slot : (a : Attribute) (u : List ℕ) → IsValueText u → may_have_text a u ≡ true → IsSlot a u
 a_slot a u t h = let p = and_parts _ _ h in shaped a u (a_value u t (not-true _ p.0)) p.1
 
-has : (a : Attribute) (v : Value) → Suits a v → has_shape a (value_text v) ≡ true
+has : (a : Attribute) (v : Value) → Suits a v → has_text_shape a (value_text v) ≡ true
 has Part v h = part_passes v h.1
 has Language v h = language_passes v h.1
 has _ v h = refl
 
--- what suits an attribute is a value
+-- each value that suits an attribute is lawful
 pub good_of : (a : Attribute) (v : Value) → Suits a v → IsValue v
 good_of Part v h = h.0
 good_of Language v h = h.0
 good_of _ v h = h
 
--- ---- a hyphen that stands alone
+-- ---- the text that is one hyphen
 
 lone_is_text : (u : List ℕ) → is_lone u ≡ true → u ≡ 34 ∷ 92 ∷ 45 ∷ 34 ∷ []
 lone_is_text [] h = absurd cc
@@ -204,13 +204,13 @@ not_lone value.Any good = refl
 not_lone value.Na good = refl
 not_lone (value.Text t) good = false_from_ne_true _ (λ h. no_text_is_lone t good h)
 
--- the attribute may have its values
-may : (a : Attribute) (v : Value) → Suits a v → may_have a (value_text v) ≡ true
+-- the text of a value that suits an attribute passes the test for this attribute
+may : (a : Attribute) (v : Value) → Suits a v → may_have_text a (value_text v) ≡ true
 may a v h = and_from _ _ (not_from_false _ (not_lone v (good_of a v h))) (has a v h)
 
--- ---- the text of a value at the start
+-- ---- the value at the start
 
-pub between_is : (u r : List ℕ) → between (u ++ r) r ≡ u
+pub between_is : (u r : List ℕ) → text_between (u ++ r) r ≡ u
 between_is u r =
     let long : length (u ++ r) - length r ≡ length u = omega (arith, length-append u r) in
     ap (λ (n : ℕ). take n (u ++ r)) long ∙ take_at u r (length u) refl
@@ -225,16 +225,16 @@ value_reads s x e = go (value_end s) refl where
   go : (r : Result (List ℕ) ℕ) → value_end s ≡ r → ValueRead s x
   go (Ok rest) is =
       let t = value_scans.takes s rest is in
-      let prefix : between s rest ≡ t.taken = ap (λ (u : List ℕ). between u rest) t.cut ∙ between_is t.taken rest in
-      let at : found (between s rest, rest) ≡ Some x = ap (cut s) (sym is) ∙ e in
-      subst (ValueRead s) (ap (λ (u : List ℕ). (u, rest)) (sym prefix) ∙ some_is (between s rest, rest) x at) (record { lawful = t.lawful; text = t.cut })
+      let prefix : text_between s rest ≡ t.taken = ap (λ (u : List ℕ). text_between u rest) t.cut ∙ between_is t.taken rest in
+      let at : found (text_between s rest, rest) ≡ Some x = ap (cut s) (sym is) ∙ e in
+      subst (ValueRead s) (ap (λ (u : List ℕ). (u, rest)) (sym prefix) ∙ some_is (text_between s rest, rest) x at) (record { lawful = t.lawful; text = t.cut })
   go (Err left) is = absurd (none≢some x (ap (cut s) (sym is) ∙ e))
 
 value_again : (v : Value) (r : List ℕ) → IsValue v → value_at (value_text v ++ r) ≡ Some (value_text v, r)
 unfolding value_at
 value_again v r good = ap (cut (value_text v ++ r)) (value_taken v r good) ∙ ap (λ (u : List ℕ). found (u, r)) (between_is (value_text v) r)
 
--- ---- items
+-- ---- attributes with their values
 
 abbrev pub item_text : Attribute → List ℕ → List ℕ
 item_text a u = attribute_name a ++ 61 ∷ u
@@ -249,10 +249,10 @@ pub record ItemRead (s : List ℕ) (x : (Attribute × List ℕ) × List ℕ) : T
 pub item_reads : (s : List ℕ) (x : (Attribute × List ℕ) × List ℕ) → item_at s ≡ Some x → ItemRead s x
 unfolding item_at
 item_reads s x e =
-    let a = went_on (name_at attributes s) (λ n. value_at n.1 >>? λ y. cond (may_have n.0 y.0) (found {A = (Attribute × List ℕ) × List ℕ} ((n.0, y.0), y.1)) None) x e in
-    let b = went_on (value_at a.0.1) (λ y. cond (may_have a.0.0 y.0) (found {A = (Attribute × List ℕ) × List ℕ} ((a.0.0, y.0), y.1)) None) x a.2 in
+    let a = went_on (name_at attributes s) (λ n. value_at n.1 >>? λ y. cond (may_have_text n.0 y.0) (found {A = (Attribute × List ℕ) × List ℕ} ((n.0, y.0), y.1)) None) x e in
+    let b = went_on (value_at a.0.1) (λ y. cond (may_have_text a.0.0 y.0) (found {A = (Attribute × List ℕ) × List ℕ} ((a.0.0, y.0), y.1)) None) x a.2 in
     let v = value_reads a.0.1 b.0 b.1 in
-    elim (chosen (may_have a.0.0 b.0.0) (found {A = (Attribute × List ℕ) × List ℕ} ((a.0.0, b.0.0), b.0.1)) None (Some x) b.2) [
+    elim (chosen (may_have_text a.0.0 b.0.0) (found {A = (Attribute × List ℕ) × List ℕ} ((a.0.0, b.0.0), b.0.1)) None (Some x) b.2) [
       | inl h ↦
           let text : s ≡ item_text a.0.0 b.0.0 ++ b.0.1 = name_reads attributes s a.0 a.1 ∙ ap (λ (u : List ℕ). key_text a.0.0 ++ u) v.text ∙ sym (regroup a.0.0 b.0.0 b.0.1) in
           subst (ItemRead s) (some_is ((a.0.0, b.0.0), b.0.1) x h.1) (record { slot = a_slot a.0.0 b.0.0 v.lawful h.0; text = text })
@@ -263,7 +263,7 @@ pub item_again : (a : Attribute) (v : Value) (r : List ℕ) → Suits a v → it
 unfolding item_at
 item_again a v r h = ap item_at (regroup a (value_text v) r) ∙ rw (name_again a (value_text v ++ r), value_again v r (good_of a v h), may a v h) refl
 
--- ---- what stands after
+-- ---- what follows an attribute
 
 skip_reads : (s : List ℕ) → (k : ℕ) × (s ≡ replicate k 32 ++ skip s)
 unfolding skip

@@ -1,4 +1,4 @@
--- A list of attributes is read exactly.
+-- Lemmas: a list of attributes is read exactly.
 use Rattle.std.proofs.Common.{◌≡◌, ℕ, zero, suc, ◌+◌, ◌<◌, ◌≤◌, Bool, true, false, cond, eqb, List, [], ◌∷◌, ◌++◌, length, map, get_or, Option, Some, None, refl, sym, ap, subst, ◌∙◌, inl, inr, append_assoc, arith, replicate, length-append}
 use Rattle.std.specs.Cmp.{IsEquivalence}
 use Rattle.std.specs.List.{flat_map, AllByRecursion, IsDistinct}
@@ -12,7 +12,7 @@ use Rattle.cpe_name.specs.declared.attribute.Attribute.{Attribute}
 use Rattle.cpe_name.specs.declared.attribute.Attribute.TheVariants.{Part, Vendor, Product, Version, Update, Edition, Language, SwEdition, TargetSw, TargetHw, Other}
 use Rattle.cpe_name.specs.Names.{attributes, value_of, Suits, IsName}
 use Rattle.cpe_name.specs.Text.{attribute_name, value_text, attribute_text}
-use Rattle.cpe_name.specs.WfnText.{rank, same_attribute, is_listed, names, later_text, list_text}
+use Rattle.cpe_name.specs.WfnText.{attribute_rank, same_attribute, is_listed, tag_names, later_text, list_text}
 use Rattle.cpe_name.specs.Spans.{total_length}
 use Rattle.cpe_name.specs.Scanning.{◌>>?◌, item_at, next_at, slot, put_text, is_some_text, step_at, go_on, list_at}
 use Rattle.cpe_name.proofs.Items.{found, some_is, none≢some, went_on, chosen, IsSlot, item_text, item_reads, item_again, NextRead, next_reads, next_again, next_end}
@@ -20,7 +20,7 @@ use Rattle.cpe_name.proofs.Items.{found, some_is, none≢some, went_on, chosen, 
 -- ---- attributes
 
 same_refl : (a : Attribute) → same_attribute a a ≡ true
-same_refl a = eq-eqb (rank a) (rank a) refl
+same_refl a = eq-eqb (attribute_rank a) (attribute_rank a) refl
 
 same_symm : (a b : Attribute) → same_attribute a b ≡ same_attribute b a
 same_symm a b = both_ways_of (same_attribute a b) (same_attribute b a) (λ h. eq-eqb _ _ (sym (eqb-true _ _ h))) (λ h. eq-eqb _ _ (sym (eqb-true _ _ h))) where
@@ -30,12 +30,12 @@ same_symm a b = both_ways_of (same_attribute a b) (same_attribute b a) (λ h. eq
   both_ways_of false false f g = refl
 
 same_equivalence : IsEquivalence same_attribute
-same_equivalence = record { refl = same_refl; symm = same_symm; congr = λ x y z h. ap (λ (n : ℕ). eqb n (rank z)) (eqb-true (rank x) (rank y) h) }
+same_equivalence = record { refl = same_refl; symm = same_symm; congr = λ x y z h. ap (λ (n : ℕ). eqb n (attribute_rank z)) (eqb-true (attribute_rank x) (attribute_rank y) h) }
 
 of_rank : ℕ → Attribute
 of_rank n = get_or attributes n Other
 
-of_rank_is : (a : Attribute) → of_rank (rank a) ≡ a
+of_rank_is : (a : Attribute) → of_rank (attribute_rank a) ≡ a
 unfolding of_rank
 of_rank_is Part = refl
 of_rank_is Vendor = refl
@@ -49,9 +49,9 @@ of_rank_is TargetSw = refl
 of_rank_is TargetHw = refl
 of_rank_is Other = refl
 
--- attributes of one place are one
+-- attributes with the same number are the same
 pub same_is : (a b : Attribute) → same_attribute a b ≡ true → a ≡ b
-same_is a b h = sym (of_rank_is a) ∙ ap of_rank (eqb-true (rank a) (rank b) h) ∙ of_rank_is b
+same_is a b h = sym (of_rank_is a) ∙ ap of_rank (eqb-true (attribute_rank a) (attribute_rank b) h) ∙ of_rank_is b
 
 -- ---- texts by attribute
 
@@ -80,7 +80,7 @@ put_same l a u = slot_by (λ c. cond (same_attribute a c) u (slot l c)) a ∙ rw
 put_other : (l : List (List ℕ)) (a b : Attribute) (u : List ℕ) → same_attribute a b ≡ false → slot (put_text l a u) b ≡ slot l b
 put_other l a b u h = slot_by (λ c. cond (same_attribute a c) u (slot l c)) b ∙ rw h refl
 
--- how many bytes they have
+-- the total length of the texts of the values
 abbrev pub given_length : List (List ℕ) → ℕ
 given_length l = total_length (by (slot l))
 
@@ -101,7 +101,7 @@ put_length l TargetSw u h = omega (arith, h)
 put_length l TargetHw u h = omega (arith, h)
 put_length l Other u h = omega (arith, h)
 
--- the text of a value has a byte
+-- the text of a value is not empty
 pub value_some : (v : Value) → is_some_text (value_text v) ≡ true
 value_some value.Any = refl
 value_some value.Na = refl
@@ -153,7 +153,7 @@ joined : (l : List (List ℕ)) (a : Attribute) (u : List ℕ) (bs : List Attribu
 joined l a u [] old new = tt
 joined l a u (b ∷ bs) old new = (ap is_some_text (put_other l a b u new.0) ∙ old.0, joined l a u bs old.1 new.1)
 
--- ---- what is read has the text
+-- ---- a list that is read is a list of a name's text
 
 abbrev pub AreSlots : List (List ℕ) → List Attribute → Type 0
 AreSlots m bs = AllByRecursion (λ b. IsSlot b (slot m b)) bs
@@ -161,10 +161,10 @@ AreSlots m bs = AllByRecursion (λ b. IsSlot b (slot m b)) bs
 pub record ListRead (l m : List (List ℕ)) (s : List ℕ) : Type 0 where
   pub first : Attribute
   pub rest : List (Attribute × ℕ)
-  pub fresh : AreNew l (first ∷ names rest)
-  pub once : IsDistinct same_attribute (first ∷ names rest)
-  pub slots : AreSlots m (first ∷ names rest)
-  pub kept : (b : Attribute) → is_listed b (first ∷ names rest) ≡ false → slot m b ≡ slot l b
+  pub fresh : AreNew l (first ∷ tag_names rest)
+  pub once : IsDistinct same_attribute (first ∷ tag_names rest)
+  pub slots : AreSlots m (first ∷ tag_names rest)
+  pub kept : (b : Attribute) → is_listed b (first ∷ tag_names rest) ≡ false → slot m b ≡ slot l b
   pub text : s ≡ list_by (slot m) ((first, 0) ∷ rest) ++ 93 ∷ []
   pub long : given_length m + 1 ≤ given_length l + length s
 
@@ -194,8 +194,8 @@ read_more : (l m : List (List ℕ)) (a : Attribute) (u : List ℕ) (k : ℕ) (s 
     → ListRead (put_text l a u) m t → ListRead l m s
 unfolding IsDistinct
 read_more l m a u k s t good new text more =
-    let so = split l a u (more.first ∷ names more.rest) (slot_some a u good) more.fresh in
-    let has : slot m a ≡ u = more.kept a (none_listed a (more.first ∷ names more.rest) so.new) ∙ put_same l a u in
+    let so = split l a u (more.first ∷ tag_names more.rest) (slot_some a u good) more.fresh in
+    let has : slot m a ≡ u = more.kept a (none_listed a (more.first ∷ tag_names more.rest) so.new) ∙ put_same l a u in
     record {
       first = a;
       rest = (more.first, k) ∷ more.rest;
@@ -203,7 +203,7 @@ read_more l m a u k s t good new text more =
       once = (so.new, more.once);
       slots = (subst (IsSlot a) (sym has) good, more.slots);
       kept = λ b h.
-          let both = or_parts (same_attribute b a) (is_listed b (more.first ∷ names more.rest)) h in
+          let both = or_parts (same_attribute b a) (is_listed b (more.first ∷ tag_names more.rest)) h in
           more.kept b both.1 ∙ put_other l a b u (same_symm a b ∙ both.0);
       text =
           text ∙ ap (λ (w : List ℕ). w ++ 44 ∷ (replicate k 32 ++ t)) (item_is m a u has)
@@ -239,7 +239,7 @@ list_reads (suc n) l m s e =
           list_step n l m a.0.0.0 a.0.0.1 s a.0.1 b.0 item.slot (next_reads a.0.1 b.0 b.1) go h.0 item.text (list_reads n (put_text l a.0.0.0 a.0.0.1) m)
     ]
 
--- ---- what has the text is read
+-- ---- a list of a name's text is read
 
 abbrev pub Fits : List Attribute → List (List ℕ) → List (List ℕ) → Type 0
 Fits which l m = (b : Attribute) → is_listed b which ≡ false → slot l b ≡ slot m b
@@ -272,12 +272,12 @@ next_is w b k more =
     let is = tail_is (attribute_name b) (61 ∷ value_text (value_of w b)) (flat_map (later_text w) more) (93 ∷ []) in
     subst (λ (u : List ℕ). next_at (44 ∷ (replicate k 32 ++ u)) ≡ Some (Some u)) (sym is) (next_again k b (((61 ∷ value_text (value_of w b)) ++ flat_map (later_text w) more) ++ 93 ∷ []))
 
--- the texts are those of the name
+-- the texts are those of the values of the name
 abbrev pub AreTexts : Values → List (List ℕ) → List Attribute → Type 0
 AreTexts w m bs = AllByRecursion (λ b. slot m b ≡ value_text (value_of w b)) bs
 
-pub list_again : (rest : List (Attribute × ℕ)) (n : ℕ) (l m : List (List ℕ)) (w : Values) (a : Attribute) → length rest < n → IsName w → by (slot m) ≡ m → AreTexts w m (a ∷ names rest)
-    → AreNew l (a ∷ names rest) → IsDistinct same_attribute (a ∷ names rest) → Fits (a ∷ names rest) l m → list_at n l (list_text w ((a, 0) ∷ rest) ++ 93 ∷ []) ≡ Some m
+pub list_again : (rest : List (Attribute × ℕ)) (n : ℕ) (l m : List (List ℕ)) (w : Values) (a : Attribute) → length rest < n → IsName w → by (slot m) ≡ m → AreTexts w m (a ∷ tag_names rest)
+    → AreNew l (a ∷ tag_names rest) → IsDistinct same_attribute (a ∷ tag_names rest) → Fits (a ∷ tag_names rest) l m → list_at n l (list_text w ((a, 0) ∷ rest) ++ 93 ∷ []) ≡ Some m
 unfolding list_at step_at IsDistinct
 list_again [] zero l m w a lt name whole texts fresh once fits = absurd (omega (arith, lt))
 list_again (i ∷ rest) zero l m w a lt name whole texts fresh once fits = absurd (omega (arith, lt))
@@ -290,9 +290,9 @@ list_again (i ∷ rest) (suc n) l m w a lt name whole texts fresh once fits =
     let item = item_again a (value_of w a) (44 ∷ (replicate i.1 32 ++ (list_text w ((i.0, 0) ∷ rest) ++ 93 ∷ []))) (suits_value w a name) in
     ap (list_at (suc n) l) grouped
     ∙ rw (item, fresh.0, next_is w i.0 i.1 rest, sym texts.0)
-    (list_again rest n (put_text l a (slot m a)) m w i.0 (omega (arith, lt)) name whole texts.1 (joined l a (slot m a) (i.0 ∷ names rest) fresh.1 once.0) once.1 (put_fits l m a (i.0 ∷ names rest) fits))
+    (list_again rest n (put_text l a (slot m a)) m w i.0 (omega (arith, lt)) name whole texts.1 (joined l a (slot m a) (i.0 ∷ tag_names rest) fresh.1 once.0) once.1 (put_fits l m a (i.0 ∷ tag_names rest) fits))
 
--- ---- no more than eleven
+-- ---- at most eleven attributes
 
 -- each attribute is one of the eleven
 pub all_listed : (a : Attribute) → is_listed a attributes ≡ true
@@ -311,10 +311,10 @@ all_listed Other = refl
 few : (which : List Attribute) → IsDistinct same_attribute which → length which ≤ 11
 few which once = length-le_from_is_member same_equivalence which attributes once (λ q m. all_listed q)
 
-length-names : (items : List (Attribute × ℕ)) → length (names items) ≡ length items
+length-names : (items : List (Attribute × ℕ)) → length (tag_names items) ≡ length items
 length-names [] = refl
 length-names (i ∷ items) = ap suc (length-names items)
 
--- eleven attributes are enough
-pub few_items : (i : Attribute × ℕ) (rest : List (Attribute × ℕ)) → IsDistinct same_attribute (i.0 ∷ names rest) → length rest < 11
-few_items i rest once = let le = few (i.0 ∷ names rest) once in omega (arith, le, length-names rest)
+-- a list of distinct attributes has at most eleven
+pub few_items : (i : Attribute × ℕ) (rest : List (Attribute × ℕ)) → IsDistinct same_attribute (i.0 ∷ tag_names rest) → length rest < 11
+few_items i rest once = let le = few (i.0 ∷ tag_names rest) once in omega (arith, le, length-names rest)

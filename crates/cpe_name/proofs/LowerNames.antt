@@ -1,4 +1,4 @@
--- A name in lower case is a name.
+-- Lemmas: a name in lower case is a name.
 use Rattle.std.proofs.Common.{◌≡◌, ℕ, Bool, true, ◌&&◌, List, [], ◌∷◌, map, refl, arith}
 use Rattle.std.specs.List.{AllByRecursion}
 use Rattle.std.specs.Char.{to_ascii_lowercase}
@@ -62,7 +62,7 @@ lower_lawful_value value.Any is = is
 lower_lawful_value value.Na is = is
 lower_lawful_value (value.Text t) is = lower_text t is
 
--- a value that is plain, with a body of a shape, is so in lower case
+-- lower case keeps the shape of a value, if it keeps the shape of a body
 lower_plain : (shape : List ℕ → Bool) → ((b : List ℕ) → shape b ≡ true → shape (map to_ascii_lowercase b) ≡ true) → (v : Value) → is_plain_of shape v ≡ true → is_plain_of shape (lower_value v) ≡ true
 lower_plain shape lowers value.Any h = refl
 lower_plain shape lowers value.Na h = refl
@@ -70,7 +70,7 @@ lower_plain shape lowers (value.Text t) h =
     let p = and_parts (is_nothing t.lead && is_nothing t.trail) (shape t.body) h in
     and_from _ _ p.0 (lowers t.body p.1)
 
--- a value that suits an attribute suits it in lower case
+-- a value that suits an attribute suits it in lower case, too
 pub lower_suits : (a : Attribute) (v : Value) → Suits a v → Suits a (lower_value v)
 lower_suits Part v is = (lower_lawful_value v is.0, lower_plain is_part_body lower_part_body v is.1)
 lower_suits Language v is = (lower_lawful_value v is.0, lower_plain is_language_body lower_language_body v is.1)

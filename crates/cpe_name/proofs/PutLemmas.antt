@@ -1,4 +1,4 @@
--- A name with another value at one attribute is a name where the value suits it.
+-- Lemmas: replacing a value of a name gives a name exactly if the new value suits the attribute.
 use Rattle.std.proofs.Common.{◌≢◌, refl}
 use Rattle.cpe_values.specs.declared.value.Value.{Value}
 use Rattle.cpe_values.specs.Values.{IsValue}
@@ -7,7 +7,7 @@ use Rattle.cpe_name.specs.declared.attribute.Attribute.{Attribute}
 use Rattle.cpe_name.specs.declared.attribute.Attribute.TheVariants.{Part, Vendor, Product, Version, Update, Edition, Language, SwEdition, TargetSw, TargetHw, Other}
 use Rattle.cpe_name.specs.Names.{Suits, IsName}
 
--- any value suits an attribute that has no shape of its own
+-- any lawful value suits an attribute that has no special shape
 pub suits_other : (a : Attribute) (x : Value) → a ≢ Part → a ≢ Language → IsValue x → Suits a x
 suits_other Part x no_part no_language is = absurd (no_part refl)
 suits_other Language x no_part no_language is = absurd (no_language refl)
@@ -34,7 +34,7 @@ put_lawful v TargetSw x (p, (a, (b, (c, (d, (e, (l, (f, (g, (h, (i, u)))))))))))
 put_lawful v TargetHw x (p, (a, (b, (c, (d, (e, (l, (f, (g, (h, (i, u))))))))))) is = (p, (a, (b, (c, (d, (e, (l, (f, (g, (is, (i, u)))))))))))
 put_lawful v Other x (p, (a, (b, (c, (d, (e, (l, (f, (g, (h, (i, u))))))))))) is = (p, (a, (b, (c, (d, (e, (l, (f, (g, (h, (is, u)))))))))))
 
--- and not where it doesn't
+-- if replacing a value gives a name, the new value suits the attribute
 pub put_suits : (v : Values) (a : Attribute) (x : Value) → IsName (put v a x) → Suits a x
 put_suits v Part x is = is.0
 put_suits v Vendor x is = is.1.0

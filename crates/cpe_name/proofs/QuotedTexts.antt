@@ -1,4 +1,4 @@
--- Texts between double quotes: what their scanner takes, and that it takes each of them.
+-- Lemmas: the scanner of a text between double quotes takes only such texts, and takes each of them.
 use Rattle.std.proofs.Common.{◌≡◌, ◌≢◌, ℕ, List, [], ◌∷◌, ◌++◌, Ok, refl, sym, ap, ◌∙◌, append_assoc}
 use Rattle.std.specs.Prelude.{codes}
 use Rattle.std.proofs.lemmas.Bool.{eqb-true}
@@ -9,17 +9,17 @@ use Rattle.cpe_values.specs.declared.spelling.Style.TheVariants as style
 use Rattle.cpe_values.specs.Parts.{Parts, parts, IsEdge}
 use Rattle.cpe_values.specs.Spelling.{edge_text}
 use Rattle.cpe_values.specs.Values.{IsValue}
-use Rattle.cpe_grammar.specs.Scanners.{both, choose, one, literal}
-use Rattle.cpe_grammar.proofs.Scans.{Scans, wider, OneOf, one_scans, Joined, both_scans, Either, choose_scans, Only, literal_scans, literal_taken}
+use Rattle.name_grammar.specs.Scanners.{scan_both, choose, scan_one, literal}
+use Rattle.name_grammar.proofs.Scans.{Scans, wider, OneOf, one_scans, Joined, both_scans, Either, choose_scans, Only, literal_scans, literal_taken}
 use Rattle.cpe_values.specs.Scanning.{is_star, is_mark, edge_end, stem_end}
 use Rattle.cpe_values.specs.Stems as stems
-use Rattle.cpe_values.specs.Stems.{AreCharacters, IsEdgeText, Ends}
+use Rattle.cpe_values.specs.Stems.{AreCharacters, IsEdgeText, EndsStem}
 use Rattle.cpe_values.proofs.Edges.{edge_scans, edge_taken, no_edge}
 use Rattle.cpe_values.proofs.Stems.{stem_scans, a_letter, stem_taken, body_begins, begins_fail}
 use Rattle.cpe_name.specs.Text.{value_text}
 use Rattle.cpe_name.specs.Scanning.{is_quote, quoted_end, begins_any, begins_na, value_end}
 
--- a body in a well-formed name
+-- the spelling of a body in a well-formed name
 abbrev pub body_text : List ℕ → List ℕ
 body_text b = stems.body_text style.Wfn b
 
@@ -28,7 +28,7 @@ IsStem u = stems.IsStem style.Wfn u
 
 -- ---- between double quotes
 
--- a lead, some characters and a trail; it may be a hyphen that stands alone
+-- a lead, a body and a trail between double quotes; the text may be one hyphen alone
 pub record IsInQuotes (u : List ℕ) : Type 0 where
   pub text : Parts
   pub lead : IsEdge text.lead
@@ -66,9 +66,9 @@ quoted_scans : Scans IsInQuotes quoted_end
 unfolding quoted_end
 quoted_scans =
     wider (Joined (Joined (Joined (OneOf is_quote) IsEdgeText) IsStem) (OneOf is_quote)) IsInQuotes quoted_end in_quotes
-    (both_scans (Joined (Joined (OneOf is_quote) IsEdgeText) IsStem) (OneOf is_quote) (both (both (one is_quote) edge_end) (stem_end style.Wfn)) (one is_quote)
-    (both_scans (Joined (OneOf is_quote) IsEdgeText) IsStem (both (one is_quote) edge_end) (stem_end style.Wfn)
-    (both_scans (OneOf is_quote) IsEdgeText (one is_quote) edge_end (one_scans is_quote 34 refl) edge_scans [] no_edge)
+    (both_scans (Joined (Joined (OneOf is_quote) IsEdgeText) IsStem) (OneOf is_quote) (scan_both (scan_both (scan_one is_quote) edge_end) (stem_end style.Wfn)) (scan_one is_quote)
+    (both_scans (Joined (OneOf is_quote) IsEdgeText) IsStem (scan_both (scan_one is_quote) edge_end) (stem_end style.Wfn)
+    (both_scans (OneOf is_quote) IsEdgeText (scan_one is_quote) edge_end (one_scans is_quote 34 refl) edge_scans [] no_edge)
     (stem_scans style.Wfn) (97 ∷ []) (a_letter style.Wfn))
     (one_scans is_quote 34 refl) (34 ∷ []) a_quote)
 
@@ -77,7 +77,7 @@ quoted_scans =
 abbrev pub IsValueText : List ℕ → Type 0
 IsValueText = Either (Only (codes "ANY")) (Either (Only (codes "NA")) IsInQuotes)
 
--- the scanner of values takes texts of values, and a hyphen that stands alone
+-- the scanner of values takes the texts of values, and one hyphen between double quotes
 pub value_scans : Scans IsValueText value_end
 unfolding value_end
 value_scans =
@@ -85,10 +85,10 @@ value_scans =
     (literal_scans (codes "ANY"))
     (choose_scans begins_na (Only (codes "NA")) IsInQuotes (literal (codes "NA")) quoted_end (literal_scans (codes "NA")) quoted_scans)
 
--- ---- each text is taken before the closing quote
+-- ---- each text is taken if the closing quote follows it
 
--- a double quote goes on no stem
-quote_ends : (r : List ℕ) → Ends style.Wfn (34 ∷ r)
+-- a double quote does not extend a body with its trail
+quote_ends : (r : List ℕ) → EndsStem style.Wfn (34 ∷ r)
 quote_ends r = record { star = refl; mark = refl; body = refl }
 
 regroup : (x y z r : List ℕ) → (34 ∷ ((x ++ y ++ z) ++ 34 ∷ [])) ++ r ≡ 34 ∷ (x ++ (y ++ (z ++ 34 ∷ r)))

@@ -1,4 +1,4 @@
--- The texts of parts and of languages are told from others.
+-- Lemmas: the tests of the texts of parts and of languages accept exactly these texts.
 use Rattle.std.proofs.Common.{◌≡◌, ℕ, Bool, true, false, ◌&&◌, ◌||◌, eqb, IsTrue, List, [], ◌∷◌, ◌++◌, refl, sym, ap, ◌∙◌, inl, inr, arith}
 use Rattle.std.specs.List.{list_all}
 use Rattle.std.proofs.lemmas.List.{append-nil}
@@ -21,18 +21,18 @@ use Rattle.cpe_name.proofs.Tags.{CodeCase, letters, digits, RegionCase, none, be
 
 -- ---- texts without specials
 
--- the value of a body alone
+-- the value without specials that has this body
 abbrev pub plain : List ℕ → Value
 plain b = value.Text (parts edge.None b edge.None)
 
--- the body of some text, and what its text is
+-- the bytes are the text of a value without specials whose body passes the test
 record Plain (passes : List ℕ → Bool) (u : List ℕ) : Type 0 where
   body : List ℕ
   characters : list_all is_character body ≡ true
   good : passes body ≡ true
   is : u ≡ body_text body ++ 34 ∷ []
 
--- a body that a test passes, which neither nothing nor one hyphen pass
+-- a body that passes the test makes a text without specials, if the test fails on an empty body and on one hyphen
 pub plain_text : (passes : List ℕ → Bool) (b : List ℕ) → passes [] ≡ false → passes (45 ∷ []) ≡ false → list_all is_character b ≡ true → passes b ≡ true → IsText (parts edge.None b edge.None)
 plain_text passes b empty hyphen characters h = record {
   lead = tt;
@@ -42,7 +42,7 @@ plain_text passes b empty hyphen characters h = record {
   trail = tt;
 }
 
--- a text without specials is its body
+-- a text without specials has an empty lead and an empty trail
 pub plain_parts : (t : Parts) (b : Bool) → is_nothing t.lead && is_nothing t.trail && b ≡ true → (t ≡ parts edge.None t.body edge.None) × (b ≡ true)
 plain_parts t b h =
     let p = and_parts (is_nothing t.lead && is_nothing t.trail) b h in
@@ -70,7 +70,7 @@ letter_character c h = bare_character style.Wfn c (letter_bare c h)
 digit_character : (c : ℕ) → is_digit c ≡ true → is_character c ≡ true
 digit_character c h = bare_character style.Wfn c (digit_bare c h)
 
--- ---- parts
+-- ---- values of a part
 
 part_behind : (u : List ℕ) → is_part_in_quotes u ≡ true → Plain is_part_body u
 part_behind [] h = absurd cc
@@ -81,7 +81,7 @@ part_behind (c ∷ q ∷ []) h =
     let bare = part_letter_bare c p.0 in
     record { body = c ∷ []; characters = and_from _ _ (bare_character style.Wfn c bare) refl; good = p.0; is = rw bare (ap (λ (z : ℕ). c ∷ z ∷ []) (eqb-true q 34 p.1)) }
 
--- a text between quotes that passes is that of a part
+-- a text between quotes that passes the test is the text of a part
 pub part_from : (u : List ℕ) → is_part_in_quotes u ≡ true → (v : Value) × (IsValue v × IsTrue (is_part v)) × (34 ∷ u ≡ value_text v)
 part_from u h =
     let p = part_behind u h in
@@ -92,7 +92,7 @@ part_body_passes [] h = absurd cc
 part_body_passes (c ∷ d ∷ b) h = absurd cc
 part_body_passes (c ∷ []) h = rw (part_letter_bare c h, h) refl
 
--- the text of each part passes
+-- the text of each part passes the test
 pub part_passes : (v : Value) → is_part v ≡ true → is_part_text (value_text v) ≡ true
 part_passes value.Any h = refl
 part_passes value.Na h = refl
@@ -100,7 +100,7 @@ part_passes (value.Text t) h =
     let p = plain_parts t (is_part_body t.body) h in
     ap (λ (x : Parts). is_part_text (value_text (value.Text x))) p.0 ∙ part_body_passes t.body p.1
 
--- ---- languages
+-- ---- values of a language
 
 region_behind : (u : List ℕ) → is_region_behind u ≡ true → Plain is_region u
 region_behind [] h = absurd cc
@@ -170,7 +170,7 @@ language_behind (a ∷ b ∷ c ∷ u) h =
           }
     ]
 
--- a text between quotes that passes is that of a language
+-- a text between quotes that passes the test is the text of a language
 pub language_from : (u : List ℕ) → is_language_in_quotes u ≡ true → (v : Value) × (IsValue v × IsTrue (is_language v)) × (34 ∷ u ≡ value_text v)
 language_from u h =
     let p = language_behind u h in
@@ -201,7 +201,7 @@ language_body_passes (a ∷ b ∷ c ∷ r) h =
           rw (letter_bare a q.0, letter_bare b q.1, letter_bare c m.0) (and_from _ _ (and_from _ _ q.0 q.1) (or_right _ _ (and_from _ _ m.0 (region_passes r (region_case r m.1)))))
     ]
 
--- the text of each language passes
+-- the text of each language passes the test
 pub language_passes : (v : Value) → is_language v ≡ true → is_language_text (value_text v) ≡ true
 language_passes value.Any h = refl
 language_passes value.Na h = refl

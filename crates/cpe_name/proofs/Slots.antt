@@ -1,4 +1,4 @@
--- The texts of a name, attribute by attribute.
+-- Lemmas: each attribute's text has its place in the list of texts, and replacing the text changes this place alone.
 use Rattle.std.proofs.Common.{◌≡◌, ℕ, List, refl}
 use Rattle.std.specs.Borrow.{Bor}
 use Rattle.cpe_name.specs.declared.attribute.Attribute.{Attribute}

@@ -1,4 +1,4 @@
--- Which name a borrowed one is.
+-- The name that a borrowed name equals.
 use Rattle.cpe_values.specs.Borrowed.{value_lent}
 use Rattle.cpe_name.specs.Eleven.{Values, NameRef, at, each}
 

@@ -1,4 +1,4 @@
--- What stands for each of the eleven attributes of a name.
+-- Eleven fields, one for each attribute of a name.
 use Rattle.std.specs.Prelude.{ℕ, List}
 use Rattle.std.specs.Borrow.{Bor}
 use Rattle.cpe_values.specs.declared.value.Value.{Value}
@@ -7,7 +7,7 @@ use Rattle.cpe_name.specs.declared.eleven.Eleven.{Eleven}
 use Rattle.cpe_name.specs.declared.attribute.Attribute.{Attribute}
 use Rattle.cpe_name.specs.declared.attribute.Attribute.TheVariants.{Part, Vendor, Product, Version, Update, Edition, Language, SwEdition, TargetSw, TargetHw, Other}
 
--- what stands for this attribute
+-- the field of an attribute
 abbrev pub at : {T : Type 0} → Eleven T → Attribute → T
 at e Part = e.part
 at e Vendor = e.vendor
@@ -21,7 +21,7 @@ at e TargetSw = e.target_sw
 at e TargetHw = e.target_hw
 at e Other = e.other
 
--- with another at one attribute
+-- the fields with another value at one attribute
 abbrev pub put : {T : Type 0} → Eleven T → Attribute → T → Eleven T
 put e Part x = record e { part = x }
 put e Vendor x = record e { vendor = x }
@@ -35,7 +35,7 @@ put e TargetSw x = record e { target_sw = x }
 put e TargetHw x = record e { target_hw = x }
 put e Other x = record e { other = x }
 
--- what this gives for each attribute
+-- the fields made by a function of the attribute
 abbrev pub each : {T : Type 0} → (Attribute → T) → Eleven T
 each f = record {
   part = f Part;
@@ -51,14 +51,14 @@ each f = record {
   other = f Other;
 }
 
--- the values of a name
+-- the eleven values of a name
 abbrev pub Values : Type 0
 Values = Eleven Value
 
--- the values of a name as they stand in a text
+-- the texts of the eleven values of a name
 abbrev pub Written : Type 0
 Written = Eleven (Bor (List ℕ))
 
--- borrowed values
+-- the eleven borrowed values of a name
 abbrev pub NameRef : Type 0
 NameRef = Eleven ValueRef

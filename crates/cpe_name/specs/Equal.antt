@@ -1,4 +1,4 @@
--- When two names are the same.
+-- The test of equality of names.
 use Rattle.std.specs.Prelude.{◌≡◌, ℕ, Bool, ◌&&◌, List, [], ◌∷◌, map, refl}
 use Rattle.std.specs.List.{list_all, flat_map}
 use Rattle.std.specs.Bool.{Decides}
@@ -11,7 +11,7 @@ use Rattle.cpe_name.specs.Eleven.{Values}
 use Rattle.cpe_name.specs.declared.attribute.Attribute.{Attribute}
 use Rattle.cpe_name.specs.Names.{attributes, value_of, named}
 
--- each attribute has the same value
+-- both names have the same value for each attribute
 abbrev pub same_name : Values → Values → Bool
 same_name v w = list_all (λ a. same_value (value_of v a) (value_of w a)) attributes
 

@@ -1,4 +1,4 @@
--- Well-formed names (NIST IR 7695, 5): eleven values, of which the part and the language have shapes of their own.
+-- Well-formed names (NIST IR 7695, 5): eleven values, of which the part and the language have a special shape.
 use Rattle.std.specs.Prelude.{◌≡◌, true, false, List, [], ◌∷◌, IsTrue, slice_index_or}
 use Rattle.std.specs.List.{AllByRecursion}
 use Rattle.cpe_values.specs.declared.value.Value.{Value}
@@ -11,19 +11,19 @@ use Rattle.cpe_name.specs.declared.name.NameFault.{NameFault}
 use Rattle.cpe_name.specs.declared.name.NameFault.TheVariants.{BadPart, BadLanguage}
 use Rattle.cpe_name.specs.Shapes.{is_part, is_language}
 
--- the attributes in their order
+-- the attributes in the order of the formatted string
 abbrev pub attributes : List Attribute
 attributes = Part ∷ Vendor ∷ Product ∷ Version ∷ Update ∷ Edition ∷ Language ∷ SwEdition ∷ TargetSw ∷ TargetHw ∷ Other ∷ []
 
--- the value of an attribute
+-- the value of an attribute of a name
 abbrev pub value_of : Values → Attribute → Value
 value_of v a = at v a
 
--- ANY for each attribute
+-- the value ANY for each attribute
 abbrev pub any_values : Values
 any_values = each (λ _. value.Any)
 
--- these values, in the order of the attributes
+-- the name with these values, in the order of the attributes
 abbrev pub named : List Value → Values
 named vs = record {
   part = slice_index_or vs 0 value.Any;
@@ -39,7 +39,7 @@ named vs = record {
   other = slice_index_or vs 10 value.Any;
 }
 
--- what this attribute may have
+-- the attribute may have this value
 abbrev pub Suits : Attribute → Value → Type 0
 Suits Part v = IsValue v × IsTrue (is_part v)
 Suits Language v = IsValue v × IsTrue (is_language v)
@@ -57,7 +57,7 @@ Suits Other v = IsValue v
 abbrev pub IsName : Values → Type 0
 IsName v = AllByRecursion (λ a. Suits a (value_of v a)) attributes
 
--- why eleven values are no name: the first cause
+-- this is the first fault of eleven values
 abbrev pub IsFault : NameFault → Values → Type 0
 IsFault BadPart v = is_part v.part ≡ false
 IsFault BadLanguage v = (is_part v.part ≡ true) × (is_language v.language ≡ false)

@@ -1,4 +1,4 @@
--- What most contracts over names name, in one place.
+-- Definitions that most contracts about names use, in one place.
 pub use Rattle.cpe_name.specs.Eleven.{Values}
 pub use Rattle.cpe_name.specs.Names.{IsName, attributes, named}
 pub use Rattle.cpe_name.specs.Equal.{same_name}

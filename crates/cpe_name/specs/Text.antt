@@ -1,4 +1,4 @@
--- The text of a well-formed name as the program writes it: all attributes in their order, and no spaces.
+-- The output text of a well-formed name: all attributes in their order, without spaces.
 use Rattle.std.specs.Prelude.{ℕ, List, [], ◌∷◌, ◌++◌, map, codes}
 use Rattle.std.specs.List.{join_with_byte}
 use Rattle.cpe_values.specs.declared.value.Value.{Value}
@@ -23,16 +23,16 @@ attribute_name TargetSw = codes "target_sw"
 attribute_name TargetHw = codes "target_hw"
 attribute_name Other = codes "other"
 
--- `ANY`, `NA`, or the text between double quotes
+-- the text of a value: `ANY`, `NA`, or the value's text between double quotes
 abbrev pub value_text : Value → List ℕ
 value_text value.Any = codes "ANY"
 value_text value.Na = codes "NA"
 value_text (value.Text t) = 34 ∷ (spelling style.Wfn t ++ 34 ∷ [])
 
--- an attribute's name, `=`, and its value
+-- the text of an attribute: its name, `=`, and its value
 abbrev pub attribute_text : Values → Attribute → List ℕ
 attribute_text v a = attribute_name a ++ 61 ∷ value_text (value_of v a)
 
--- all attributes in their order, joined by commas
+-- the output text of a name: the texts of all attributes, joined by commas
 abbrev pub output_text : Values → List ℕ
 output_text v = codes "wfn:[" ++ join_with_byte 44 (map (attribute_text v) attributes) ++ codes "]"

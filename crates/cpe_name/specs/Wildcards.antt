@@ -1,4 +1,4 @@
--- Names with a special in one of their values.
+-- Names that have a special in one of their values.
 use Rattle.std.specs.Prelude.{Bool}
 use Rattle.std.specs.List.{list_any}
 use Rattle.cpe_values.specs.Lower.{has_specials}

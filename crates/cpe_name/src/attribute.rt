@@ -2,10 +2,10 @@
 ghost use Rattle.std.specs.Prelude.{◌≡◌};
 ghost use Rattle.cpe_name.specs.Text.{attribute_name};
 
-/// An attribute of a name (NIST IR 7695, 5), in the order of the formatted string.
+/// An attribute of a name (NIST IR 7695, 5). The attributes are in the order of the formatted string.
 #[derive(Clone, Copy, Debug, PartialEq, Eq, Hash)]
 pub enum Attribute {
-    /// What kind of thing is named: an application, hardware or an operating system.
+    /// The kind of the named thing: an application, hardware or an operating system.
     Part,
     /// Who made or sells the product.
     Vendor,
@@ -15,21 +15,21 @@ pub enum Attribute {
     Version,
     /// The vendor's update or service pack of that version.
     Update,
-    /// The edition, as names of CPE 2.2 have it.
+    /// The edition, a field of CPE 2.2 that names may still have.
     Edition,
     /// The language of the user interface.
     Language,
-    /// For which market or class of users the product is made.
+    /// The market or class of users for which the product is made.
     SwEdition,
     /// The software environment in which the product runs.
     TargetSw,
     /// The instruction set or hardware on which the product runs.
     TargetHw,
-    /// Anything else of note that the vendor gives.
+    /// Any other note of the vendor.
     Other,
 }
 
-/// The attributes in their order.
+/// The attributes in the order of the formatted string.
 pub const ATTRIBUTES: [Attribute; 11] = [
     Attribute::Part,
     Attribute::Vendor,
@@ -44,7 +44,7 @@ pub const ATTRIBUTES: [Attribute; 11] = [
     Attribute::Other,
 ];
 
-// The attribute's name, as it stands in the text of a well-formed name.
+// The name of an attribute in the text of a well-formed name.
 pub(crate) fn text_of(which: Attribute) -> &'static [u8]
     ensures { result.now ≡ attribute_name which }
 {

@@ -1,13 +1,13 @@
-// Names whose values lie elsewhere, as a `&str` is to a `String`.
+// Borrowed names: they are to names as `&str` is to `String`.
 ghost use Rattle.std.specs.Prelude.{◌≡◌};
 ghost use Rattle.cpe_name.specs.Borrowed.{name_lent};
 
 use crate::{Eleven, Wfn};
 use cpe_values::ValueRef;
 
-/// A well-formed name, borrowed: a [`Wfn`], or what a line says in place. It takes no memory.
+/// A name borrowed from a [`Wfn`] or from the text of a line. Allocates: no.
 ///
-/// Any values are allowed: whoever makes one tells which name it is.
+/// Any values are allowed, even values that make no name.
 pub type NameRef<'a> = Eleven<ValueRef<'a>>;
 
 impl Wfn {

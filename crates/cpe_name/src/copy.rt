@@ -1,4 +1,4 @@
-// The same name again, and names with specials.
+// Copies of names, and the test whether a name has a special.
 ghost use Rattle.std.specs.Prelude.{◌≡◌, IfOk};
 ghost use Rattle.cpe_name.specs.Wildcards.{name_has_specials};
 
@@ -35,10 +35,10 @@ impl Wfn {
             .any(|which| self.get(*which).has_wildcards())
     }
 
-    /// The same name again.
+    /// A copy of the name.
     ///
     /// # Errors
-    /// Only that memory ran out.
+    /// `Memory` if memory runs out; there is no other error.
     pub fn copy(&self, alloc: Global) -> Result<Wfn, Memory>
         ensures { IfOk result (λ w. w ≡ self.now) }
     {

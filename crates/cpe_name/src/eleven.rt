@@ -1,11 +1,12 @@
-// What stands for each of the eleven attributes of a name.
+// Eleven fields of one type, one for each attribute of a name.
 ghost use Rattle.std.specs.Prelude.{◌≡◌};
 ghost use Rattle.cpe_name.specs.Eleven.{at, put};
 
 use crate::Attribute;
 use std::alloc::AllocError;
 
-/// One for each [`Attribute`], of any kind: the values of a name, what stands for them in a text, or how they relate.
+/// A field for each [`Attribute`]: the values of a name, the texts of these values, or the relations between the values
+/// of two names.
 #[derive(Debug, Drop, PartialEq, Eq, Hash)]
 pub struct Eleven<T> {
     pub part: T,
@@ -30,7 +31,7 @@ impl<T: Copy> Clone for Eleven<T> {
 impl<T: Copy> Copy for Eleven<T> {}
 
 impl<T> Eleven<T> {
-    /// What stands for an attribute.
+    /// The field of an attribute.
     #[inline(always)]
     pub fn get(&self, which: Attribute) -> &T
         ensures { result.now ≡ at self.now which }
@@ -52,7 +53,7 @@ impl<T> Eleven<T> {
 }
 
 impl<T: Drop> Eleven<T> {
-    /// Lets another stand for an attribute.
+    /// Replaces the field of an attribute.
     #[inline(always)]
     pub fn set(&mut self, which: Attribute, new: T)
         ensures { self.new ≡ put self.old which new }

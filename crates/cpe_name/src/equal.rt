@@ -1,4 +1,4 @@
-// When two names are equal, and what they feed a hasher. Equal is equal as contracts see it, letter case too.
+// Equality and hash input of names. Equality is that of contracts, so the case of letters counts.
 ghost use Rattle.std.specs.Prelude.{◌≡◌, ◌↔◌, IsTrue};
 ghost use Rattle.std.specs.Cmp.{partial_equiv_from_equiv, decided};
 ghost use Rattle.std.specs.Hash.{same_Alike};

@@ -1,5 +1,5 @@
-//! Well-formed names (NIST IR 7695, 5), and their text. A name has eleven values. The part and the language have
-//! special shapes.
+//! Well-formed names (NIST IR 7695, 5), and their text. A name has eleven values. The part and the language have values
+//! of a special shape only.
 #![tactic(auto)]
 
 mod attribute;

@@ -1,4 +1,4 @@
-// Names in lower case, and names that are the same but for the case of letters.
+// Names in lower case, and the comparison of names except for the case of letters.
 ghost use Rattle.std.specs.Prelude.{◌≡◌, ◌↔◌, IsTrue, IfOk};
 ghost use Rattle.cpe_values.specs.Lower.{lower_value};
 ghost use Rattle.cpe_values.specs.Same.{same_value};
@@ -26,17 +26,17 @@ fn make_lower_values(values: &mut Values)
 }
 
 impl Wfn {
-    /// The name with every letter in lower case.
+    /// A copy of the name with every letter in lower case.
     ///
     /// # Errors
-    /// Only that memory ran out.
+    /// `Memory` if memory runs out; there is no other error.
     pub fn lower(&self, alloc: Global) -> Result<Wfn, Memory>
         ensures { IfOk result (λ w. w ≡ lower_name self.now) }
     {
         Ok(self.copy(alloc)?.into_lower())
     }
 
-    /// The name with every letter in lower case, in the same memory: it takes none.
+    /// The name with every letter in lower case, in the same memory. Allocates: no.
     pub fn into_lower(self) -> Wfn
         ensures { result ≡ lower_name self }
     {
@@ -45,14 +45,15 @@ impl Wfn {
         Wfn { values }
     }
 
-    /// Whether two names are the same but for the case of letters, by which names are compared (NIST IR 7695, 5.3). It takes no memory.
+    /// Whether two names are equal except for the case of letters, as names are compared (NIST IR 7695, 5.3).
+    /// Allocates: no.
     pub fn same(&self, other: &Wfn) -> bool
         ensures { IsTrue result ↔ (lower_name self.now ≡ lower_name other.now) }
     {
         is_same(self, other)
     }
 
-    /// Whether the name has no letter in upper case. It takes no memory.
+    /// Whether the name has no letter in upper case. Allocates: no.
     pub fn is_lower(&self) -> bool
         ensures { IsTrue result ↔ IsLower self.now }
     {

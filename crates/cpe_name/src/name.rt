@@ -10,18 +10,18 @@ use cpe_values::Value;
 use std::marker::Model;
 use thiserror::Error;
 
-/// Eleven values, each for the [`Attribute`] of its name, whatever they are: [`Wfn::new`] tells whether they are a name.
+/// A value for each [`Attribute`]. Any values are allowed; [`Wfn::new`] tests whether they make a name.
 pub type Values = Eleven<Value>;
 
-/// A well-formed name (NIST IR 7695, 5): eleven values of which the part and the language have their shapes.
+/// A well-formed name (NIST IR 7695, 5): eleven values, of which the part and the language have a special shape.
 ///
-/// Contracts see it as its values. Letter case is kept.
+/// Contracts see the values. The case of letters is kept.
 #[derive(Debug, Drop)]
 pub struct Wfn {
     pub(crate) values: Values,
 }
 
-// Names are kept by the million.
+// The size of a name is proved, since programs keep millions of names.
 const _: () = prove!(size_of::<Wfn>() == 264);
 
 impl Model for Wfn {
@@ -35,22 +35,24 @@ impl Model for Wfn {
     ghost invariant = { λ w. IsName w.values };
 }
 
-/// Why eleven values are no name: the first cause, in this order.
+/// Why eleven values make no name. The first fault in this order is returned.
 #[derive(Clone, Copy, Debug, PartialEq, Eq, Error)]
 pub enum NameFault {
-    /// The part is a text, and not `a`, `h` or `o` alone (NIST IR 7695, 5.3).
+    /// The part is a text other than `a`, `h` or `o` (NIST IR 7695, 5.3).
     #[error("the part is not `a`, `h` or `o`")]
     BadPart,
-    /// The language is a text, and not two or three letters, perhaps with a region after them (NIST IR 7695, 5.3).
+    /// The language is a text of another shape than two or three letters, perhaps with a region after them (NIST IR
+    /// 7695, 5.3).
     #[error("the language is not two or three letters, perhaps with a region")]
     BadLanguage,
 }
 
 impl Wfn {
-    /// The name of these values. It takes no memory.
+    /// The name of these values. Allocates: no.
     ///
     /// # Errors
-    /// `BadPart` exactly where the part has not its shape, else `BadLanguage` exactly where the language has not.
+    /// `BadPart` exactly if the part has a wrong shape. `BadLanguage` exactly if the part's shape is right and the
+    /// language's is wrong.
     pub fn new(values: Values) -> Result<Wfn, NameFault>
         ensures name { IfOk result (λ w. w ≡ values) }
         ensures lawful { OnOk result (IsName values) }
@@ -77,7 +79,7 @@ impl Wfn {
         Ok(Wfn { values })
     }
 
-    /// Every name is lawful: each value suits its attribute. It does nothing.
+    /// Law: each value of a name suits its attribute.
     pub fn lawful(&self)
         ensures { IsName self.now }
     {
@@ -92,7 +94,7 @@ impl Wfn {
     }
 }
 
-// ANY for each attribute.
+// The value ANY for each attribute.
 pub(crate) fn any_of_each() -> Values
     ensures { result ≡ any_values }
 {
@@ -121,10 +123,10 @@ impl Wfn {
         }
     }
 
-    /// Gives an attribute another value. It takes no memory.
+    /// Replaces the value of an attribute. Allocates: no.
     ///
     /// # Errors
-    /// As [`Wfn::new`] with the new value; the name is then as it was.
+    /// As [`Wfn::new`] with the new value; the name is then unchanged.
     pub fn set(&mut self, which: Attribute, value: Value) -> Result<(), NameFault>
         ensures ok { OnOk result (self.new ≡ put self.old which value) }
         ensures err { OnErr result (self.new ≡ self.old) }
@@ -138,7 +140,7 @@ impl Wfn {
     }
 }
 
-// Whether an attribute may have a value.
+// Tests whether an attribute may have this value.
 fn test_value(which: Attribute, value: &Value) -> Result<(), NameFault>
     ensures suits { OnOk result (Suits which value.now) }
     ensures unsuited { OnErr result (Suits which value.now → ⊥) }

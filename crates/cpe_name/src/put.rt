@@ -1,23 +1,24 @@
-// The text of a well-formed name, put into a room from where its values stand in another text. Nothing here takes memory.
+// Writes the text of a well-formed name into given memory. The values are spans: their bytes in another text. Nothing
+// here allocates memory.
 ghost use Rattle.std.specs.Prelude.{◌≡◌, ◌≤◌, ◌+◌, ◌*◌, ◌++◌, ◌∷◌, [], ℕ, List, true, length, take, drop, codes};
 ghost use Rattle.cpe_name.specs.Spans.{texts, total_length};
-ghost use Rattle.cpe_name.specs.OutputFrom.{keyed, output_from, tail_from, any_tail};
+ghost use Rattle.cpe_name.specs.OutputFrom.{keyed, output_from, tail_from, any_values_tail};
 
 use crate::Written;
-use cpe_room::{put, put_byte};
+use byte_room::{put, put_byte};
 
-/// How the text of a value is made from what stands for it in another text.
+/// How to write the text of a value from its span, which is the bytes of the value in another text.
 pub trait PutValue {
     ghost text: { List ℕ → List ℕ };
 
     ghost spare: { ℕ };
 
-    /// Whether this is known to stand for ANY.
+    /// Whether the span is known to mean ANY. A span may mean ANY even if the result is `false`.
     fn is_any(span: &[u8]) -> bool
         ensures any { result ≡ true → text span.now ≡ codes "ANY" }
         ensures room { result ≡ true → 3 ≤ 2 * length span.now + spare };
 
-    /// Puts the text of the value for which this stands at a place, and tells the place after it.
+    /// Writes the text of the span's value at the place `at`, and returns the place after this text.
     fn put_value(room: &mut [u8], at: usize, span: &[u8]) -> usize
         requires { at + 2 * length span.now + spare ≤ length room.old }
         ensures at { result ≤ at + 2 * length span.now + spare }
@@ -41,8 +42,8 @@ fn put_keyed<P: PutValue>(room: &mut [u8], at: usize, key: &[u8], span: &[u8]) -
 #[inline(always)]
 #[tactic(auto, using(crate::proofs::AnyTail::any_tail_is))]
 fn is_any_tail<P: PutValue>(written: &Written) -> bool
-    ensures any { result ≡ true → tail_from P.text written.now ≡ any_tail }
-    ensures room { result ≡ true → length any_tail ≤ 2 * total_length (drop 4 (texts written.now)) + (69 + 7 * P.spare) }
+    ensures any { result ≡ true → tail_from P.text written.now ≡ any_values_tail }
+    ensures room { result ≡ true → length any_values_tail ≤ 2 * total_length (drop 4 (texts written.now)) + (69 + 7 * P.spare) }
 {
     P::is_any(written.update)
         && P::is_any(written.edition)
@@ -53,7 +54,7 @@ fn is_any_tail<P: PutValue>(written: &Written) -> bool
         && P::is_any(written.other)
 }
 
-// What comes after the version. Seven times ANY is put at once.
+// Writes the text after the version. If all seven values there are ANY, their text is written all at once.
 #[inline(always)]
 fn put_tail<P: PutValue>(room: &mut [u8], at: usize, written: &Written) -> usize
     requires { at + 2 * total_length (drop 4 (texts written.now)) + (69 + 7 * P.spare) ≤ length room.old }
@@ -78,8 +79,8 @@ fn put_tail<P: PutValue>(room: &mut [u8], at: usize, written: &Written) -> usize
     put_byte(room, at, b']')
 }
 
-/// Puts the output text of the name whose values stand there at a place, and tells the place after it. The names of the attributes,
-/// the commas and the brackets take 105 bytes.
+/// Writes the output text of the name with these values at the place `at`, and returns the place after the text. The
+/// names of the attributes, the commas and the brackets take 105 bytes.
 pub fn put_output<P: PutValue>(room: &mut [u8], at: usize, written: &Written) -> usize
     requires { at + 2 * total_length (texts written.now) + (105 + 11 * P.spare) ≤ length room.old }
     ensures at { result ≤ at + 2 * total_length (texts written.now) + (105 + 11 * P.spare) }

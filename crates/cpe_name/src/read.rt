@@ -1,11 +1,11 @@
-// Names from their texts.
+// Reads names from their texts.
 ghost use Rattle.std.specs.Prelude.{◌≡◌, ◌≤◌, ◌-◌, ◌∷◌, List, ℕ, length, take, drop, map, IfOk, IfErr, MatchResult};
 ghost use Rattle.cpe_values.specs.Spelled.{IsSpelling};
 ghost use Rattle.cpe_values.specs.Unspelling.{parts_at};
 ghost use Rattle.cpe_name.specs.Eleven.{Values};
 ghost use Rattle.cpe_name.specs.Names.{named, IsName};
 ghost use Rattle.cpe_name.specs.Text.{output_text};
-ghost use Rattle.cpe_name.specs.WfnText.{WfnText, Refuses};
+ghost use Rattle.cpe_name.specs.WfnText.{WfnText, RefusesWfn};
 ghost use Rattle.cpe_name.specs.Spans.{texts};
 ghost use Rattle.cpe_name.specs.Unwriting.{IsAnyText, inner, value_from};
 
@@ -15,7 +15,7 @@ use cpe_values::{Memory, Pattern, Value, read_spelling};
 use std::alloc::Global;
 use thiserror::Error;
 
-/// Why a text gives no name.
+/// Why a name could not be read from a text.
 #[derive(Clone, Copy, Debug, PartialEq, Eq, Error)]
 pub enum WfnFault {
     /// No name has this text.
@@ -26,7 +26,7 @@ pub enum WfnFault {
     Memory,
 }
 
-// What is between the quotes.
+// The bytes of a text between its quotes.
 fn between_quotes(text: &[u8]) -> &[u8]
     requires { 2 ≤ length text.now }
     ensures { result.now ≡ inner text.now }
@@ -53,14 +53,14 @@ fn value_of(alloc: Global, text: &[u8]) -> Result<Value, Memory>
     }
 }
 
-// The values of texts of names.
+// A reader of the values in the text of a well-formed name.
 #[derive(Drop)]
 struct Quoted {
     alloc: Global,
 }
 
 impl ReadValue for Quoted {
-    ghost may_stand = { IsAnyText };
+    ghost may_occur = { IsAnyText };
 
     ghost value = { value_from };
 
@@ -69,19 +69,19 @@ impl ReadValue for Quoted {
     }
 }
 
-/// The name that has this text (NIST IR 7695, 5): attributes in any order, each at most once, with spaces after
-/// commas alone; a missing one is ANY. Letter case is kept.
+/// The name with this text (NIST IR 7695, 5). Attributes may be in any order, each at most once. Spaces are allowed
+/// only after commas. An attribute that is missing is ANY. The case of letters is kept.
 ///
 /// # Errors
 ///
-/// `NotWfn` exactly where no name has this text, whatever the memory; else `Memory` where memory runs out.
+/// `NotWfn` exactly if no name has this text, even if memory runs out; otherwise `Memory` if memory runs out.
 pub fn read_wfn(alloc: Global, text: &[u8]) -> Result<Wfn, WfnFault>
-    // What is read has this text.
+    // The name that was read has this text.
     ensures found { IfOk result (λ name. WfnText name text.now) }
-    // A name that has this text is read, unless memory runs out.
+    // If a name has this text, this name is read unless memory runs out.
     ensures only { (name : Values) → WfnText name text.now → MatchResult result (λ found. found ≡ name) (λ fault. fault ≡ WfnFault.Memory) }
-    // A text that no name has is refused as such, whatever the memory.
-    ensures refused { IfErr result (λ fault. Refuses fault text.now) }
+    // The error is `NotWfn` exactly if no name has this text, even if memory runs out.
+    ensures refused { IfErr result (λ fault. RefusesWfn fault text.now) }
 {
     let Some(written) = scan_wfn(text) else {
         return Err(WfnFault::NotWfn);
@@ -92,7 +92,7 @@ pub fn read_wfn(alloc: Global, text: &[u8]) -> Result<Wfn, WfnFault>
     }
 }
 
-/// The output text of a name is one of its texts, and no text is that of two names. It does nothing.
+/// Law: the output text of a name is one of its texts, and no text is that of two names.
 pub fn wfn_texts()
     ensures output { (name : Values) → IsName name → WfnText name (output_text name) }
     ensures one { (a b : Values) (text : List ℕ) → WfnText a text → WfnText b text → a ≡ b }

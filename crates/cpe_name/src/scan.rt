@@ -1,17 +1,18 @@
-// Where the values of a name lie in one of its texts. Nothing here takes memory.
+// Finds the values of a name in one of its texts. Nothing here allocates memory.
 ghost use Rattle.std.specs.Prelude.{◌≡◌, ◌-◌, ◌==◌, ◌≤◌, ◌∷◌, ℕ, List, [], take, length, Some, None, IfSome, MatchOption, option_map};
 ghost use Rattle.cpe_name.specs.Names.{attributes};
-ghost use Rattle.cpe_name.specs.WfnText.{rank, IsWfnText};
-ghost use Rattle.cpe_name.specs.Scanning.{Finds, left_behind, value_end, value_at, is_lone, is_part_in_quotes, is_part_text, is_region_behind, is_language_in_quotes, is_language_text, has_shape, may_have, after_at, key_text, name_at, item_at, skip, next_at, slot, put_text, none_given, is_some_text, step_at, list_at, is_end, list_or_end, all_at};
+ghost use Rattle.cpe_name.specs.WfnText.{attribute_rank, IsWfnText};
+ghost use Rattle.cpe_name.specs.Scanning.{FindsView, left_of_scan, value_end, value_at, is_lone, is_part_in_quotes, is_part_text, is_region_behind, is_language_in_quotes, is_language_text, has_text_shape, may_have_text, after_at, key_text, name_at, item_at, skip, next_at, slot, put_text, none_given, is_some_text, step_at, list_at, is_text_end, list_or_end, all_at};
 ghost use Rattle.cpe_name.specs.Spans.{texts, AreWritten};
 
 use crate::quoted::scan_value;
 use crate::written::{no_texts, put_text, text_at};
 use crate::{ATTRIBUTES, Attribute, Written};
-use cpe_grammar::{prefix_of, scan_literal};
 use cpe_values::{is_digit_byte, is_letter_byte};
+use name_grammar::{prefix_of, scan_literal};
 
-// A shorter text is told apart first: where the bytes are constants, each then takes one test.
+// The bytes after `expected`, if `bytes` begin with it. The length is tested first: then each byte takes one test if
+// the expected bytes are constants.
 #[inline(always)]
 #[tactic(auto, using(crate::proofs::Items::after_short), unfolding(crate::specs::Scanning::after_at))]
 fn rest_behind<'a>(expected: &[u8], bytes: &'a [u8]) -> Option<&'a [u8]>
@@ -26,10 +27,10 @@ fn rest_behind<'a>(expected: &[u8], bytes: &'a [u8]) -> Option<&'a [u8]>
     }
 }
 
-// What is left after the value at the start.
+// The bytes after the value at the start.
 #[inline(never)]
 fn behind_value(bytes: &[u8]) -> Option<&[u8]>
-    ensures { option_map (λ r. r.now) result ≡ left_behind (value_end bytes.now) }
+    ensures { option_map (λ r. r.now) result ≡ left_of_scan (value_end bytes.now) }
 {
     match scan_value(bytes) {
         Ok(rest) => Some(rest),
@@ -37,11 +38,11 @@ fn behind_value(bytes: &[u8]) -> Option<&[u8]>
     }
 }
 
-// The same. Most values are ANY, and cost no call.
+// The bytes after the value at the start. Most values are ANY, and ANY is found without a call.
 #[inline(always)]
 #[tactic(auto, using(crate::proofs::Items::any_found))]
 fn behind_likely_value(bytes: &[u8]) -> Option<&[u8]>
-    ensures { option_map (λ r. r.now) result ≡ left_behind (value_end bytes.now) }
+    ensures { option_map (λ r. r.now) result ≡ left_of_scan (value_end bytes.now) }
 {
     match rest_behind(b"ANY", bytes) {
         Some(rest) => Some(rest),
@@ -52,7 +53,7 @@ fn behind_likely_value(bytes: &[u8]) -> Option<&[u8]>
 #[inline(always)]
 #[tactic(auto, unfolding(crate::specs::Scanning::value_at))]
 fn split_value(bytes: &[u8]) -> Option<(&[u8], &[u8])>
-    ensures { Finds (λ x. (x.0.now, x.1.now)) result (value_at bytes.now) }
+    ensures { FindsView (λ x. (x.0.now, x.1.now)) result (value_at bytes.now) }
 {
     let rest = behind_likely_value(bytes)?;
     Some((prefix_of(bytes, rest), rest))
@@ -84,7 +85,7 @@ fn is_part_text(text: &[u8]) -> bool
     }
 }
 
-// A region or nothing, and the closing quote.
+// Whether the bytes are a region, or nothing, and then the closing quote.
 fn is_region_behind(bytes: &[u8]) -> bool
     ensures { result ≡ is_region_behind bytes.now }
 {
@@ -132,7 +133,7 @@ fn is_language_text(text: &[u8]) -> bool
 }
 
 fn has_shape(which: Attribute, text: &[u8]) -> bool
-    ensures { result ≡ has_shape which text.now }
+    ensures { result ≡ has_text_shape which text.now }
 {
     match which {
         Attribute::Part => is_part_text(text),
@@ -141,8 +142,8 @@ fn has_shape(which: Attribute, text: &[u8]) -> bool
     }
 }
 
-// What stands after the name of this attribute and `=`. Each key is a constant where it is compared, so its length
-// is known there.
+// The bytes after the name of this attribute and `=`. Each key is compared as a constant, so that its length is known
+// to the compiler.
 #[inline(always)]
 fn after_key(which: Attribute, bytes: &[u8]) -> Option<&[u8]>
     ensures { option_map (λ r. r.now) result ≡ after_at (key_text which) bytes.now }
@@ -162,11 +163,11 @@ fn after_key(which: Attribute, bytes: &[u8]) -> Option<&[u8]>
     }
 }
 
-// Which of these attributes stands there, and what is left after its key.
+// The attribute among these whose name is at the start, and the bytes after its name and `=`.
 #[inline(always)]
 #[tactic(auto, unfolding(crate::specs::Scanning::name_at))]
 fn name_among<'a>(which: &[Attribute], bytes: &'a [u8]) -> Option<(Attribute, &'a [u8])>
-    ensures { Finds (λ x. (x.0, x.1.now)) result (name_at which.now bytes.now) }
+    ensures { FindsView (λ x. (x.0, x.1.now)) result (name_at which.now bytes.now) }
 {
     for attribute in which {
         if let Some(rest) = after_key(*attribute, bytes) {
@@ -176,11 +177,12 @@ fn name_among<'a>(which: &[Attribute], bytes: &'a [u8]) -> Option<(Attribute, &'
     None
 }
 
-// Which attribute stands there, and what is left after its key. The likely one is tried first.
+// The attribute whose name is at the start, and the bytes after its name and `=`. The attribute `likely` is tested
+// first.
 #[inline(always)]
 #[tactic(auto, using(crate::proofs::Items::name_found))]
 fn scan_name(likely: Attribute, bytes: &[u8]) -> Option<(Attribute, &[u8])>
-    ensures { Finds (λ x. (x.0, x.1.now)) result (name_at attributes bytes.now) }
+    ensures { FindsView (λ x. (x.0, x.1.now)) result (name_at attributes bytes.now) }
 {
     if let Some(rest) = after_key(likely, bytes) {
         return Some((likely, rest));
@@ -188,7 +190,7 @@ fn scan_name(likely: Attribute, bytes: &[u8]) -> Option<(Attribute, &[u8])>
     name_among(&ATTRIBUTES, bytes)
 }
 
-// The attribute that mostly stands after this one. No answer depends on it.
+// The attribute that mostly follows this one. It is only a guess, and no result depends on it.
 fn following(which: Attribute) -> Attribute {
     match which {
         Attribute::Part => Attribute::Vendor,
@@ -207,7 +209,7 @@ fn following(which: Attribute) -> Attribute {
 
 #[tactic(auto, unfolding(crate::specs::Scanning::item_at))]
 fn scan_item(likely: Attribute, bytes: &[u8]) -> Option<(Attribute, &[u8], &[u8])>
-    ensures { Finds (λ x. ((x.0, x.1.now), x.2.now)) result (item_at bytes.now) }
+    ensures { FindsView (λ x. ((x.0, x.1.now), x.2.now)) result (item_at bytes.now) }
 {
     let (which, rest) = scan_name(likely, bytes)?;
     let (text, rest) = split_value(rest)?;
@@ -228,10 +230,11 @@ fn skip_spaces(bytes: &[u8]) -> &[u8]
     rest
 }
 
-// The end of the text, or what stands after a comma and spaces.
+// What follows an attribute: `Some(None)` at the end of the text, else the bytes after a comma and spaces. `None` if
+// neither is there.
 #[tactic(auto, unfolding(crate::specs::Scanning::next_at))]
 fn scan_next(bytes: &[u8]) -> Option<Option<&[u8]>>
-    ensures { Finds (λ next. option_map (λ r. r.now) next) result (next_at bytes.now) }
+    ensures { FindsView (λ next. option_map (λ r. r.now) next) result (next_at bytes.now) }
 {
     match bytes {
         [b',', rest @ ..] => Some(Some(skip_spaces(rest))),
@@ -246,14 +249,14 @@ fn is_some_text(text: &[u8]) -> bool
     !text.is_empty()
 }
 
-// One attribute that was not given before, and what follows it.
+// Takes one attribute that was not given before. Returns the attribute and what follows it.
 #[tactic(auto, unfolding(crate::specs::Scanning::step_at))]
 fn scan_step<'a>(
     written: &mut Written<'a>,
     likely: Attribute,
     bytes: &'a [u8],
 ) -> Option<(Attribute, Option<&'a [u8]>)>
-    ensures { Finds (λ x. (texts written.new, option_map (λ r. r.now) x.1)) result (step_at (texts written.old) bytes.now) }
+    ensures { FindsView (λ x. (texts written.new, option_map (λ r. r.now) x.1)) result (step_at (texts written.old) bytes.now) }
 {
     let (which, text, rest) = scan_item(likely, bytes)?;
     if is_some_text(text_at(written, which)) {
@@ -264,11 +267,11 @@ fn scan_step<'a>(
     Some((which, next))
 }
 
-// The attributes up to the end. There are eleven, so a twelfth would be given twice.
+// Takes the attributes up to the end of the list. The limit is eleven, since a twelfth would repeat an attribute.
 #[inline(never)]
 #[tactic(auto, using(crate::proofs::Steps::over))]
 fn scan_list(bytes: &[u8]) -> Option<Written>
-    ensures { Finds texts result (list_at 11 none_given bytes.now) }
+    ensures { FindsView texts result (list_at 11 none_given bytes.now) }
 {
     let mut written = no_texts();
     let mut likely = Attribute::Part;
@@ -287,13 +290,13 @@ fn scan_list(bytes: &[u8]) -> Option<Written>
 }
 
 fn is_end(bytes: &[u8]) -> bool
-    ensures { result ≡ is_end bytes.now }
+    ensures { result ≡ is_text_end bytes.now }
 {
     matches!(bytes, [b']'])
 }
 
 fn scan_list_or_end(bytes: &[u8]) -> Option<Written>
-    ensures { Finds texts result (list_or_end bytes.now) }
+    ensures { FindsView texts result (list_or_end bytes.now) }
 {
     if is_end(bytes) {
         return Some(no_texts());
@@ -303,7 +306,7 @@ fn scan_list_or_end(bytes: &[u8]) -> Option<Written>
 
 #[tactic(auto, unfolding(crate::specs::Scanning::all_at))]
 fn scan_all(text: &[u8]) -> Option<Written>
-    ensures { Finds texts result (all_at text.now) }
+    ensures { FindsView texts result (all_at text.now) }
 {
     let Some(rest) = rest_behind(b"wfn:[", text) else {
         return None;
@@ -311,10 +314,10 @@ fn scan_all(text: &[u8]) -> Option<Written>
     scan_list_or_end(rest)
 }
 
-/// Where the values of a name lie in one of its texts (NIST IR 7695, 5). It takes no memory.
+/// The texts of the eleven values in the text of a name (NIST IR 7695, 5). Allocates: no.
 ///
-/// The list of attributes may be empty and stand in any order, each at most once, with any number of spaces after
-/// a comma and nowhere else. There is no answer exactly where no name has the text.
+/// The text has a list of attributes, in any order, each at most once. The list may be empty. A comma may be followed
+/// by any number of spaces, and no other spaces are allowed. The result is `None` exactly if no name has this text.
 pub fn scan_wfn(text: &[u8]) -> Option<Written>
     ensures found { IfSome result (AreWritten text.now) }
     ensures refused { result ≡ None → ¬ (IsWfnText text.now) }

@@ -1,4 +1,4 @@
-// The shapes of a part and of a language.
+// The shapes of the values of a part and of a language.
 ghost use Rattle.std.specs.Prelude.{◌≡◌};
 ghost use Rattle.cpe_values.specs.Parts.{is_nothing};
 ghost use Rattle.cpe_name.specs.Shapes.{is_part, is_language, is_part_body, is_language_body, is_region};
@@ -11,7 +11,7 @@ fn is_nothing_at(edge: Edge) -> bool
     matches!(edge, Edge::None)
 }
 
-/// Whether a value may stand for the part.
+/// Whether the part may have this value.
 pub(crate) fn is_lawful_part(value: &Value) -> bool
     ensures { result ≡ is_part value.now }
 {
@@ -32,7 +32,7 @@ fn is_part_stem(body: &[u8]) -> bool
     }
 }
 
-/// Whether a value may stand for the language.
+/// Whether the language may have this value.
 pub(crate) fn is_lawful_language(value: &Value) -> bool
     ensures { result ≡ is_language value.now }
 {

@@ -1,10 +1,11 @@
-// Language tags (NIST IR 7695, 5.3), which the bindings spell alike but for the hyphen. Nothing here takes memory.
+// Scanners of language tags (NIST IR 7695, 5.3). The bindings spell a tag alike, except its hyphen. Nothing here
+// allocates memory.
 //
-// Each function takes a prefix of a text. It answers what is left after it, or how many bytes are
-// left where no tag goes on.
+// Each scanner takes a prefix of the bytes, and returns the bytes after this prefix. If no tag can continue at some
+// byte, it returns the number of bytes from there on.
 ghost use Rattle.std.specs.Prelude.{◌≡◌, ◌++◌, true, ℕ, Bool, List, Ok};
-ghost use Rattle.cpe_grammar.specs.Scanners.{Scanner, Tells, both, one};
-ghost use Rattle.cpe_grammar.specs.Scanned.{Scans, Run};
+ghost use Rattle.name_grammar.specs.Scanners.{Scanner, IsScan, scan_both, scan_one};
+ghost use Rattle.name_grammar.specs.Scanned.{Scans, Run};
 ghost use Rattle.cpe_values.specs.Spelling.{is_letter, is_digit};
 ghost use Rattle.cpe_name.specs.Shapes.{is_language_body};
 ghost use Rattle.cpe_name.specs.Tags.{letters_end, digits_end, code_end, third_end, region_end, tag_end, Code, Third, Tag, is_bare_hyphen, IsHyphen, TagEnds};
@@ -12,7 +13,7 @@ ghost use Rattle.cpe_name.specs.Tags.{letters_end, digits_end, code_end, third_e
 use cpe_values::{is_digit_byte, is_letter_byte};
 
 fn scan_letter(bytes: &[u8]) -> Result<&[u8], usize>
-    ensures { Tells (λ rest. rest.now) result (one is_letter bytes.now) }
+    ensures { IsScan (λ rest. rest.now) result (scan_one is_letter bytes.now) }
 {
     match bytes {
         [letter, rest @ ..] if is_letter_byte(*letter) => Ok(rest),
@@ -21,7 +22,7 @@ fn scan_letter(bytes: &[u8]) -> Result<&[u8], usize>
 }
 
 fn scan_digit(bytes: &[u8]) -> Result<&[u8], usize>
-    ensures { Tells (λ rest. rest.now) result (one is_digit bytes.now) }
+    ensures { IsScan (λ rest. rest.now) result (scan_one is_digit bytes.now) }
 {
     match bytes {
         [digit, rest @ ..] if is_digit_byte(*digit) => Ok(rest),
@@ -31,7 +32,7 @@ fn scan_digit(bytes: &[u8]) -> Result<&[u8], usize>
 
 #[tactic(auto, unfolding(crate::specs::Tags::letters_end))]
 fn scan_language_letters(bytes: &[u8]) -> Result<&[u8], usize>
-    ensures { Tells (λ rest. rest.now) result (letters_end bytes.now) }
+    ensures { IsScan (λ rest. rest.now) result (letters_end bytes.now) }
 {
     let rest = scan_letter(bytes)?;
     scan_letter(rest)
@@ -39,17 +40,17 @@ fn scan_language_letters(bytes: &[u8]) -> Result<&[u8], usize>
 
 #[tactic(auto, unfolding(crate::specs::Tags::digits_end))]
 fn scan_digits(bytes: &[u8]) -> Result<&[u8], usize>
-    ensures { Tells (λ rest. rest.now) result (digits_end bytes.now) }
+    ensures { IsScan (λ rest. rest.now) result (digits_end bytes.now) }
 {
     let rest = scan_digit(bytes)?;
     let rest = scan_digit(rest)?;
     scan_digit(rest)
 }
 
-// Two letters or three digits.
+// Takes the code of a region: two letters or three digits.
 #[tactic(auto, unfolding(crate::specs::Tags::code_end))]
 fn scan_region_code(bytes: &[u8]) -> Result<&[u8], usize>
-    ensures { Tells (λ rest. rest.now) result (code_end bytes.now) }
+    ensures { IsScan (λ rest. rest.now) result (code_end bytes.now) }
 {
     match bytes {
         [first, ..] if is_digit_byte(*first) => scan_digits(bytes),
@@ -59,7 +60,7 @@ fn scan_region_code(bytes: &[u8]) -> Result<&[u8], usize>
 
 #[tactic(auto, unfolding(crate::specs::Tags::third_end))]
 fn scan_third_letter(bytes: &[u8]) -> Result<&[u8], usize>
-    ensures { Tells (λ rest. rest.now) result (third_end bytes.now) }
+    ensures { IsScan (λ rest. rest.now) result (third_end bytes.now) }
 {
     match bytes {
         [letter, rest @ ..] if is_letter_byte(*letter) => Ok(rest),
@@ -67,24 +68,27 @@ fn scan_third_letter(bytes: &[u8]) -> Result<&[u8], usize>
     }
 }
 
-/// How the hyphen of a language tag is spelled.
+/// The spelling of the hyphen in a language tag.
 pub trait Hyphen {
     ghost begins: { ℕ → Bool };
 
     ghost end: { Scanner };
 
-    /// Whether a hyphen begins with this byte.
+    /// Whether the spelling of a hyphen begins with this byte.
     fn begins_with(byte: u8) -> bool
         ensures { result ≡ begins byte };
 
-    /// Takes a hyphen: tells what is left after it, or how many bytes are left where none goes on.
+    /// Takes a hyphen, and returns the bytes after it.
+    ///
+    /// # Errors
+    /// The number of bytes left at the byte at which no hyphen can continue.
     fn scan(bytes: &[u8]) -> Result<&[u8], usize>
-        ensures { Tells (λ rest. rest.now) result (end bytes.now) };
+        ensures { IsScan (λ rest. rest.now) result (end bytes.now) };
 }
 
 #[inline(always)]
 fn scan_hyphen_and_code<H: Hyphen>(bytes: &[u8]) -> Result<&[u8], usize>
-    ensures { Tells (λ rest. rest.now) result (both H.end code_end bytes.now) }
+    ensures { IsScan (λ rest. rest.now) result (scan_both H.end code_end bytes.now) }
 {
     let rest = H::scan(bytes)?;
     scan_region_code(rest)
@@ -93,7 +97,7 @@ fn scan_hyphen_and_code<H: Hyphen>(bytes: &[u8]) -> Result<&[u8], usize>
 #[inline(always)]
 #[tactic(auto, unfolding(crate::specs::Tags::region_end))]
 fn scan_region<H: Hyphen>(bytes: &[u8]) -> Result<&[u8], usize>
-    ensures { Tells (λ rest. rest.now) result (region_end H.begins H.end bytes.now) }
+    ensures { IsScan (λ rest. rest.now) result (region_end H.begins H.end bytes.now) }
 {
     match bytes {
         [byte, ..] if H::begins_with(*byte) => scan_hyphen_and_code::<H>(bytes),
@@ -101,19 +105,23 @@ fn scan_region<H: Hyphen>(bytes: &[u8]) -> Result<&[u8], usize>
     }
 }
 
-/// Takes a language tag (NIST IR 7695, 5.3), two letters or three and then a hyphen and the code of a region, or no region: tells
-/// what is left after it, or how many bytes are left where no tag goes on.
+/// Takes a language tag, and returns the bytes after it (NIST IR 7695, 5.3). A tag is two or three letters, perhaps
+/// with a hyphen and the code of a region after them.
+///
+/// # Errors
+/// The number of bytes left at the byte at which no tag can continue.
 #[tactic(auto, unfolding(crate::specs::Tags::tag_end))]
 pub fn scan_language_tag<H: Hyphen>(bytes: &[u8]) -> Result<&[u8], usize>
-    ensures { Tells (λ rest. rest.now) result (tag_end H.begins H.end bytes.now) }
+    ensures { IsScan (λ rest. rest.now) result (tag_end H.begins H.end bytes.now) }
 {
     let rest = scan_language_letters(bytes)?;
     let rest = scan_third_letter(rest)?;
     scan_region::<H>(rest)
 }
 
-/// What the scanners of language tags take: tags whose hyphen is spelled so, each of them before what doesn't go on it. With a bare
-/// hyphen they are the languages of NIST IR 7695, 5.3. It does nothing.
+/// Law: the scanners of language tags take exactly the tags whose hyphen is spelled in a given way. Each tag is taken
+/// if the bytes after it don't extend it. If the hyphen has no backslash, the tags are the languages of NIST IR 7695,
+/// 5.3.
 pub fn language_tags()
     ensures letters { Scans (Run 2 is_letter) letters_end }
     ensures third { Scans Third third_end }

@@ -1,4 +1,4 @@
-// The text of a well-formed name.
+// Writes the text of a well-formed name.
 ghost use Rattle.std.specs.Prelude.{◌≡◌, ◌++◌, ◌∷◌, IfOk, OnOk, flat_map};
 ghost use Rattle.cpe_name.specs.Text.{value_text, attribute_text, output_text};
 
@@ -40,10 +40,11 @@ fn push_later(out: &mut Vec<u8>, name: &Wfn, later: &[Attribute]) -> Result<(), 
     Ok(())
 }
 
-/// The text of a name: `wfn:[part="a",..,other=ANY]`, with all eleven attributes in their order and no spaces.
+/// The text of a name, such as `wfn:[part="a",..,other=ANY]`. It has all eleven attributes in their order, and no
+/// spaces.
 ///
 /// # Errors
-/// Only that memory ran out.
+/// `Memory` if memory runs out; there is no other error.
 pub fn write_wfn(alloc: Global, name: &Wfn) -> Result<Vec<u8>, Memory>
     ensures { IfOk result (λ out. out.items ≡ output_text name.now) }
 {

@@ -1,4 +1,4 @@
-// Where the values of a name stand in a text, and the values that stand there.
+// The values of a name as texts, and the values read from them.
 ghost use Rattle.std.specs.Prelude.{◌≡◌, ℕ, List, map, IfOk};
 ghost use Rattle.std.specs.List.{AllByRecursion};
 ghost use Rattle.cpe_values.specs.declared.value.Value.{Value as AnyValue};
@@ -10,11 +10,11 @@ use crate::name::any_of_each;
 use crate::{Attribute, Eleven, Values, Wfn};
 use cpe_values::{Memory, Value};
 
-/// The eleven values of a name as they stand in a text, spelled as that text's binding spells them: in the text of a well-formed name
-/// `ANY`, `NA`, a text between double quotes, or nothing where no value is given.
+/// The texts of the eleven values of a name in one of its bindings. In the text of a well-formed name, each is `ANY`,
+/// `NA`, a text between double quotes, or empty if its attribute is missing.
 pub type Written<'a> = Eleven<&'a [u8]>;
 
-// No text for any attribute.
+// An empty text for each attribute.
 pub(crate) fn no_texts<'a>() -> Written<'a>
     ensures { texts result ≡ none_given }
 {
@@ -41,7 +41,7 @@ pub(crate) fn text_at<'a>(written: &Written<'a>, which: Attribute) -> &'a [u8]
     *written.get(which)
 }
 
-// Gives an attribute another text.
+// Replaces the text of an attribute.
 #[tactic(auto, using(crate::proofs::Slots::put_is))]
 pub(crate) fn put_text<'a>(written: &mut Written<'a>, which: Attribute, text: &'a [u8])
     ensures { texts written.new ≡ put_text (texts written.old) which text.now }
@@ -49,23 +49,23 @@ pub(crate) fn put_text<'a>(written: &mut Written<'a>, which: Attribute, text: &'
     written.set(which, text)
 }
 
-/// How a value is made from what stands for it in a text.
+/// How to read a value from its text in a binding.
 pub trait ReadValue {
-    ghost may_stand: { List ℕ → Type 0 };
+    ghost may_occur: { List ℕ → Type 0 };
 
     ghost value: { List ℕ → AnyValue };
 
-    /// The value for which this stands.
+    /// The value of this text.
     ///
     /// # Errors
-    /// Only that memory ran out.
+    /// `Memory` if memory runs out; there is no other error.
     fn read(&mut self, text: &[u8]) -> Result<Value, Memory>
-        requires { may_stand text.now }
+        requires { may_occur text.now }
         ensures { IfOk result (λ found. found ≡ value text.now) };
 }
 
 fn read_values<R: ReadValue>(reader: &mut R, written: &Written) -> Result<Values, Memory>
-    requires { AllByRecursion R.may_stand (texts written.now) }
+    requires { AllByRecursion R.may_occur (texts written.now) }
     ensures { IfOk result (λ values. values ≡ named (map R.value (texts written.now))) }
 {
     let mut values = any_of_each();
@@ -83,12 +83,12 @@ fn read_values<R: ReadValue>(reader: &mut R, written: &Written) -> Result<Values
     Ok(values)
 }
 
-/// The name of the values for which these stand, where these are those of a name.
+/// The name whose values have these texts.
 ///
 /// # Errors
-/// Only that memory ran out.
+/// `Memory` if memory runs out; there is no other error.
 pub fn read_name<R: ReadValue>(reader: &mut R, written: &Written) -> Result<Wfn, Memory>
-    requires stand { AllByRecursion R.may_stand (texts written.now) }
+    requires are_present { AllByRecursion R.may_occur (texts written.now) }
     requires lawful { IsName (named (map R.value (texts written.now))) }
     ensures { IfOk result (λ name. name ≡ named (map R.value (texts written.now))) }
 {

@@ -1,4 +1,4 @@
--- What a string of JSON stands for is UTF-8, where its text is.
+-- Lemmas: the content of a string of JSON is UTF-8, if the text of the string is UTF-8.
 use Rattle.std.proofs.Common.{◌≡◌, ℕ, zero, suc, ◌+◌, ◌-◌, ◌*◌, ◌<◌, ◌≤◌, Bool, true, false, cond, ◌&&◌, ◌||◌, ◌==◌, nat_lt, nat_le, List, [], ◌∷◌, ◌++◌, length, get_or, Option, Some, None, IfSome, IsUtf8, option_and_then, inl, inr, refl, sym, ap, ◌∙◌, subst, arith, append_assoc, append-nil, length-append, true≢false}
 use Rattle.std.specs.Char.{digit_value, is_digit, encode_utf8}
 use Rattle.std.proofs.lemmas.Bool.{and_parts, cases_lt, ne_eqb, eqb-true, le-leb, le-ltb, lt-ltb, leb-true, ltb-true}
@@ -18,7 +18,7 @@ ascii_text x small = subst IsUtf8 (encode_ascii x small) (IsUtf8-encode x (low_s
 pub past_ascii : (x : ℕ) (xs : List ℕ) → x < 128 → IsUtf8 (x ∷ xs) → IsUtf8 xs
 past_ascii x xs small u = IsUtf8-past_char (x ∷ xs) xs x u (ap (λ l. l ++ xs) (sym (encode_ascii x small)))
 
--- a first character of several bytes, and what is left
+-- a first character of several bytes, and the rest of the text
 pub record HighFirst (xs : List ℕ) : Type 0 where
   pub front : List ℕ
   pub rest : List ℕ
@@ -53,7 +53,7 @@ high_first x xs big u = by u.0 u.1.0 u.1.1 where
 
 -- ---- contents
 
--- what is found, if anything, is UTF-8
+-- if there is a text, it is UTF-8
 abbrev pub Texts : Option (List ℕ) → Type 0
 Texts found = IfSome found IsUtf8
 
@@ -73,7 +73,7 @@ prepend-prepend : (a b : List ℕ) (found : Option (List ℕ)) → prepend a (pr
 prepend-prepend a b None = refl
 prepend-prepend a b (Some s) = ap Some (sym (append_assoc a b s))
 
--- bytes that aren't ASCII stand for themselves
+-- lemma: bytes that are not ASCII mean themselves
 high_run : (front rest : List ℕ) → AreHigh front → content plain (front ++ rest) ≡ prepend front (content plain rest)
 unfolding content
 high_run [] rest high = sym (prepend-nil _)
@@ -84,7 +84,7 @@ high_run (x ∷ xs) rest high =
 
 -- ---- escapes
 
--- the byte that a short escape stands for is ASCII
+-- there is no byte, or the byte is ASCII; so it is with the byte that a short escape such as `\n` represents
 abbrev AsciiIfAny : Option ℕ → Type 0
 AsciiIfAny o = IfSome o (λ c. c < 128)
 
@@ -114,7 +114,7 @@ then_text : (o : Option ℕ) (found : Option (List ℕ)) → AsciiIfAny o → Te
 then_text None found small h = tt
 then_text (Some c) found small h = prepend_text (c ∷ []) found (ascii_text c small) h
 
--- a hex digit is ASCII
+-- lemma: a hexadecimal digit is ASCII
 digit_ascii : (a : ℕ) → is_digit a 16 ≡ true → a < 128
 digit_ascii a e = elim (cases_lt a 128) [
   | inl small ↦ small
@@ -151,16 +151,16 @@ four_digits a b c d u e = by (is_digit a 16 && is_digit b 16 && is_digit c 16 &&
         below = omega (arith, is_u, ltb-true (digit_value a) 16 one.0, ltb-true (digit_value b) 16 one.1, ltb-true (digit_value c) 16 two.1, ltb-true (digit_value d) 16 three.1);
       }
 
--- what stands behind them is UTF-8
+-- lemma: the text after four such digits is UTF-8
 behind_four : (a b c d u : ℕ) (xs : List ℕ) → FourDigits a b c d u → IsUtf8 (a ∷ b ∷ c ∷ d ∷ xs) → IsUtf8 xs
 behind_four a b c d u xs four all =
     past_ascii d xs four.fourth (past_ascii c (d ∷ xs) four.third (past_ascii b (c ∷ d ∷ xs) four.second (past_ascii a (b ∷ c ∷ d ∷ xs) four.first all)))
 
--- a number above the surrogates
+-- lemma: a number above the surrogates is that of a character
 high_scalar : (c : ℕ) → 57344 ≤ c → c < 1114112 → scalar c ≡ true
 high_scalar c low high = λ i. cond (le-ltb c 55296 (omega arith) i) true (le-leb 57344 c low i && lt-ltb c 1114112 high i)
 
--- one that is no surrogate
+-- lemma: a number of 16 bits that is no surrogate is that of a character
 unit_scalar : (u : ℕ) → u < 65536 → is_high_surrogate u ≡ false → is_low_surrogate u ≡ false → scalar u ≡ true
 unit_scalar u below no_high no_low = elim (cases_lt u 55296) [
   | inl low ↦ low_scalar u low
@@ -173,7 +173,7 @@ unit_scalar u below no_high no_low = elim (cases_lt u 55296) [
   ]
 ]
 
--- a pair of surrogates
+-- lemma: a pair of surrogates is the number of a character
 pair_scalar : (h l : ℕ) → is_high_surrogate h ≡ true → is_low_surrogate l ≡ true → scalar (surrogate_pair h l) ≡ true
 pair_scalar h l high low =
     let hs = and_parts (nat_le 55296 h) (nat_lt h 56320) high in
@@ -184,7 +184,7 @@ pair_scalar h l high low =
     let l_to = ltb-true l 57344 ls.1 in
     high_scalar (surrogate_pair h l) (omega arith) (omega arith)
 
--- ---- by the length of what is left
+-- ---- induction on the length of the rest
 
 abbrev Behind : Within → ℕ → Type 0
 Behind within n = (xs : List ℕ) → length xs ≤ n → IsUtf8 xs → Texts (content within xs)

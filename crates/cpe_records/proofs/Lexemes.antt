@@ -1,4 +1,4 @@
--- The strings among the tokens of UTF-8 are UTF-8.
+-- Lemmas: the strings among the tokens of a text are UTF-8, if the text is UTF-8.
 use Rattle.std.proofs.Common.{◌≡◌, ℕ, zero, suc, ◌<◌, ◌≤◌, Bool, true, false, cond, ◌==◌, List, [], ◌∷◌, ◌++◌, length, Option, Some, None, IsUtf8, inl, inr, refl, sym, ap, subst, arith, length-append, get_or}
 use Rattle.std.specs.List.{AllByRecursion}
 use Rattle.std.proofs.lemmas.Bool.{cases_lt, eqb-true}
@@ -9,9 +9,9 @@ use Rattle.json.specs.Lex.{Lexeme, token, comma, colon, Class, quote, backslash,
 use Rattle.json.specs.Ascii as ascii
 use Rattle.cpe_records.proofs.Contents.{Texts, past_ascii, plain_text, high_first}
 
--- ---- what stands behind ASCII
+-- ---- the text after an ASCII byte
 
--- behind each ASCII byte stands UTF-8
+-- after each ASCII byte, the rest of the text is UTF-8
 abbrev IsCut : List ℕ → Type 0
 IsCut [] = Unit {0}
 IsCut (x ∷ xs) = (x < 128 → IsUtf8 xs) × IsCut xs
@@ -35,7 +35,7 @@ text_cut (suc n) (x ∷ xs) few u = elim (cases_lt x 128) [
 
 -- ---- lexemes
 
--- a string is UTF-8
+-- if the token is a string, it is UTF-8
 abbrev pub IsTextToken : Token → Type 0
 IsTextToken begin_object = Unit {0}
 IsTextToken end_object = Unit {0}
@@ -63,7 +63,7 @@ string_text : (found : Option (List ℕ)) → Texts found → IsTextToken (strin
 string_text None h = tt
 string_text (Some s) h = h
 
--- a choice between two that are
+-- lemma: a choice between two such tokens is such a token
 one_token : (b : Bool) (p q : Token) → IsTextToken p → IsTextToken q → IsTextToken (cond b p q)
 one_token true p q h k = h
 one_token false p q h k = k
@@ -95,7 +95,7 @@ word_text t =
     (one_token (head t == ascii.lower_f) (literal ascii.false_text (boolean false) t) l (one_token _ (boolean false) bad tt tt)
     (one_token (head t == ascii.lower_n) (literal ascii.null_text null t) n (one_token _ null bad tt tt) (number_text t (after_number t))))
 
--- only a quote is of the class of quotes
+-- lemma: a byte has the class `quote` only if it is a quote
 quote_is : (a b c d : Bool) → cond a quote (cond b backslash (cond c operator (cond d space other))) ≡ quote → a ≡ true
 quote_is true b c d e = refl
 quote_is false true c d e = absurd (cc)

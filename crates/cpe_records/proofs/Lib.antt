@@ -7,4 +7,4 @@ pub mod ValidRecords
 pub mod Strings
 pub mod TestReads
 pub mod RecordReads
-pub use Rattle.cpe_members.proofs as cpe_members
+pub use Rattle.record_members.proofs as record_members

@@ -1,4 +1,4 @@
--- What is printed of strings that are UTF-8 is UTF-8.
+-- Lemmas: the printed form of JSON is UTF-8, if its strings are UTF-8.
 use Rattle.std.proofs.Common.{Bool, false, List, [], ◌∷◌, ◌++◌, IsUtf8, refl}
 use Rattle.std.specs.List.{AllByRecursion}
 use Rattle.std.proofs.lemmas.Str.{IsUtf8-append, IsUtf8-nil}

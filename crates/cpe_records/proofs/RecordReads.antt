@@ -1,4 +1,4 @@
--- The record that is read of a line is formed, and its texts are UTF-8.
+-- Lemmas: the record that is read from a line is formed, and its texts are UTF-8.
 use Rattle.std.proofs.Common.{◌≡◌, ℕ, List, [], ◌∷◌, Bool, true, false, Option, Some, None, IfSome, if◌then◌else◌, codes, refl}
 use Rattle.std.specs.Prelude.{Result, Ok, IfOk, IsTrue, option_and_then}
 use Rattle.std.specs.List.{AllByRecursion}
@@ -22,35 +22,35 @@ use Rattle.cpe_rows.specs.declared.entry.Entry.{Entry}
 use Rattle.cpe_rows.specs.declared.entry.Note.{Note}
 use Rattle.cpe_rows.specs.declared.entry.Provenance.{Provenance}
 use Rattle.cpe_rows.specs.declared.statement.Statement.{Statement}
-use Rattle.cpe_members.specs.FirstFault.{◌>>=◌, all_from}
-use Rattle.cpe_members.specs.Forms.{required, tested, member_at, text_in, text_at, word_at, text_or_empty, flag_or_false, date_at, list_or_empty}
-use Rattle.cpe_members.specs.Formats.{format_at}
-use Rattle.cpe_members.specs.Keys.{key_of}
-use Rattle.cpe_members.specs.Line.{value_of}
-use Rattle.cpe_members.specs.Names.{name_at, successors_at}
-use Rattle.cpe_members.specs.Provenance.{note_kind_in, note_in, provenance_in, provenance_or_empty}
-use Rattle.cpe_members.specs.Tests.{test_at}
-use Rattle.cpe_members.specs.Words.{kind_of, truth_of}
-use Rattle.cpe_members.specs.declared.format.Format.{Format}
-use Rattle.cpe_members.specs.declared.member.Member.{Member}
-use Rattle.cpe_members.specs.declared.member.Member.TheVariants as member
-use Rattle.cpe_members.specs.declared.member.RecordFault.{RecordFault}
-use Rattle.cpe_records.specs.Kinds.{comment_at, id_at, mode_at, description_in, entry_in, remark_in, change_in, deprecation_in, restore_in, statement_in, key_at, check_in, search_in}
-use Rattle.cpe_records.specs.Reading.{record_by, json_of, record_of}
+use Rattle.record_members.specs.FirstFault.{◌>>=◌, all_from}
+use Rattle.record_members.specs.Forms.{required_member, tested, member_at, text_in, text_at, word_at, text_or_empty, flag_or_false, date_at, list_or_empty}
+use Rattle.record_members.specs.Formats.{format_at}
+use Rattle.record_members.specs.Keys.{key_of}
+use Rattle.record_members.specs.Line.{json_value_of}
+use Rattle.record_members.specs.Names.{name_at, successors_at}
+use Rattle.record_members.specs.Provenance.{note_kind_in, note_in, provenance_in, provenance_or_empty}
+use Rattle.record_members.specs.Tests.{test_at}
+use Rattle.record_members.specs.Words.{kind_of, truth_of_word}
+use Rattle.record_members.specs.declared.format.Format.{Format}
+use Rattle.record_members.specs.declared.member.Member.{Member}
+use Rattle.record_members.specs.declared.member.Member.TheVariants as member
+use Rattle.record_members.specs.declared.member.RecordFault.{RecordFault}
+use Rattle.cpe_records.specs.Kinds.{comment_at, statement_id_at, mode_at, description_in, entry_in, remark_in, change_in, deprecation_in, restore_in, statement_in, key_at, check_in, search_in}
+use Rattle.cpe_records.specs.Reading.{record_by, record_json_of, record_of}
 use Rattle.cpe_records.specs.RecordKinds.{record_kind_of}
 use Rattle.cpe_records.specs.Taken.{IsFormedQuery}
-use Rattle.cpe_records.specs.declared.kinds.Change.{Change}
+use Rattle.cpe_records.specs.declared.kinds.DeprecationChange.{DeprecationChange}
 use Rattle.cpe_records.specs.declared.kinds.Description.{Description}
 use Rattle.cpe_records.specs.declared.kinds.Remark.{Remark}
 use Rattle.cpe_records.specs.declared.read.Record.{Record}
 use Rattle.cpe_records.specs.declared.read.Record.TheVariants.{Edit as AnEdit}
 use Rattle.cpe_records.specs.declared.record_kind.RecordKind.{RecordKind}
 use Rattle.cpe_records.specs.declared.record_kind.RecordKind.TheVariants as record_kind
-use Rattle.cpe_snapshot.specs.States.{IsString, IsTextEntry, IsTextKey, IsTextStatement}
+use Rattle.snapshot_bytes.specs.States.{IsString, IsTextEntry, IsTextKey, IsTextStatement}
 use Rattle.cpe_records.specs.Read.{IsReadTest, IsReadEdit, IsReadQuery, IsRead}
-use Rattle.cpe_members.proofs.ReadLemmas.{then_if, behind_if, all_if, required_if, some_if, tested_if}
+use Rattle.record_members.proofs.ReadLemmas.{then_if, behind_if, all_if, required_if, some_if, tested_if}
 use Rattle.cpe_records.proofs.Strings.{get_has, text_in_is, text_at_is, text_or_empty_is, list_or_empty_has, empty_is}
-use Rattle.cpe_members.proofs.NamesRead.{name_is, successors_are}
+use Rattle.record_members.proofs.NamesRead.{name_is, successors_are}
 use Rattle.cpe_records.proofs.TestReads.{test_is}
 
 -- ---- members
@@ -66,7 +66,7 @@ date_is m d h =
       by (Some t) both = both.1
       by None both = tt
 
-id_is : (d : Data) → HasTexts d → IfOk (id_at d) IsString
+id_is : (d : Data) → HasTexts d → IfOk (statement_id_at d) IsString
 id_is d h =
     required_if IsString member.Id (option_and_then (tested is_id) (text_in (key_of member.Id) d))
     (some_if IsString IsString (text_in (key_of member.Id) d) (tested is_id) (text_in_is (key_of member.Id) d h) same)
@@ -102,7 +102,7 @@ record IsReadProvenance (v : Provenance) : Type 0 where
 provenance_is : (d : Data) → HasTexts d → IfOk (provenance_in d) IsReadProvenance
 unfolding provenance_in
 provenance_is d h =
-    behind_if IsReadProvenance (required member.Provenance (as_object d)) _
+    behind_if IsReadProvenance (required_member member.Provenance (as_object d)) _
     (λ ms. then_if IsString IsReadProvenance (text_or_empty member.Provenance (codes "submitter") d) _ (text_or_empty_is member.Provenance (codes "submitter") d h)
     (λ submitter s. then_if IsString IsReadProvenance (text_or_empty member.Provenance (codes "authority") d) _ (text_or_empty_is member.Provenance (codes "authority") d h)
     (λ authority a. then_if (AllByRecursion HasTexts) IsReadProvenance (list_or_empty member.Provenance (codes "changes") d) _ (list_or_empty_has member.Provenance (codes "changes") d h)
@@ -157,7 +157,7 @@ remark_is d h =
     then_if (λ date. IsTrue (is_date date)) IsReadRemark (date_at member.Date d) _ (date_is member.Date d h)
     (λ date dated. then_if IsString IsReadRemark (comment_at d) _ (comment_is d h) (λ comment text. record { dated = dated; text = text }))
 
-record IsReadChange (c : Change) : Type 0 where
+record IsReadChange (c : DeprecationChange) : Type 0 where
   pub successors : AllByRecursion IsName c.deprecation.successors
   pub remark : IsReadRemark c.remark
 
@@ -169,7 +169,7 @@ change_is f d h =
     (λ successors s. then_if IsReadRemark IsReadChange (remark_in d) _ (remark_is d h) (λ remark r. record { successors = s; remark = r })))
 
 deprecation_is : (kind : Values → Deprecation → List ℕ → List ℕ → Edit)
-    → ((n : Values) (c : Change) → IsName n → IsReadChange c → IsReadEdit (kind n c.deprecation c.remark.date c.remark.comment))
+    → ((n : Values) (c : DeprecationChange) → IsName n → IsReadChange c → IsReadEdit (kind n c.deprecation c.remark.date c.remark.comment))
     → (f : Format) (d : Data) → HasTexts d → IfOk (deprecation_in kind f d) IsReadEdit
 unfolding deprecation_in
 deprecation_is kind each f d h =
@@ -186,7 +186,7 @@ IsReadStatement s = IsFormedStatement s × IsTextStatement s
 statement_is : (f : Format) (d : Data) → HasTexts d → IfOk (statement_in f d) IsReadStatement
 unfolding statement_in
 statement_is f d h =
-    then_if IsString IsReadStatement (id_at d) _ (id_is d h)
+    then_if IsString IsReadStatement (statement_id_at d) _ (id_is d h)
     (λ id i. then_if IsString IsReadStatement (text_or_empty member.Title (codes "title") d) _ (text_or_empty_is member.Title (codes "title") d h)
     (λ title t. behind_if IsReadStatement (mode_at d) _
     (λ mode. then_if IsReadTest IsReadStatement (test_at f d) _ (test_is f d h)
@@ -201,7 +201,7 @@ key_at_is d h =
 
 check_is : (d : Data) → HasTexts d → IfOk (check_in d) IsReadEdit
 unfolding check_in
-check_is d h = then_if IsTextKey IsReadEdit (key_at d) _ (key_at_is d h) (λ key k. behind_if IsReadEdit (word_at truth_of member.Result d) _ (λ result. (tt, k)))
+check_is d h = then_if IsTextKey IsReadEdit (key_at d) _ (key_at_is d h) (λ key k. behind_if IsReadEdit (word_at truth_of_word member.Result d) _ (λ result. (tt, k)))
 
 -- ---- records
 
@@ -223,7 +223,7 @@ by_is record_kind.Restore f d h = edit_read (restore_in f d) (restore_is f d h)
 by_is record_kind.Item f d h = named_read f d _ (λ n name. (name, tt))
 by_is record_kind.DropItem f d h = named_read f d _ (λ n name. (name, tt))
 by_is record_kind.Statement f d h = then_if IsReadStatement IsRead (statement_in f d) _ (statement_is f d h) (λ s k. k)
-by_is record_kind.DropStatement f d h = then_if IsString IsRead (id_at d) _ (id_is d h) (λ id text. (tt, text))
+by_is record_kind.DropStatement f d h = then_if IsString IsRead (statement_id_at d) _ (id_is d h) (λ id text. (tt, text))
 by_is record_kind.Check f d h = edit_read (check_in d) (check_is d h)
 by_is record_kind.DropCheck f d h = then_if IsTextKey IsRead (key_at d) _ (key_at_is d h) (λ key text. (tt, text))
 by_is record_kind.Lookup f d h = named_read f d _ (λ n name. (name, tt))
@@ -231,20 +231,20 @@ by_is record_kind.Search f d h = then_if IsReadQuery IsRead (search_in f d) _ (s
 by_is record_kind.Items f d h = named_read f d _ (λ n name. (name, tt))
 by_is record_kind.Chain f d h = named_read f d _ (λ n name. (name, tt))
 by_is record_kind.Show f d h = named_read f d _ (λ n name. (name, tt))
-by_is record_kind.Verdict f d h = then_if IsString IsRead (id_at d) _ (id_is d h) (λ id text. (tt, text))
+by_is record_kind.Verdict f d h = then_if IsString IsRead (statement_id_at d) _ (id_is d h) (λ id text. (tt, text))
 
-value_has : (line : List ℕ) → IfSome (value_of line) HasTexts
+value_has : (line : List ℕ) → IfSome (json_value_of line) HasTexts
 value_has line = by (is_utf8 line) refl where
   by : (b : Bool) → is_utf8 line ≡ b → IfSome (if b then read line else None) HasTexts
   by true e = values_text line (IsUtf8-from_is_utf8 line e)
   by false e = tt
 
-json_has : (o : Option Data) → IfSome o HasTexts → IfOk (json_of o) HasTexts
+json_has : (o : Option Data) → IfSome o HasTexts → IfOk (record_json_of o) HasTexts
 json_has (Some d) h = h
 json_has None h = tt
 
 pub line_read : (line : List ℕ) → IfOk (record_of line) IsRead
 unfolding record_of
 line_read line =
-    then_if HasTexts IsRead (json_of (value_of line)) _ (json_has (value_of line) (value_has line))
+    then_if HasTexts IsRead (record_json_of (json_value_of line)) _ (json_has (json_value_of line) (value_has line))
     (λ d h. behind_if IsRead (word_at record_kind_of member.Do d) _ (λ v. behind_if IsRead (format_at d) _ (λ f. by_is v f d h)))

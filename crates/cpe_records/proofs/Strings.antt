@@ -1,4 +1,4 @@
--- The texts that are read of a value with such strings are UTF-8.
+-- Lemmas: texts that are read from a value are UTF-8, if the strings of the value are UTF-8.
 use Rattle.std.proofs.Common.{ℕ, List, [], Some, IfSome}
 use Rattle.std.specs.Prelude.{IfOk, option_map}
 use Rattle.std.specs.List.{AllByRecursion}
@@ -10,11 +10,11 @@ use Rattle.std.proofs.lemmas.Str.{is_utf8-from_IsUtf8, IsUtf8-nil}
 use Rattle.serde_json.specs.Data.{Data, null, boolean, number, string, array, object, Items, no_items, item, Members, no_members, member}
 use Rattle.serde_json.specs.Find.{get_member, get, as_str, as_array}
 use Rattle.cpe_records.specs.JsonTexts.{HasTexts, HaveTexts, MembersHaveTexts}
-use Rattle.cpe_members.specs.Forms.{or_default, text_in, text_at, text_or_empty, list_of, list_or_empty}
-use Rattle.cpe_members.specs.Keys.{key_of}
-use Rattle.cpe_members.specs.declared.member.Member.{Member}
-use Rattle.cpe_snapshot.specs.States.{IsString}
-use Rattle.cpe_members.proofs.ReadLemmas.{required_if, some_if, map_if, default_if}
+use Rattle.record_members.specs.Forms.{or_default, text_in, text_at, text_or_empty, list_of_items, list_or_empty}
+use Rattle.record_members.specs.Keys.{key_of}
+use Rattle.record_members.specs.declared.member.Member.{Member}
+use Rattle.snapshot_bytes.specs.States.{IsString}
+use Rattle.record_members.proofs.ReadLemmas.{required_if, some_if, map_if, default_if}
 
 members_have : (k : List ℕ) (ms : Members) → MembersHaveTexts ms → IfSome (get_member k ms) HasTexts
 members_have k no_members h = tt
@@ -48,7 +48,7 @@ array_has (string s) h = tt
 array_has (array ds) h = h
 array_has (object ms) h = tt
 
-listed : (ds : Items) → HaveTexts ds → AllByRecursion HasTexts (list_of ds)
+listed : (ds : Items) → HaveTexts ds → AllByRecursion HasTexts (list_of_items ds)
 listed no_items h = tt
 listed (item d ds) h = (h.0, listed ds h.1)
 
@@ -66,6 +66,6 @@ text_or_empty_is m key d h = required_if IsString m (or_default [] as_str (get k
 
 pub list_or_empty_has : (m : Member) (key : List ℕ) (d : Data) → HasTexts d → IfOk (list_or_empty m key d) (AllByRecursion HasTexts)
 list_or_empty_has m key d h =
-    required_if (AllByRecursion HasTexts) m (or_default [] (λ e. option_map list_of (as_array e)) (get key d))
-    (default_if (AllByRecursion HasTexts) HasTexts [] (λ e. option_map list_of (as_array e)) (get key d) tt
-    (λ e has. map_if HaveTexts (AllByRecursion HasTexts) (as_array e) list_of (array_has e has) listed) (get_has key d h))
+    required_if (AllByRecursion HasTexts) m (or_default [] (λ e. option_map list_of_items (as_array e)) (get key d))
+    (default_if (AllByRecursion HasTexts) HasTexts [] (λ e. option_map list_of_items (as_array e)) (get key d) tt
+    (λ e has. map_if HaveTexts (AllByRecursion HasTexts) (as_array e) list_of_items (array_has e has) listed) (get_has key d h))

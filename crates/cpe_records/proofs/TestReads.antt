@@ -1,4 +1,4 @@
--- The test that is read of a statement names well-formed names, and its check references are texts.
+-- Lemmas: the names of a test that is read are well-formed, and its keys of checks are UTF-8.
 use Rattle.std.proofs.Common.{◌≡◌, ℕ, List, [], ◌∷◌, ◌++◌, Bool, codes, sym, ap, ◌∙◌, subst}
 use Rattle.std.specs.Prelude.{IfOk}
 use Rattle.std.specs.List.{AllByRecursion, flat_map}
@@ -15,36 +15,36 @@ use Rattle.cpe_rows.specs.declared.test.Test.TheOpen.{Test-F}
 use Rattle.cpe_rows.specs.declared.test.Test.TheFolds.{fold-roll-Test}
 use Rattle.cpe_rows.specs.declared.test.Test.TheVariants as test_rolls
 use Rattle.cpe_rows.proofs.TestNames.{names-logic}
-use Rattle.cpe_members.specs.Forms.{text_in}
-use Rattle.cpe_members.specs.Tests.{part_in, key_in, test_at}
-use Rattle.cpe_members.specs.declared.format.Format.{Format}
-use Rattle.cpe_members.specs.declared.member.Member.TheVariants as part
-use Rattle.cpe_members.proofs.BuiltTests.{test_built}
-use Rattle.cpe_members.proofs.ReadLemmas.{then_if, required_if}
-use Rattle.cpe_snapshot.specs.States.{IsString, IsTextKey, keys_of, keys_step}
+use Rattle.record_members.specs.Forms.{text_in}
+use Rattle.record_members.specs.Tests.{part_in, key_in, test_at}
+use Rattle.record_members.specs.declared.format.Format.{Format}
+use Rattle.record_members.specs.declared.member.Member.TheVariants as part
+use Rattle.record_members.proofs.BuiltTests.{test_built}
+use Rattle.record_members.proofs.ReadLemmas.{then_if, required_if}
+use Rattle.snapshot_bytes.specs.States.{IsString, IsTextKey, keys_of, stored_keys_step}
 use Rattle.cpe_records.specs.Read.{IsReadTest}
 use Rattle.cpe_records.proofs.Strings.{text_in_is}
 
--- ---- what a test is built of
+-- ---- the parts of a test
 
 all_joined : {A : Type 0} (P : A → Type 0) (xs ys : List A) → AllByRecursion P xs → AllByRecursion P ys → AllByRecursion P (xs ++ ys)
 all_joined P [] ys h k = k
 all_joined P (x ∷ xs) ys h k = (h.0, all_joined P xs ys h.1 k)
 
 pub keys-logic : (o : Operator) (b : Bool) (of : List test.Test) → keys_of (test.Logic o b of) ≡ flat_map keys_of of
-keys-logic o b of = ap keys_of (sym (test_rolls.rolls-Logic o b of)) ∙ (fold-roll-Test (List CheckKey) keys_step (Test-F.Logic o b of) ∙ flat_map-map (λ keys. keys) keys_of of)
+keys-logic o b of = ap keys_of (sym (test_rolls.rolls-Logic o b of)) ∙ (fold-roll-Test (List CheckKey) stored_keys_step (Test-F.Logic o b of) ∙ flat_map-map (λ keys. keys) keys_of of)
 
 names-fact : (w : Values) → fact_names (test.Fact w) ≡ w ∷ []
 names-fact w = ap fact_names (sym (test_rolls.rolls-Fact w)) ∙ fold-roll-Test (List Values) fact_names_step (Test-F.Fact w)
 
 keys-fact : (w : Values) → keys_of (test.Fact w) ≡ []
-keys-fact w = ap keys_of (sym (test_rolls.rolls-Fact w)) ∙ fold-roll-Test (List CheckKey) keys_step (Test-F.Fact w)
+keys-fact w = ap keys_of (sym (test_rolls.rolls-Fact w)) ∙ fold-roll-Test (List CheckKey) stored_keys_step (Test-F.Fact w)
 
 names-check : (key : CheckKey) → fact_names (test.Check key) ≡ []
 names-check key = ap fact_names (sym (test_rolls.rolls-Check key)) ∙ fold-roll-Test (List Values) fact_names_step (Test-F.Check key)
 
 keys-check : (key : CheckKey) → keys_of (test.Check key) ≡ key ∷ []
-keys-check key = ap keys_of (sym (test_rolls.rolls-Check key)) ∙ fold-roll-Test (List CheckKey) keys_step (Test-F.Check key)
+keys-check key = ap keys_of (sym (test_rolls.rolls-Check key)) ∙ fold-roll-Test (List CheckKey) stored_keys_step (Test-F.Check key)
 
 test_names : (ts : List test.Test) → AllByRecursion IsReadTest ts → AllByRecursion IsName (flat_map fact_names ts)
 test_names [] h = tt
@@ -66,7 +66,7 @@ fact_test w h = record { names = subst (AllByRecursion IsName) (sym (names-fact 
 check_test : (key : CheckKey) → IsTextKey key → IsReadTest (test.Check key)
 check_test key h = record { names = subst (AllByRecursion IsName) (sym (names-check key)) tt; keys = subst (AllByRecursion IsTextKey) (sym (keys-check key)) (h, tt) }
 
--- ---- how it is read
+-- ---- how a test is read
 
 part_is : (key : List ℕ) (d : Data) → HasTexts d → IfOk (part_in key d) IsString
 part_is key d h = required_if IsString part.Test (text_in key d) (text_in_is key d h)

@@ -1,4 +1,4 @@
--- What is read of a line is valid.
+-- Lemmas: a record that is read from a line is valid.
 use Rattle.std.proofs.Common.{◌≡◌, ℕ, List, Bool, true, ◌&&◌, refl, subst}
 use Rattle.std.specs.Prelude.{IfOk, Result, Ok, Err, codes}
 use Rattle.std.proofs.lemmas.Bool.{and_from}
@@ -6,44 +6,44 @@ use Rattle.serde_json.specs.Data.{Data}
 use Rattle.cpe_rows.specs.cpe_name.Eleven.{Values}
 use Rattle.cpe_rows.specs.Names.{is_lower}
 use Rattle.cpe_rows.specs.Valid.{is_id, is_statement_test}
-use Rattle.cpe_members.specs.Gives.{◌>>=◌, Gives}
+use Rattle.record_members.specs.Gives.{◌>>=◌, ReadsMember}
 use Rattle.cpe_records.specs.RecordKinds.{record_kind_of}
-use Rattle.cpe_members.specs.Forms.{word_at, text_or_empty}
-use Rattle.cpe_members.specs.Names.{name_at}
-use Rattle.cpe_members.specs.Formats.{format_at}
-use Rattle.cpe_members.specs.declared.format.Format.{Format}
-use Rattle.cpe_members.specs.Tests.{test_at}
-use Rattle.cpe_records.specs.Kinds.{id_at, entry_in, deprecation_in, restore_in, key_at, check_in, search_in, statement_in, mode_at}
+use Rattle.record_members.specs.Forms.{word_at, text_or_empty}
+use Rattle.record_members.specs.Names.{name_at}
+use Rattle.record_members.specs.Formats.{format_at}
+use Rattle.record_members.specs.declared.format.Format.{Format}
+use Rattle.record_members.specs.Tests.{test_at}
+use Rattle.cpe_records.specs.Kinds.{statement_id_at, entry_in, deprecation_in, restore_in, key_at, check_in, search_in, statement_in, mode_at}
 use Rattle.cpe_rows.specs.declared.edit.Edit.{Edit}
 use Rattle.cpe_rows.specs.declared.edit.Edit.TheVariants as edit
 use Rattle.cpe_rows.specs.declared.statement.Statement.{Statement}
 use Rattle.cpe_records.specs.Taken.{is_valid_record}
-use Rattle.cpe_records.specs.Reading.{record_by, record_of, json_of}
-use Rattle.cpe_members.specs.Line.{value_of}
+use Rattle.cpe_records.specs.Reading.{record_by, record_of, record_json_of}
+use Rattle.record_members.specs.Line.{json_value_of}
 use Rattle.cpe_records.specs.declared.read.Record.{Record}
 use Rattle.cpe_records.specs.declared.read.Record.TheVariants as TheRecord
 use Rattle.cpe_records.specs.declared.record_kind.RecordKind.{RecordKind}
 use Rattle.cpe_records.specs.declared.record_kind.RecordKind.TheVariants as record_kind
-use Rattle.cpe_members.specs.declared.member.Member.TheVariants as member
-use Rattle.cpe_members.specs.declared.member.RecordFault.{RecordFault}
-use Rattle.cpe_members.specs.FirstFault.{Yields}
-use Rattle.cpe_members.proofs.YieldLemmas.{then_yields, behind}
-use Rattle.cpe_members.proofs.LowerNames.{name_lower}
+use Rattle.record_members.specs.declared.member.Member.TheVariants as member
+use Rattle.record_members.specs.declared.member.RecordFault.{RecordFault}
+use Rattle.record_members.specs.FirstFault.{Yields}
+use Rattle.record_members.proofs.YieldLemmas.{then_yields, behind}
+use Rattle.record_members.proofs.LowerNames.{name_lower}
 use Rattle.cpe_records.proofs.ValidLemmas.{entry_valid, deprecate_valid, amend_valid, restore_valid, check_valid, search_valid, id_valid, is_new, as_edit, as_query}
-use Rattle.cpe_members.proofs.StatementTests.{test_at_valid}
+use Rattle.record_members.proofs.StatementTests.{test_at_valid}
 
--- its id and its test are those of a statement
+-- whether the id and the test of a statement have their forms
 abbrev is_whole : Statement → Bool
 is_whole s = is_id s.id && is_statement_test s.test
 
 statement_valid : (f : Format) (d : Data) → Yields is_whole (statement_in f d)
 unfolding statement_in
 statement_valid f d =
-    then_yields is_id is_whole (id_at d) _ (id_valid d)
+    then_yields is_id is_whole (statement_id_at d) _ (id_valid d)
     (λ i h. behind is_whole (text_or_empty member.Title (codes "title") d) _
     (λ title. behind is_whole (mode_at d) _ (λ mode. then_yields is_statement_test is_whole (test_at f d) _ (test_at_valid f d) (λ t k. and_from _ _ h k))))
 
--- a record of a name alone, and what a reader of edits gives as a record
+-- lemmas: a record that has only a name is valid, and so is a record that a reader of edits returns
 name_valid : (f : Format) (d : Data) (as_record : Values → Record) → ((n : Values) → is_lower n ≡ true → is_valid_record (as_record n) ≡ true) → Yields is_valid_record (name_at f d >>= λ n. Ok (as_record n))
 name_valid f d as_record h = then_yields is_lower is_valid_record (name_at f d) _ (name_lower f d) h
 
@@ -58,7 +58,7 @@ record_valid record_kind.Restore f d = edit_valid (restore_in f d) (restore_vali
 record_valid record_kind.Item f d = name_valid f d _ (λ n h. h)
 record_valid record_kind.DropItem f d = name_valid f d _ (λ n h. h)
 record_valid record_kind.Statement f d = then_yields is_whole is_valid_record (statement_in f d) _ (statement_valid f d) (λ s h. h)
-record_valid record_kind.DropStatement f d = then_yields is_id is_valid_record (id_at d) _ (id_valid d) (λ i h. h)
+record_valid record_kind.DropStatement f d = then_yields is_id is_valid_record (statement_id_at d) _ (id_valid d) (λ i h. h)
 record_valid record_kind.Check f d = edit_valid (check_in d) (check_valid d)
 record_valid record_kind.DropCheck f d = behind is_valid_record (key_at d) _ (λ k. refl)
 record_valid record_kind.Lookup f d = name_valid f d _ (λ n h. h)
@@ -66,19 +66,19 @@ record_valid record_kind.Search f d = then_yields as_query is_valid_record (sear
 record_valid record_kind.Items f d = name_valid f d _ (λ n h. h)
 record_valid record_kind.Chain f d = name_valid f d _ (λ n h. h)
 record_valid record_kind.Show f d = name_valid f d _ (λ n h. h)
-record_valid record_kind.Verdict f d = then_yields is_id is_valid_record (id_at d) _ (id_valid d) (λ i h. h)
+record_valid record_kind.Verdict f d = then_yields is_id is_valid_record (statement_id_at d) _ (id_valid d) (λ i h. h)
 
--- what a line gives, if anything, is valid
+-- lemma: if a line is a record, the record is valid
 pub line_valid : (line : List ℕ) → Yields is_valid_record (record_of line)
 unfolding record_of
 line_valid line =
-    behind is_valid_record (json_of (value_of line)) _ (λ d. behind is_valid_record (word_at record_kind_of member.Do d) _ (λ v. behind is_valid_record (format_at d) _ (λ f. record_valid v f d)))
+    behind is_valid_record (record_json_of (json_value_of line)) _ (λ d. behind is_valid_record (word_at record_kind_of member.Do d) _ (λ v. behind is_valid_record (format_at d) _ (λ f. record_valid v f d)))
 
--- so what was read is valid
+-- lemma: a record that was read is valid
 pub read_valid : (line : List ℕ) (r : Record) → record_of line ≡ Ok r → is_valid_record r ≡ true
 read_valid line r e = subst (Yields is_valid_record) e (line_valid line)
 
--- what a reader of the line answered is valid
-pub valid_by : (line : List ℕ) (r : Result Record RecordFault) → Gives r (record_of line) → IfOk r (λ x. is_valid_record x ≡ true)
+-- lemma: a record that a reader of the line returned is valid
+pub valid_by : (line : List ℕ) (r : Result Record RecordFault) → ReadsMember r (record_of line) → IfOk r (λ x. is_valid_record x ≡ true)
 valid_by line (Ok x) h = read_valid line x h
 valid_by line (Err e) h = tt

@@ -1,4 +1,4 @@
--- The strings of a value that is read of UTF-8 are UTF-8.
+-- Lemmas: the strings of a value are UTF-8, if the value was read from UTF-8.
 use Rattle.std.proofs.Common.{ℕ, zero, suc, List, [], ◌∷◌, length, Option, Some, None, IfSome, IsUtf8, option_map, option_and_then}
 use Rattle.std.specs.Ordering.{nat_cmp, match_ordering}
 use Rattle.std.specs.declared.cmp.Ordering.{Ordering}
@@ -13,7 +13,7 @@ use Rattle.serde_json.specs.Read.{number_of, of_json, of_items, of_members, max_
 use Rattle.cpe_records.specs.JsonTexts.{HasTexts, HaveTexts, MembersHaveTexts, ValuesAreTexts}
 use Rattle.cpe_records.proofs.Lexemes.{AreTextTokens, tokens_text}
 
--- ---- as JSON
+-- ---- values as JSON
 
 abbrev mutual
   IsText : json.Json → Type 0
@@ -32,7 +32,7 @@ abbrev mutual
   AreTextMembers json.no_members = Unit {0}
   AreTextMembers (json.member k j ms) = IsText j × AreTextMembers ms
 
--- what is parsed of such tokens is such, and such tokens are left
+-- if a value was parsed, it has the property, and the tokens that remain are UTF-8
 abbrev Parsed : {A : Type 0} → (A → Type 0) → Option (A × List Token) → Type 0
 Parsed P r = IfSome r (λ p. P p.0 × AreTextTokens p.1)
 
@@ -120,7 +120,7 @@ value_text (suc depth) =
     with_text (λ ts. json.items (json.value depth) (length ts) ts) (λ ts. json.members (json.value depth) (length ts) ts)
     (λ ts h. items_text (json.value depth) (value_text depth) (length ts) ts h) (λ ts h. members_text (json.value depth) (value_text depth) (length ts) ts h)
 
--- ---- as data
+-- ---- values as data
 
 put_text : (k : List ℕ) (d : Data) (ms : Members) → HasTexts d → MembersHaveTexts ms → MembersHaveTexts (put k d ms)
 put_text k d no_members h all = (h, tt)
@@ -169,7 +169,7 @@ mutual
     by more None m = tt
     by more (Some d) m = more (put k d found) (put_text k d found m all)
 
--- ---- the whole
+-- ---- the whole value
 
 last_text : (p : json.Json × List Token) → IsText p.0 → IfSome (if_last p.0 p.1) IsText
 last_text p h = by p.1 where

@@ -6,7 +6,7 @@ use Rattle.json.specs.Tree.{json_tokens}
 use Rattle.serde_json.specs.Data.{Data, null, boolean, number, string, array, object, Items, no_items, item, Members, no_members, member}
 use Rattle.serde_json.specs.Read.{read}
 
--- each string is UTF-8, at any depth
+-- each string of a value is UTF-8, at any depth
 abbrev mutual
   pub HasTexts : Data → Type 0
   HasTexts null = Unit {0}
@@ -24,11 +24,11 @@ abbrev mutual
   MembersHaveTexts no_members = Unit {0}
   MembersHaveTexts (member k d ms) = HasTexts d × MembersHaveTexts ms
 
--- a value that is read of UTF-8 has only such strings
+-- each string is UTF-8 in a value that is read from UTF-8
 abbrev pub ValuesAreTexts : Type 0
 ValuesAreTexts = (text : List ℕ) → IsUtf8 text → IfSome (read text) HasTexts
 
--- each string, key and number of what is to be written is UTF-8, at any depth
+-- each string, key and number of the JSON to be written is UTF-8, at any depth
 abbrev mutual
   pub WritesTexts : json.Json → Type 0
   WritesTexts json.null = Unit {0}
@@ -46,6 +46,6 @@ abbrev mutual
   MembersWriteTexts json.no_members = Unit {0}
   MembersWriteTexts (json.member k j ms) = IsUtf8 k × WritesTexts j × MembersWriteTexts ms
 
--- what is printed of it is UTF-8
+-- the printed form of JSON is UTF-8, if its strings, keys and numbers are
 abbrev pub PrintsAreTexts : Type 0
 PrintsAreTexts = (j : json.Json) → WritesTexts j → IsUtf8 (print (json_tokens j))

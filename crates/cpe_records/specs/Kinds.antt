@@ -14,34 +14,34 @@ use Rattle.cpe_rows.specs.declared.edit.Edit.{Edit}
 use Rattle.cpe_rows.specs.declared.edit.Edit.TheVariants as edit
 use Rattle.cpe_rows.specs.declared.edit.Query.{Query}
 use Rattle.cpe_rows.specs.declared.edit.Query.TheVariants as query
-use Rattle.cpe_members.specs.Gives.{◌>>=◌}
-use Rattle.cpe_members.specs.Words.{kind_of, mode_of, truth_of}
-use Rattle.cpe_members.specs.Forms.{required, or_default, tested, member_at, text_at, word_at, text_or_empty, flag_or_false, date_at}
-use Rattle.cpe_members.specs.Names.{name_at, successors_at}
-use Rattle.cpe_members.specs.declared.format.Format.{Format}
-use Rattle.cpe_members.specs.Provenance.{provenance_or_empty}
-use Rattle.cpe_members.specs.Tests.{test_at}
+use Rattle.record_members.specs.Gives.{◌>>=◌}
+use Rattle.record_members.specs.Words.{kind_of, mode_of, truth_of_word}
+use Rattle.record_members.specs.Forms.{required_member, or_default, tested, member_at, text_at, word_at, text_or_empty, flag_or_false, date_at}
+use Rattle.record_members.specs.Names.{name_at, successors_at}
+use Rattle.record_members.specs.declared.format.Format.{Format}
+use Rattle.record_members.specs.Provenance.{provenance_or_empty}
+use Rattle.record_members.specs.Tests.{test_at}
 use Rattle.cpe_records.specs.declared.kinds.Description.{Description}
 use Rattle.cpe_records.specs.declared.kinds.Remark.{Remark}
-use Rattle.cpe_records.specs.declared.kinds.Change.{Change}
-use Rattle.cpe_members.specs.declared.member.Member.TheVariants as member
-use Rattle.cpe_members.specs.declared.member.RecordFault.{RecordFault}
+use Rattle.cpe_records.specs.declared.kinds.DeprecationChange.{DeprecationChange}
+use Rattle.record_members.specs.declared.member.Member.TheVariants as member
+use Rattle.record_members.specs.declared.member.RecordFault.{RecordFault}
 
 -- ---- forms of single members
 
 abbrev pub comment_at : Data → Result (List ℕ) RecordFault
 comment_at = text_or_empty member.Comment (codes "comment")
 
--- 1 to 256 visible characters
-abbrev pub id_at : Data → Result (List ℕ) RecordFault
-id_at = word_at (tested is_id) member.Id
+-- the id of a statement: 1 to 256 visible characters
+abbrev pub statement_id_at : Data → Result (List ℕ) RecordFault
+statement_id_at = word_at (tested is_id) member.Id
 
 abbrev pub mode_at : Data → Result Mode RecordFault
-mode_at d = required member.Mode (or_default Plain (λ e. option_and_then mode_of (as_str e)) (member_at member.Mode d))
+mode_at d = required_member member.Mode (or_default Plain (λ e. option_and_then mode_of (as_str e)) (member_at member.Mode d))
 
 -- ---- kinds
 
--- an entry, after its name
+-- the members of an entry after its name
 unfoldable pub description_in : Data → Result Description RecordFault
 description_in d = do
   title ← text_or_empty member.Title (codes "title") d
@@ -60,8 +60,8 @@ remark_in d = do
   comment ← comment_at d
   Ok (record { date = date; comment = comment })
 
--- a deprecation, behind its name
-unfoldable pub change_in : Format → Data → Result Change RecordFault
+-- the members of a deprecation after the entry's name
+unfoldable pub change_in : Format → Data → Result DeprecationChange RecordFault
 change_in f d = do
   kind ← word_at kind_of member.Kind d
   successors ← successors_at f d
@@ -83,7 +83,7 @@ restore_in f d = do
 
 unfoldable pub statement_in : Format → Data → Result Statement RecordFault
 statement_in f d = do
-  id ← id_at d
+  id ← statement_id_at d
   title ← text_or_empty member.Title (codes "title") d
   mode ← mode_at d
   test ← test_at f d
@@ -99,7 +99,7 @@ key_at d = do
 unfoldable pub check_in : Data → Result Edit RecordFault
 check_in d = do
   key ← key_at d
-  result ← word_at truth_of member.Result d
+  result ← word_at truth_of_word member.Result d
   Ok (edit.SetCheck key result)
 
 unfoldable pub search_in : Format → Data → Result Query RecordFault

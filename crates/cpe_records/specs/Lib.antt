@@ -6,5 +6,5 @@ pub mod Taken
 pub mod Edited
 pub mod Texts
 pub mod Read
-pub use Rattle.cpe_members.specs as cpe_members
-pub use Rattle.cpe_snapshot.specs as cpe_snapshot
+pub use Rattle.record_members.specs as record_members
+pub use Rattle.snapshot_bytes.specs as snapshot_bytes

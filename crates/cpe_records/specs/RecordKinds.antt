@@ -1,6 +1,6 @@
--- What a record does or asks for, by its member `do`.
+-- The kind of a record, by its member `do`.
 use Rattle.std.specs.Prelude.{ℕ, List, [], ◌∷◌, codes, Option}
-use Rattle.cpe_members.specs.Words.{spelled}
+use Rattle.record_members.specs.Words.{spelled_word}
 use Rattle.cpe_records.specs.declared.record_kind.RecordKind.{RecordKind}
 use Rattle.cpe_records.specs.declared.record_kind.RecordKind.TheVariants.{Entry, Deprecate, Amend, Restore, Item, DropItem, Statement, DropStatement, Check, DropCheck, Lookup, Search, Items, Chain, Show, Verdict}
 
@@ -27,4 +27,4 @@ record_kinds =
     Entry ∷ Deprecate ∷ Amend ∷ Restore ∷ Item ∷ DropItem ∷ Statement ∷ DropStatement ∷ Check ∷ DropCheck ∷ Lookup ∷ Search ∷ Items ∷ Chain ∷ Show ∷ Verdict ∷ []
 
 abbrev pub record_kind_of : List ℕ → Option RecordKind
-record_kind_of = spelled record_word record_kinds
+record_kind_of = spelled_word record_word record_kinds

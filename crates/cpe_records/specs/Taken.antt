@@ -1,4 +1,4 @@
--- Records that an engine takes.
+-- Records that an engine accepts.
 use Rattle.std.specs.Prelude.{Bool}
 use Rattle.std.specs.Prelude.{⊤}
 use Rattle.cpe_rows.specs.cpe_name.Names.{IsName}
@@ -9,7 +9,7 @@ use Rattle.cpe_rows.specs.Valid.{is_valid_edit, is_valid_query}
 use Rattle.cpe_records.specs.declared.read.Record.{Record}
 use Rattle.cpe_records.specs.declared.read.Record.TheVariants.{Edit, Query}
 
--- its names, ids and tests have their form
+-- whether the record's names, ids and tests have the form that an engine needs
 abbrev pub is_valid_record : Record → Bool
 is_valid_record (Edit e) = is_valid_edit e
 is_valid_record (Query q) = is_valid_query q
@@ -22,7 +22,7 @@ IsFormedQuery (query.Chain n) = IsName n
 IsFormedQuery (query.Show n) = IsName n
 IsFormedQuery (query.Verdict id) = ⊤
 
--- its names are well-formed (NIST IR 7695, 5), and its dates have the shape of one
+-- the names of the record are well-formed (NIST IR 7695, 5), and its dates have the form of a date
 abbrev pub IsFormedRecord : Record → Type 0
 IsFormedRecord (Edit e) = IsFormed e
 IsFormedRecord (Query q) = IsFormedQuery q

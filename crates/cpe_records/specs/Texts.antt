@@ -1,9 +1,9 @@
--- Edits and queries whose texts are UTF-8, as those of rows are.
+-- Edits and questions whose texts are UTF-8, like the texts of rows.
 use Rattle.cpe_rows.specs.declared.edit.Edit.{Edit}
 use Rattle.cpe_rows.specs.declared.edit.Edit.TheVariants as edit
 use Rattle.cpe_rows.specs.declared.edit.Query.{Query}
 use Rattle.cpe_rows.specs.declared.edit.Query.TheVariants as query
-use Rattle.cpe_snapshot.specs.States.{IsString, IsTextEntry, IsTextKey, IsTextStatement}
+use Rattle.snapshot_bytes.specs.States.{IsString, IsTextEntry, IsTextKey, IsTextStatement}
 
 abbrev pub IsTextEdit : Edit → Type 0
 IsTextEdit (edit.Entry e) = IsTextEntry e

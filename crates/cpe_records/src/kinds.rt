@@ -1,49 +1,49 @@
-// The members of each kind of record, in the order in which they are tested. Each kind is read in a frame of its own: one
-// frame for all would be cleared for each record.
+// The members of each kind of record, in the order in which they are tested. A function for each kind keeps stack
+// frames small: one frame for all kinds would be cleared for each record.
 ghost use Rattle.std.specs.Prelude.{◌≡◌, if◌then◌else◌, Err, option_and_then};
 ghost use Rattle.serde_json.specs.View.{view};
 ghost use Rattle.serde_json.specs.Find.{as_str};
 ghost use Rattle.cpe_rows.specs.Valid.{is_id};
 ghost use Rattle.cpe_rows.specs.declared.edit.Edit.TheVariants as edit;
-ghost use Rattle.cpe_members.specs.Words.{kind_of, mode_of, truth_of};
-ghost use Rattle.cpe_members.specs.Gives.{Gives};
-ghost use Rattle.cpe_members.specs.Forms.{word_at};
-ghost use Rattle.cpe_records.specs.Kinds.{comment_at, id_at, mode_at, description_in, entry_in, remark_in, change_in, deprecation_in, restore_in, statement_in, key_at, check_in, search_in};
+ghost use Rattle.record_members.specs.Words.{kind_of, mode_of, truth_of_word};
+ghost use Rattle.record_members.specs.Gives.{ReadsMember};
+ghost use Rattle.record_members.specs.Forms.{word_at};
+ghost use Rattle.cpe_records.specs.Kinds.{comment_at, statement_id_at, mode_at, description_in, entry_in, remark_in, change_in, deprecation_in, restore_in, statement_in, key_at, check_in, search_in};
 
-use cpe_members::{
-    Format, Member, RecordFault, date_at, flag_or_false, kind_of, mode_of, name_at,
-    provenance_or_empty, successors_at, test_at, text_at, text_of, text_or_empty, truth_of,
-};
 use cpe_rows::{
     CheckKey, Date, Deprecation, Edit, Entry, Kind, Mode, Provenance, Query, Statement, Text,
     Truth, Wfn, is_id,
 };
+use record_members::{
+    Format, Member, RecordFault, date_at, flag_or_false, kind_of, mode_of, name_at,
+    provenance_or_empty, successors_at, test_at, text_at, text_of, text_or_empty, truth_of,
+};
 use serde_json::Value;
 use std::alloc::Global;
 
-/// What a record says of an entry beside its name.
+/// The members of an entry except its name.
 #[derive(Debug, Drop)]
 struct Description {
     title: Text,
     provenance: Provenance,
 }
 
-/// What a record says of a change.
+/// The date and the comment of a change.
 #[derive(Debug, Drop)]
 struct Remark {
     date: Date,
     comment: Text,
 }
 
-/// What a record says of a deprecation beside the name of the entry.
+/// The members of a deprecation except the name of the entry.
 #[derive(Debug, Drop)]
-struct Change {
+struct DeprecationChange {
     deprecation: Deprecation,
     remark: Remark,
 }
 
 fn kind_at(source: &Value) -> Result<Kind, RecordFault>
-    ensures { Gives result (word_at kind_of Member.Kind (view source.now)) }
+    ensures { ReadsMember result (word_at kind_of Member.Kind (view source.now)) }
 {
     match text_of(source, Member::Kind) {
         Some(text) => kind_of(text).ok_or(RecordFault::Member(Member::Kind)),
@@ -52,7 +52,7 @@ fn kind_at(source: &Value) -> Result<Kind, RecordFault>
 }
 
 fn result_at(source: &Value) -> Result<Truth, RecordFault>
-    ensures { Gives result (word_at truth_of Member.Result (view source.now)) }
+    ensures { ReadsMember result (word_at truth_of_word Member.Result (view source.now)) }
 {
     match text_of(source, Member::Result) {
         Some(text) => truth_of(text).ok_or(RecordFault::Member(Member::Result)),
@@ -61,7 +61,7 @@ fn result_at(source: &Value) -> Result<Truth, RecordFault>
 }
 
 fn comment_at(alloc: Global, source: &Value) -> Result<Text, RecordFault>
-    ensures { Gives result (comment_at (view source.now)) }
+    ensures { ReadsMember result (comment_at (view source.now)) }
 {
     text_or_empty(alloc, source, Member::Comment, "comment")
 }
@@ -69,7 +69,7 @@ fn comment_at(alloc: Global, source: &Value) -> Result<Text, RecordFault>
 /// The id of a statement.
 #[inline(never)]
 pub(crate) fn id_at(alloc: Global, source: &Value) -> Result<Text, RecordFault>
-    ensures { Gives result (id_at (view source.now)) }
+    ensures { ReadsMember result (statement_id_at (view source.now)) }
 {
     match text_of(source, Member::Id) {
         Some(text) if is_id(text) => Ok(Text::new(alloc, text)?),
@@ -85,7 +85,7 @@ fn mode_in(source: &Value) -> Option<Mode>
 }
 
 fn mode_at(source: &Value) -> Result<Mode, RecordFault>
-    ensures { Gives result (mode_at (view source.now)) }
+    ensures { ReadsMember result (mode_at (view source.now)) }
 {
     match source.get(Member::Mode.key()) {
         Some(value) => mode_in(value).ok_or(RecordFault::Member(Member::Mode)),
@@ -93,8 +93,9 @@ fn mode_at(source: &Value) -> Result<Mode, RecordFault>
     }
 }
 
-// The fault, and the name is let go. Where it is let go beside other facts, its eleven values hide them from the proof; and where the
-// code for that stands among the rest, the name is moved there value by value.
+// Returns the fault, and drops the name. The drop has a function of its own: in a caller, the name's eleven values
+// would hide other facts from the prover. The function isn't inlined, because the name would then be moved value by
+// value.
 #[inline(never)]
 fn refused<T>(_name: Wfn, fault: RecordFault) -> Result<T, RecordFault>
     ensures { result ≡ Err fault }
@@ -104,7 +105,7 @@ fn refused<T>(_name: Wfn, fault: RecordFault) -> Result<T, RecordFault>
 
 #[tactic(auto, unfolding(crate::specs::Kinds::description_in))]
 fn description_in(alloc: Global, source: &Value) -> Result<Description, RecordFault>
-    ensures { Gives result (description_in (view source.now)) }
+    ensures { ReadsMember result (description_in (view source.now)) }
 {
     let title = text_or_empty(alloc, source, Member::Title, "title")?;
     let provenance = provenance_or_empty(alloc, source.get("provenance"))?;
@@ -115,7 +116,7 @@ fn description_in(alloc: Global, source: &Value) -> Result<Description, RecordFa
 #[tactic(auto, unfolding(crate::specs::Kinds::entry_in))]
 #[inline(never)]
 pub(crate) fn entry_in(alloc: Global, format: Format, source: &Value) -> Result<Entry, RecordFault>
-    ensures { Gives result (entry_in format (view source.now)) }
+    ensures { ReadsMember result (entry_in format (view source.now)) }
 {
     let name = name_at(alloc, format, source)?;
     match description_in(alloc, source) {
@@ -131,7 +132,7 @@ pub(crate) fn entry_in(alloc: Global, format: Format, source: &Value) -> Result<
 
 #[tactic(auto, unfolding(crate::specs::Kinds::remark_in))]
 fn remark_in(alloc: Global, source: &Value) -> Result<Remark, RecordFault>
-    ensures { Gives result (remark_in (view source.now)) }
+    ensures { ReadsMember result (remark_in (view source.now)) }
 {
     let date = date_at(source, Member::Date)?;
     let comment = comment_at(alloc, source)?;
@@ -139,23 +140,27 @@ fn remark_in(alloc: Global, source: &Value) -> Result<Remark, RecordFault>
 }
 
 #[tactic(auto, unfolding(crate::specs::Kinds::change_in))]
-fn change_in(alloc: Global, format: Format, source: &Value) -> Result<Change, RecordFault>
-    ensures { Gives result (change_in format (view source.now)) }
+fn change_in(
+    alloc: Global,
+    format: Format,
+    source: &Value,
+) -> Result<DeprecationChange, RecordFault>
+    ensures { ReadsMember result (change_in format (view source.now)) }
 {
     let kind = kind_at(source)?;
     let successors = successors_at(alloc, format, source)?;
     let remark = remark_in(alloc, source)?;
-    Ok(Change {
+    Ok(DeprecationChange {
         deprecation: Deprecation { kind, successors },
         remark,
     })
 }
 
-fn edit_of(name: Wfn, change: Change, replaces: bool) -> Edit
+fn edit_of(name: Wfn, change: DeprecationChange, replaces: bool) -> Edit
     ensures { result
         ≡ (if replaces then edit.Amend else edit.Deprecate) name change.deprecation change.remark.date change.remark.comment }
 {
-    let Change {
+    let DeprecationChange {
         deprecation,
         remark: Remark { date, comment },
     } = change;
@@ -176,7 +181,7 @@ fn edit_of(name: Wfn, change: Change, replaces: bool) -> Edit
     }
 }
 
-/// A deprecation of an entry, or one that replaces the deprecation that it has.
+/// An edit that deprecates an entry, or one that replaces its deprecation.
 #[tactic(auto, unfolding(crate::specs::Kinds::deprecation_in))]
 #[inline(never)]
 pub(crate) fn deprecation_in(
@@ -185,7 +190,7 @@ pub(crate) fn deprecation_in(
     source: &Value,
     replaces: bool,
 ) -> Result<Edit, RecordFault>
-    ensures { Gives result (deprecation_in (if replaces then edit.Amend else edit.Deprecate) format (view source.now)) }
+    ensures { ReadsMember result (deprecation_in (if replaces then edit.Amend else edit.Deprecate) format (view source.now)) }
 {
     let name = name_at(alloc, format, source)?;
     match change_in(alloc, format, source) {
@@ -194,11 +199,11 @@ pub(crate) fn deprecation_in(
     }
 }
 
-/// That an entry is active again.
+/// An edit that makes an entry active again.
 #[tactic(auto, unfolding(crate::specs::Kinds::restore_in))]
 #[inline(never)]
 pub(crate) fn restore_in(alloc: Global, format: Format, source: &Value) -> Result<Edit, RecordFault>
-    ensures { Gives result (restore_in format (view source.now)) }
+    ensures { ReadsMember result (restore_in format (view source.now)) }
 {
     let name = name_at(alloc, format, source)?;
     match remark_in(alloc, source) {
@@ -219,7 +224,7 @@ pub(crate) fn statement_in(
     format: Format,
     source: &Value,
 ) -> Result<Statement, RecordFault>
-    ensures { Gives result (statement_in format (view source.now)) }
+    ensures { ReadsMember result (statement_in format (view source.now)) }
 {
     let id = id_at(alloc, source)?;
     let title = text_or_empty(alloc, source, Member::Title, "title")?;
@@ -233,11 +238,11 @@ pub(crate) fn statement_in(
     })
 }
 
-/// What names a check.
+/// The key of a check: its system, href and id.
 #[tactic(auto, unfolding(crate::specs::Kinds::key_at))]
 #[inline(never)]
 pub(crate) fn key_at(alloc: Global, source: &Value) -> Result<CheckKey, RecordFault>
-    ensures { Gives result (key_at (view source.now)) }
+    ensures { ReadsMember result (key_at (view source.now)) }
 {
     let system = text_at(alloc, source, Member::System)?;
     let href = text_at(alloc, source, Member::Href)?;
@@ -245,11 +250,11 @@ pub(crate) fn key_at(alloc: Global, source: &Value) -> Result<CheckKey, RecordFa
     Ok(CheckKey { system, href, id })
 }
 
-/// The result of a check.
+/// An edit that keeps the result of a check.
 #[tactic(auto, unfolding(crate::specs::Kinds::check_in))]
 #[inline(never)]
 pub(crate) fn check_in(alloc: Global, source: &Value) -> Result<Edit, RecordFault>
-    ensures { Gives result (check_in (view source.now)) }
+    ensures { ReadsMember result (check_in (view source.now)) }
 {
     let key = key_at(alloc, source)?;
     let result = result_at(source)?;
@@ -260,7 +265,7 @@ pub(crate) fn check_in(alloc: Global, source: &Value) -> Result<Edit, RecordFaul
 #[tactic(auto, unfolding(crate::specs::Kinds::search_in))]
 #[inline(never)]
 pub(crate) fn search_in(alloc: Global, format: Format, source: &Value) -> Result<Query, RecordFault>
-    ensures { Gives result (search_in format (view source.now)) }
+    ensures { ReadsMember result (search_in format (view source.now)) }
 {
     let name = name_at(alloc, format, source)?;
     match flag_or_false(source, Member::Active, "active") {

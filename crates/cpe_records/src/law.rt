@@ -3,7 +3,8 @@ ghost use Rattle.std.specs.Prelude.{IfOk, List, ℕ};
 ghost use Rattle.cpe_records.specs.Read.{IsRead};
 ghost use Rattle.cpe_records.specs.Reading.{record_of};
 
-/// What is read of a line has well-formed names (NIST IR 7695, 5) and dates of the shape of one, and its texts are UTF-8.
+/// Law: a record that is read from a line has well-formed names (NIST IR 7695, 5). Its dates have the form of a date,
+/// and its texts are UTF-8.
 pub fn records_are_formed()
     ensures { (line : List ℕ) → IfOk (record_of line) IsRead }
 {}

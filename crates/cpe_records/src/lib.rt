@@ -24,10 +24,10 @@
 //! | `verdict` | `id` |
 //!
 //! The `id` of a statement has 1 to 256 visible characters of ASCII; `system`, `href` and `id` of a check are any
-//! texts. `cpe_members` describes the form of a statement's `test`, and `written_records` the written form of a record.
+//! texts. `record_members` describes the form of a statement's `test`, and `record_writer` the written form of a record.
 //!
-//! [`json_law`] has laws of the kit's JSON (RFC 8259). The strings of a value that was read from UTF-8 are UTF-8. What
-//! is printed of such strings is UTF-8 too.
+//! [`json_law`] has laws of the kit's JSON (RFC 8259). The strings of a value that was read from UTF-8 are UTF-8. The
+//! printed form of such strings is UTF-8 too.
 #![tactic(auto)]
 
 pub mod json_law;
@@ -36,6 +36,6 @@ pub mod law;
 mod read;
 mod record_kind;
 
-pub use cpe_members::{Format, Member, NameSpot, RecordFault};
 pub use read::{Record, read_record};
 pub use record_kind::RecordKind;
+pub use record_members::{Format, Member, NameSpot, RecordFault};

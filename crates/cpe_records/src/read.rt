@@ -1,35 +1,35 @@
-// The record of a line.
+// The record that a line is.
 ghost use Rattle.std.specs.Prelude.{◌≡◌, true, IfOk};
 ghost use Rattle.serde_json.specs.View.{view};
-ghost use Rattle.cpe_members.specs.declared.format.Format.{Format};
+ghost use Rattle.record_members.specs.declared.format.Format.{Format};
 ghost use Rattle.cpe_records.specs.RecordKinds.{record_kind_of};
 ghost use Rattle.cpe_records.specs.declared.record_kind.RecordKind.TheVariants as record_kind;
-ghost use Rattle.cpe_members.specs.Gives.{Gives, GivesBy};
-ghost use Rattle.cpe_members.specs.Forms.{word_at};
-ghost use Rattle.cpe_members.specs.Line.{value_of};
+ghost use Rattle.record_members.specs.Gives.{ReadsMember, ReadsMemberBy};
+ghost use Rattle.record_members.specs.Forms.{word_at};
+ghost use Rattle.record_members.specs.Line.{json_value_of};
 ghost use Rattle.cpe_records.specs.Taken.{is_valid_record};
-ghost use Rattle.cpe_records.specs.Reading.{record_by, json_of, record_of};
+ghost use Rattle.cpe_records.specs.Reading.{record_by, record_json_of, record_of};
 
 use crate::kinds::{
     check_in, deprecation_in, entry_in, id_at, key_at, restore_in, search_in, statement_in,
 };
 use crate::record_kind::{RecordKind, record_kind_of};
-use cpe_members::{Format, Member, RecordFault, format_at, name_at, text_of, value_of};
 use cpe_rows::{Edit, Query};
+use record_members::{Format, Member, RecordFault, format_at, name_at, text_of, value_of};
 use serde_json::Value;
 use std::alloc::Global;
 
-/// What a line asks for.
+/// A record: an edit or a question.
 #[derive(Debug, Drop)]
 pub enum Record {
     /// A change of the rows.
     Edit(Edit),
-    /// A question about them.
+    /// A question about the rows.
     Query(Query),
 }
 
 fn record_kind_at(source: &Value) -> Result<RecordKind, RecordFault>
-    ensures { Gives result (word_at record_kind_of Member.Do (view source.now)) }
+    ensures { ReadsMember result (word_at record_kind_of Member.Do (view source.now)) }
 {
     match text_of(source, Member::Do) {
         Some(text) => record_kind_of(text).ok_or(RecordFault::Member(Member::Do)),
@@ -37,116 +37,117 @@ fn record_kind_at(source: &Value) -> Result<RecordKind, RecordFault>
     }
 }
 
-// The record of each kind is made in a frame of its own, as its members are: one frame for all would be cleared for each record.
+// A record of each kind is made by a function of its own. One function for all kinds would have one large stack frame,
+// which would be cleared for each record.
 
 #[inline(never)]
 fn entry_record(alloc: Global, format: Format, source: &Value) -> Result<Record, RecordFault>
-    ensures { Gives result (record_by record_kind.Entry format (view source.now)) }
+    ensures { ReadsMember result (record_by record_kind.Entry format (view source.now)) }
 {
     Ok(Record::Edit(Edit::Entry(entry_in(alloc, format, source)?)))
 }
 
 #[inline(never)]
 fn deprecate_record(alloc: Global, format: Format, source: &Value) -> Result<Record, RecordFault>
-    ensures { Gives result (record_by record_kind.Deprecate format (view source.now)) }
+    ensures { ReadsMember result (record_by record_kind.Deprecate format (view source.now)) }
 {
     Ok(Record::Edit(deprecation_in(alloc, format, source, false)?))
 }
 
 #[inline(never)]
 fn amend_record(alloc: Global, format: Format, source: &Value) -> Result<Record, RecordFault>
-    ensures { Gives result (record_by record_kind.Amend format (view source.now)) }
+    ensures { ReadsMember result (record_by record_kind.Amend format (view source.now)) }
 {
     Ok(Record::Edit(deprecation_in(alloc, format, source, true)?))
 }
 
 #[inline(never)]
 fn restore_record(alloc: Global, format: Format, source: &Value) -> Result<Record, RecordFault>
-    ensures { Gives result (record_by record_kind.Restore format (view source.now)) }
+    ensures { ReadsMember result (record_by record_kind.Restore format (view source.now)) }
 {
     Ok(Record::Edit(restore_in(alloc, format, source)?))
 }
 
 #[inline(never)]
 fn item_record(alloc: Global, format: Format, source: &Value) -> Result<Record, RecordFault>
-    ensures { Gives result (record_by record_kind.Item format (view source.now)) }
+    ensures { ReadsMember result (record_by record_kind.Item format (view source.now)) }
 {
     Ok(Record::Edit(Edit::Item(name_at(alloc, format, source)?)))
 }
 
 #[inline(never)]
 fn drop_item_record(alloc: Global, format: Format, source: &Value) -> Result<Record, RecordFault>
-    ensures { Gives result (record_by record_kind.DropItem format (view source.now)) }
+    ensures { ReadsMember result (record_by record_kind.DropItem format (view source.now)) }
 {
     Ok(Record::Edit(Edit::DropItem(name_at(alloc, format, source)?)))
 }
 
 #[inline(never)]
 fn statement_record(alloc: Global, format: Format, source: &Value) -> Result<Record, RecordFault>
-    ensures { Gives result (record_by record_kind.Statement format (view source.now)) }
+    ensures { ReadsMember result (record_by record_kind.Statement format (view source.now)) }
 {
     Ok(Record::Edit(Edit::PutStatement(statement_in(alloc, format, source)?)))
 }
 
 #[inline(never)]
 fn drop_statement_record(alloc: Global, source: &Value) -> Result<Record, RecordFault>
-    ensures { (f : Format) → Gives result (record_by record_kind.DropStatement f (view source.now)) }
+    ensures { (f : Format) → ReadsMember result (record_by record_kind.DropStatement f (view source.now)) }
 {
     Ok(Record::Edit(Edit::DropStatement(id_at(alloc, source)?)))
 }
 
 #[inline(never)]
 fn check_record(alloc: Global, source: &Value) -> Result<Record, RecordFault>
-    ensures { (f : Format) → Gives result (record_by record_kind.Check f (view source.now)) }
+    ensures { (f : Format) → ReadsMember result (record_by record_kind.Check f (view source.now)) }
 {
     Ok(Record::Edit(check_in(alloc, source)?))
 }
 
 #[inline(never)]
 fn drop_check_record(alloc: Global, source: &Value) -> Result<Record, RecordFault>
-    ensures { (f : Format) → Gives result (record_by record_kind.DropCheck f (view source.now)) }
+    ensures { (f : Format) → ReadsMember result (record_by record_kind.DropCheck f (view source.now)) }
 {
     Ok(Record::Edit(Edit::DropCheck(key_at(alloc, source)?)))
 }
 
 #[inline(never)]
 fn lookup_record(alloc: Global, format: Format, source: &Value) -> Result<Record, RecordFault>
-    ensures { Gives result (record_by record_kind.Lookup format (view source.now)) }
+    ensures { ReadsMember result (record_by record_kind.Lookup format (view source.now)) }
 {
     Ok(Record::Query(Query::Lookup(name_at(alloc, format, source)?)))
 }
 
 #[inline(never)]
 fn search_record(alloc: Global, format: Format, source: &Value) -> Result<Record, RecordFault>
-    ensures { Gives result (record_by record_kind.Search format (view source.now)) }
+    ensures { ReadsMember result (record_by record_kind.Search format (view source.now)) }
 {
     Ok(Record::Query(search_in(alloc, format, source)?))
 }
 
 #[inline(never)]
 fn items_record(alloc: Global, format: Format, source: &Value) -> Result<Record, RecordFault>
-    ensures { Gives result (record_by record_kind.Items format (view source.now)) }
+    ensures { ReadsMember result (record_by record_kind.Items format (view source.now)) }
 {
     Ok(Record::Query(Query::Items(name_at(alloc, format, source)?)))
 }
 
 #[inline(never)]
 fn chain_record(alloc: Global, format: Format, source: &Value) -> Result<Record, RecordFault>
-    ensures { Gives result (record_by record_kind.Chain format (view source.now)) }
+    ensures { ReadsMember result (record_by record_kind.Chain format (view source.now)) }
 {
     Ok(Record::Query(Query::Chain(name_at(alloc, format, source)?)))
 }
 
 #[inline(never)]
 fn show_record(alloc: Global, format: Format, source: &Value) -> Result<Record, RecordFault>
-    ensures { Gives result (record_by record_kind.Show format (view source.now)) }
+    ensures { ReadsMember result (record_by record_kind.Show format (view source.now)) }
 {
     Ok(Record::Query(Query::Show(name_at(alloc, format, source)?)))
 }
 
 #[inline(never)]
 fn verdict_record(alloc: Global, source: &Value) -> Result<Record, RecordFault>
-    ensures { (f : Format) → Gives result (record_by record_kind.Verdict f (view source.now)) }
+    ensures { (f : Format) → ReadsMember result (record_by record_kind.Verdict f (view source.now)) }
 {
     Ok(Record::Query(Query::Verdict(id_at(alloc, source)?)))
 }
@@ -157,7 +158,7 @@ fn record_by(
     format: Format,
     source: &Value,
 ) -> Result<Record, RecordFault>
-    ensures { Gives result (record_by kind format (view source.now)) }
+    ensures { ReadsMember result (record_by kind format (view source.now)) }
 {
     match kind {
         RecordKind::Entry => entry_record(alloc, format, source),
@@ -180,15 +181,15 @@ fn record_by(
 }
 
 fn json_of(alloc: Global, line: &[u8]) -> Result<Value, RecordFault>
-    ensures { GivesBy view result (json_of (value_of line.now)) }
+    ensures { ReadsMemberBy view result (record_json_of (json_value_of line.now)) }
 {
     value_of(alloc, line)?.ok_or(RecordFault::Json)
 }
 
-// The record of a line, before it is known that an engine takes it.
+// The record of a line, without the proof that an engine accepts it.
 #[tactic(auto, unfolding(crate::specs::Reading::record_of))]
 fn record_in(alloc: Global, line: &[u8]) -> Result<Record, RecordFault>
-    ensures { Gives result (record_of line.now) }
+    ensures { ReadsMember result (record_of line.now) }
 {
     let value = json_of(alloc, line)?;
     let kind = record_kind_at(&value)?;
@@ -196,17 +197,21 @@ fn record_in(alloc: Global, line: &[u8]) -> Result<Record, RecordFault>
     record_by(alloc, kind, format, &value)
 }
 
-/// The record of a line: a JSON value, of a kind that its member `do` says, whose members have their forms. Its names are in lower case.
+/// The record of a line. The line is a JSON value whose member `do` is the record's kind, and the members of that kind
+/// have their forms. The record's names are in lower case.
 ///
 /// # Errors
 ///
-/// The first cause why the line is no record, exactly where it is none: `Json` where it is no JSON value, or nests deeper than 127
-/// arrays and objects, or has a number out of range; `Member` of `do` where this is none of the kinds' words, else `Member` of `v` where
-/// this is there and is not the text `2`; and then the fault of the first member of its kind that fails. Else `Memory`, where memory
-/// runs out.
+/// The first cause why the line is no record, exactly if it is none. The causes in their order:
+/// - `Json`, if the line is no JSON value, nests more than 127 arrays and objects, or has a number out of range
+/// - `Member` of `do`, if `do` is no kind's word
+/// - `Member` of `v`, if `v` is there and is not the text `2`
+/// - the fault of the first member of the kind that fails
+///
+/// Otherwise `Memory`, if memory runs out.
 pub fn read_record(alloc: Global, line: &[u8]) -> Result<Record, RecordFault>
-    ensures read { Gives result (record_of line.now) }
-    // An engine takes it.
+    ensures read { ReadsMember result (record_of line.now) }
+    // An engine accepts the record.
     ensures valid { IfOk result (λ r. is_valid_record r ≡ true) }
 {
     record_in(alloc, line)

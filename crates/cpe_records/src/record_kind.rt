@@ -1,46 +1,46 @@
-// What a record does or asks for.
+// The kinds of records.
 ghost use Rattle.std.specs.Prelude.{◌≡◌};
 ghost use Rattle.cpe_records.specs.RecordKinds.{record_word, record_kind_of};
 
-/// The kind of a record, as its member `do` says it.
+/// The kind of a record: what it does or asks for. The member `do` has its word.
 #[derive(Clone, Copy)]
 pub enum RecordKind {
     /// Adds an entry.
     Entry,
-    /// Gives an active entry a deprecation.
+    /// Deprecates an active entry.
     Deprecate,
     /// Replaces the deprecation of an entry.
     Amend,
-    /// Takes the deprecation of an entry away.
+    /// Removes the deprecation of an entry.
     Restore,
     /// Adds an item.
     Item,
-    /// Drops an item.
+    /// Removes an item.
     DropItem,
     /// Adds a statement.
     Statement,
-    /// Drops a statement.
+    /// Removes a statement.
     DropStatement,
     /// Keeps the result of a check.
     Check,
-    /// Drops the result of a check.
+    /// Removes the result of a check.
     DropCheck,
-    /// Asks whether an entry has a name.
+    /// Asks whether a name has an entry.
     Lookup,
     /// Asks for the entries that a name covers.
     Search,
     /// Asks for the items that a name covers.
     Items,
-    /// Asks for the entries to which successors lead from an entry.
+    /// Asks for the chain of an entry: its successors, their successors, and so on.
     Chain,
-    /// Asks for a whole entry.
+    /// Asks for an entry with all its parts.
     Show,
     /// Asks for the verdict of a statement.
     Verdict,
 }
 
 impl RecordKind {
-    /// How it is written.
+    /// The word of the kind in a record.
     pub fn word(self) -> &'static str
         ensures { result.now ≡ record_word self }
     {
@@ -65,7 +65,7 @@ impl RecordKind {
     }
 }
 
-/// The kind of this word. There is none exactly where no kind has it. It takes no memory.
+/// The kind that has this word, if there is one. Allocates: no.
 pub(crate) fn record_kind_of(text: &str) -> Option<RecordKind>
     ensures { result ≡ record_kind_of text.now }
 {

@@ -1,4 +1,4 @@
--- Laws of what a name may cover.
+-- Lemmas: laws of names that a name may cover.
 use Rattle.std.proofs.Common.{◌≡◌, ◌⊎◌, Bool, true, false, ◌&&◌, ◌||◌, List, [], ◌∷◌, refl, sym, ap, ◌∙◌, inl, inr}
 use Rattle.std.specs.List.{list_all, list_any}
 use Rattle.std.proofs.lemmas.Bool.{false≢true, and_parts, and_from, or_from, or_left, or_right}
@@ -16,7 +16,7 @@ use Rattle.cpe_relation.specs.Table.{relation}
 use Rattle.cpe_relation.specs.NameRelation.{is_above, relations, covers}
 use Rattle.cpe_relation.specs.Attributes.{may_be_above_at}
 use Rattle.cpe_relation.specs.Near.{near}
-use Rattle.cpe_relation.specs.Maybe.{is_undefined, may_be_above, maybe, meets}
+use Rattle.cpe_relation.specs.Maybe.{is_undefined, may_be_above, maybe, values_meet}
 use Rattle.cpe_relation.proofs.NearLaws.{above_near}
 use Rattle.cpe_relation.proofs.ValueLaws.{undefined_is, above_through}
 use Rattle.cpe_relation.proofs.NameLaws.{covers_near, relations_lower, between, through}
@@ -30,7 +30,7 @@ undefined_or_above Subset = refl
 undefined_or_above Superset = refl
 undefined_or_above Undefined = refl
 
--- the target has a special, or the source is above it
+-- The target has a special, or the source is SUPERSET or EQUAL to the target.
 pub may_be_above_is : (a b : Value) → may_be_above (relation a b) ≡ (has_specials b || is_above (relation a b))
 may_be_above_is a b = undefined_or_above (relation a b) ∙ ap (λ (x : Bool). x || is_above (relation a b)) (undefined_is a b)
 
@@ -47,7 +47,7 @@ special_may a b h = may_be_above_is a b ∙ or_left (has_specials b) (is_above (
 above_may : (a b : Value) → is_above (relation a b) ≡ true → may_be_above (relation a b) ≡ true
 above_may a b h = may_be_above_is a b ∙ or_right (has_specials b) (is_above (relation a b)) h
 
-may_meet : (a b : Value) → may_be_above (relation a b) ≡ true → meets a b ≡ true
+may_meet : (a b : Value) → may_be_above (relation a b) ≡ true → values_meet a b ≡ true
 may_meet a b h =
     elim (may_be_above_parts a b h) [
       | inl e ↦ or_left (has_specials b) (near a b) e
@@ -129,11 +129,11 @@ product_may a b h =
     let q = and_parts (may_be_above (relation a.vendor b.vendor)) (list_all may_be_above (between a b (Product ∷ from_version))) p.1 in
     (and_parts (may_be_above (relation a.product b.product)) (list_all may_be_above (between a b from_version)) q.1).0
 
-pub each_meets : (a b : Values) → (covers a b ≡ true) ⊎ (maybe a b ≡ true) → meets a.product b.product ≡ true
+pub each_meets : (a b : Values) → (covers a b ≡ true) ⊎ (maybe a b ≡ true) → values_meet a.product b.product ≡ true
 each_meets a b (inl h) = or_right (has_specials b.product) (near a.product b.product) (covers_near a b h)
 each_meets a b (inr h) = may_meet a.product b.product (product_may a b (maybe_parts a b h).0)
 
--- ---- letter case, and what goes through
+-- ---- letter case, and transitivity
 
 pub maybe_lower : (a b : Values) → maybe (lower_name a) (lower_name b) ≡ maybe a b
 unfolding maybe

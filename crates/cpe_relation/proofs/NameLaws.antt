@@ -1,4 +1,4 @@
--- Laws of the relation of two names.
+-- Lemmas: laws of the relation of two names.
 use Rattle.std.proofs.Common.{◌≡◌, ◌⊎◌, Bool, true, false, not, ◌&&◌, ◌||◌, cond, List, [], ◌∷◌, map, refl, sym, ap, ◌∙◌, inl, inr}
 use Rattle.std.specs.List.{list_all, list_any}
 use Rattle.std.proofs.lemmas.Bool.{false≢true, and_parts, and_from, not-true, or_from}
@@ -58,7 +58,7 @@ all_equal_above : (rs : List Relation) → list_all is_equal rs ≡ true → lis
 all_equal_above [] h = refl
 all_equal_above (r ∷ rs) h = let p = and_parts (is_equal r) (list_all is_equal rs) h in and_from (is_above r) (list_all is_above rs) (equal_above r p.0) (all_equal_above rs p.1)
 
--- ---- covers and the relation
+-- ---- covering and the relation
 
 to_above : (d e w a : Bool) → (a ≡ true → d ≡ false) → (w ≡ true → a ≡ true → e ≡ true) → a ≡ true
     → (cond d Disjoint (cond e Equal (cond w Subset (cond a Superset Undefined))) ≡ Equal) ⊎ (cond d Disjoint (cond e Equal (cond w Subset (cond a Superset Undefined))) ≡ Superset)
@@ -92,7 +92,8 @@ relation_covers a b h = from_above (list_any is_disjoint (relations a b)) (list_
 abbrev pub between : Values → Values → List Attribute → List Relation
 between a b ws = map (λ w. relation (value_of a w) (value_of b w)) ws
 
--- what passes a test by way of a value that it is above does so in each attribute
+-- Let each attribute of a be SUPERSET or EQUAL to that of b. If a test is true of the relation of b to c in each
+-- attribute, it is true of the relation of a to c. This needs the same for single values (`at_one`).
 module _ (test : Relation → Bool) (at_one : (u v w : Value) → is_above (relation u v) ≡ true → test (relation v w) ≡ true → test (relation u w) ≡ true) where
   pub through : (a b c : Values) (ws : List Attribute) → list_all is_above (between a b ws) ≡ true → list_all test (between b c ws) ≡ true → list_all test (between a c ws) ≡ true
   through a b c [] h k = refl
@@ -165,7 +166,7 @@ between_back a b (w ∷ ws) h k =
     let is : relation (value_of b w) (value_of a w) ≡ converse (relation (value_of a w) (value_of b w)) = relation_back (value_of a w) (value_of b w) (not-true (has_specials (value_of a w)) p.0) (not-true (has_specials (value_of b w)) q.0) in
     ap (λ (x : Relation). x ∷ between b a ws) is ∙ ap (λ (r : List Relation). converse (relation (value_of a w) (value_of b w)) ∷ r) (between_back a b ws p.1 q.1)
 
--- what the tests say of the converse
+-- The tests of a relation and those of its converse.
 flip : (r : Relation) → (is_disjoint (converse r) ≡ is_disjoint r) × ((is_equal (converse r) ≡ is_equal r) × ((is_within (converse r) ≡ is_above r) × (is_above (converse r) ≡ is_within r)))
 flip Disjoint = (refl, (refl, (refl, refl)))
 flip Equal = (refl, (refl, (refl, refl)))
@@ -206,7 +207,7 @@ pub name_back : (a b : Values) → is_plain_name a ≡ true → is_plain_name b 
 unfolding name_relation
 name_back a b h k = ap of_all (between_back a b attributes h k) ∙ of_all_flip (relations a b)
 
--- each relation stands in its place
+-- Each relation is in its own field.
 pub each_is : (a b : Values) (w : Attribute) → relation_of (each_relation a b) w ≡ relation (value_of a w) (value_of b w)
 each_is a b Part = refl
 each_is a b Vendor = refl

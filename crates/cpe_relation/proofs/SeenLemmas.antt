@@ -1,4 +1,4 @@
--- What one pass has seen is what of_all asks of all relations.
+-- Lemmas: the pass over the attributes finds the same as `of_all`, which sees all relations at once.
 use Rattle.std.proofs.Common.{◌≡◌, Bool, true, false, ◌&&◌, ◌||◌, List, [], ◌∷◌, map, fold, refl, ◌∙◌}
 use Rattle.std.specs.List.{list_all, list_any}
 use Rattle.cpe_name.specs.declared.attribute.Attribute.{Attribute}
@@ -43,6 +43,6 @@ module _ (f : Attribute → Relation) where
   seen_above [] s = and_all s.above
   seen_above (w ∷ ws) s = seen_above ws (seen_with s (f w)) ∙ and_again s.above (is_above (f w)) (list_all is_above (map f ws))
 
-  -- the relation from what was seen is that of all
+  -- The relation of the pass is the relation of all attributes.
   pub seen_relation : (ws : List Attribute) → relation_seen (seen_all seen_nothing ws) ≡ of_all (map f ws)
   seen_relation ws = rw (seen_disjoint ws seen_nothing, seen_equal ws seen_nothing, seen_within ws seen_nothing, seen_above ws seen_nothing) refl

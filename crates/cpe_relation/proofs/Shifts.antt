@@ -1,4 +1,4 @@
--- What a shift promises, by either kind.
+-- The properties of a shift, for both kinds of shift.
 use Rattle.std.proofs.Common.{◌≡◌, ℕ, ◌<◌, ◌≤◌, Bool, true, false}
 use Rattle.memchr.specs.Critical.{IsPeriod, NoPeriodBelow}
 use Rattle.memchr.specs.TwoWay.{IsShift}

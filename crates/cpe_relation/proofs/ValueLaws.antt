@@ -1,4 +1,4 @@
--- Laws of the relation of two values.
+-- Lemmas: laws of the relation of two values.
 use Rattle.std.proofs.Common.{◌≡◌, ℕ, Bool, true, false, not, ◌||◌, cond, nat_eq, List, [], ◌∷◌, ◌++◌, refl, sym, ap, ◌∙◌, arith}
 use Rattle.std.specs.Cmp.{both_ways as agree}
 use Rattle.std.proofs.lemmas.List.{append-nil}
@@ -15,14 +15,14 @@ use Rattle.cpe_values.specs.Lower.{lower_parts, lower_value, has_specials}
 use Rattle.cpe_relation.specs.declared.relation.Relation.{Relation}
 use Rattle.cpe_relation.specs.declared.relation.Relation.TheVariants.{Disjoint, Equal, Subset, Superset, Undefined}
 use Rattle.cpe_relation.specs.Matching.{lower, Allows, Matches}
-use Rattle.cpe_relation.specs.MatchTests.{matches, same_lower}
+use Rattle.cpe_relation.specs.MatchTests.{matches_text, same_lower}
 use Rattle.cpe_relation.specs.Table.{to_plain, relation}
 use Rattle.cpe_relation.specs.NameRelation.{is_above}
 use Rattle.cpe_relation.specs.Maybe.{is_undefined}
 use Rattle.cpe_relation.specs.Laws.{converse}
 use Rattle.cpe_relation.proofs.Splits.{matches-Decides, same_lower-Decides}
 
--- ---- what stands above a text
+-- ---- values above a text
 
 pub above_unless : (x : Bool) (r : Relation) → is_above (cond x Undefined r) ≡ true → (x ≡ false) × (is_above r ≡ true)
 above_unless true r h = absurd cc
@@ -38,18 +38,18 @@ above_cond true false z = refl
 above_cond false y true = refl
 above_cond false y false = refl
 
--- a text is above a plain text where it matches it, or is plain and the same in lower case
+-- A text is above a plain text if it matches this text, or if it is plain and the two are equal in lower case.
 abbrev pub above_text : Parts → List ℕ → Bool
-above_text s t = cond (has_special s) (matches s t) (same_lower s.body t)
+above_text s t = cond (has_special s) (matches_text s t) (same_lower s.body t)
 
 pub above_is : (s : Parts) (t : List ℕ) → is_above (to_plain s t) ≡ above_text s t
-above_is s t = above_cond (has_special s) (matches s t) (same_lower s.body t)
+above_is s t = above_cond (has_special s) (matches_text s t) (same_lower s.body t)
 
--- another text that is the same in lower case
+-- A pattern matches a text exactly if it matches another text that is equal in lower case.
 matches_other : (p : Parts) (t u : List ℕ) → lower t ≡ lower u → Matches p t → Matches p u
 matches_other p t u e m = record { before = m.before; behind = m.behind; split = sym e ∙ m.split; lead = m.lead; trail = m.trail }
 
-above_other_by : (x : Bool) (s : Parts) (t u : List ℕ) → lower t ≡ lower u → cond x (matches s t) (same_lower s.body t) ≡ true → cond x (matches s u) (same_lower s.body u) ≡ true
+above_other_by : (x : Bool) (s : Parts) (t u : List ℕ) → lower t ≡ lower u → cond x (matches_text s t) (same_lower s.body t) ≡ true → cond x (matches_text s u) (same_lower s.body u) ≡ true
 above_other_by true s t u e h = (matches-Decides s u).1 (matches_other s t u e ((matches-Decides s t).0 h))
 above_other_by false s t u e h = (same_lower-Decides s.body u).1 ((same_lower-Decides s.body t).0 h ∙ e)
 
@@ -59,7 +59,7 @@ above_other s t u e h = above_other_by (has_special s) s t u e h
 plain_text : (s : Parts) (t : List ℕ) → has_special s ≡ false → above_text s t ≡ true → lower s.body ≡ lower t
 plain_text s t e h = (same_lower-Decides s.body t).0 (rw e at h)
 
--- ---- covers goes through
+-- ---- covering is transitive
 
 pub above_through : (a b c : Value) → is_above (relation a b) ≡ true → is_above (relation b c) ≡ true → is_above (relation a c) ≡ true
 above_through value.Any value.Any c h k = k
@@ -82,7 +82,7 @@ above_through (value.Text s) (value.Text t) (value.Text u) h k =
     let same : lower t.body ≡ lower u.body = plain_text t u.body p.0 (sym (above_is t u.body) ∙ q.1) in
     unless_above (has_special u) (to_plain s u.body) q.0 (above_is s u.body ∙ above_other s t.body u.body same (sym (above_is s t.body) ∙ p.1))
 
--- ---- two that cover each other
+-- ---- values that cover each other
 
 no_edges : (lead trail : Edge) (b c : List ℕ) → (not (is_nothing lead) || not (is_nothing trail)) ≡ false → b ≡ c → parts lead b trail ≡ parts edge.None c edge.None
 no_edges edge.None edge.None b c h e = ap (λ (x : List ℕ). parts edge.None x edge.None) e
@@ -112,8 +112,8 @@ lower_again : (t : List ℕ) → lower (lower t) ≡ lower t
 lower_again [] = refl
 lower_again (c ∷ t) = ap (λ (x : ℕ). x ∷ lower (lower t)) (lowercase-lowercase c) ∙ ap (λ (r : List ℕ). to_ascii_lowercase c ∷ r) (lower_again t)
 
-matches_lower : (p : Parts) (t : List ℕ) → matches (lower_parts p) (lower t) ≡ matches p t
-matches_lower p t = agree (matches (lower_parts p) (lower t)) (matches p t)
+matches_lower : (p : Parts) (t : List ℕ) → matches_text (lower_parts p) (lower t) ≡ matches_text p t
+matches_lower p t = agree (matches_text (lower_parts p) (lower t)) (matches_text p t)
     (λ h.
     let m = (matches-Decides (lower_parts p) (lower t)).0 h in
     (matches-Decides p t).1 (record { before = m.before; behind = m.behind; split = sym (lower_again t) ∙ m.split ∙ ap (λ (b : List ℕ). m.before ++ b ++ m.behind) (lower_again p.body); lead = m.lead; trail = m.trail }))
@@ -129,10 +129,10 @@ relation_lower value.Any value.Any = refl
 relation_lower value.Na value.Any = refl
 relation_lower (value.Text s) (value.Text t) =
     ap (λ (x : Bool). cond (has_special t) Undefined (cond (has_special s) (cond x Superset Disjoint) (cond (same_lower (lower s.body) (lower t.body)) Equal Disjoint))) (matches_lower s t.body)
-    ∙ ap (λ (x : Bool). cond (has_special t) Undefined (cond (has_special s) (cond (matches s t.body) Superset Disjoint) (cond x Equal Disjoint))) (same_lower_lower s.body t.body)
+    ∙ ap (λ (x : Bool). cond (has_special t) Undefined (cond (has_special s) (cond (matches_text s t.body) Superset Disjoint) (cond x Equal Disjoint))) (same_lower_lower s.body t.body)
 relation_lower _ _ = refl
 
--- ---- the other way round
+-- ---- the relation of exchanged values
 
 same_lower_back : (a b : List ℕ) → same_lower b a ≡ same_lower a b
 same_lower_back a b = agree (same_lower b a) (same_lower a b)
@@ -170,10 +170,10 @@ nothing_allowed edge.None = refl
 nothing_allowed edge.Star = tt
 nothing_allowed (edge.Marks n) = omega arith
 
-pub own_body : (p : Parts) → matches p p.body ≡ true
+pub own_body : (p : Parts) → matches_text p p.body ≡ true
 own_body p = (matches-Decides p p.body).1 (record { before = []; behind = []; split = sym (append-nil (lower p.body)); lead = nothing_allowed p.lead; trail = nothing_allowed p.trail })
 
--- ---- what is not compared
+-- ---- UNDEFINED relations
 
 undefined_alone : (r : Relation) → is_undefined r ≡ true → r ≡ Undefined
 undefined_alone Disjoint h = absurd cc
@@ -201,7 +201,7 @@ undefined_is value.Na value.Na = refl
 undefined_is value.Na (value.Text t) = undefined_unless (has_special t) Disjoint refl
 undefined_is (value.Text s) value.Any = refl
 undefined_is (value.Text s) value.Na = refl
-undefined_is (value.Text s) (value.Text t) = undefined_unless (has_special t) (to_plain s t.body) (plain_defined (has_special s) (matches s t.body) (same_lower s.body t.body))
+undefined_is (value.Text s) (value.Text t) = undefined_unless (has_special t) (to_plain s t.body) (plain_defined (has_special s) (matches_text s t.body) (same_lower s.body t.body))
 
 pub undefined_special : (a b : Value) → relation a b ≡ Undefined → has_specials b ≡ true
 undefined_special a b e = sym (undefined_is a b) ∙ ap is_undefined e

@@ -11,14 +11,14 @@ use Rattle.cpe_relation.specs.Near.{near}
 abbrev pub is_undefined : Relation → Bool
 is_undefined r = in_row false false false false true r
 
--- SUPERSET, EQUAL or UNDEFINED
+-- The relation is SUPERSET, EQUAL or UNDEFINED.
 abbrev pub may_be_above : Relation → Bool
 may_be_above r = in_row false true false true true r
 
--- each attribute is SUPERSET, EQUAL or UNDEFINED, and one at least is UNDEFINED
+-- Each attribute is SUPERSET, EQUAL or UNDEFINED, and at least one is UNDEFINED.
 unfoldable pub maybe : Values → Values → Bool
 maybe a b = list_all may_be_above (relations a b) && list_any is_undefined (relations a b)
 
--- a source product and a target product: the target has a special, or the source is near to it
-abbrev pub meets : Value → Value → Bool
-meets p t = has_specials t || near p t
+-- A source product meets a target product: the target has a special, or the source is near the target.
+abbrev pub values_meet : Value → Value → Bool
+values_meet p t = has_specials t || near p t

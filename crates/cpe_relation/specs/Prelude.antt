@@ -1,4 +1,4 @@
--- What most contracts over names and their relations name, in one place.
+-- The words that most contracts about names and their relations use, gathered in one file.
 pub use Rattle.cpe_name.specs.Eleven.{Values}
 pub use Rattle.cpe_name.specs.Equal.{same_name}
 pub use Rattle.cpe_name.specs.Lower.{IsLower}

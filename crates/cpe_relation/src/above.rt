@@ -1,4 +1,4 @@
-// Whether the relation of two values is SUPERSET or EQUAL, in fewer steps than it takes to tell which relation it is.
+// Whether a value is EQUAL or SUPERSET to another. This needs fewer comparisons than the relation itself.
 ghost use Rattle.std.specs.Prelude.{◌≡◌};
 ghost use Rattle.cpe_relation.specs.NameRelation.{is_above};
 ghost use Rattle.cpe_relation.specs.Table.{relation, to_plain};

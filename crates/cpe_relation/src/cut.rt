@@ -1,8 +1,8 @@
-// Where Two-Way cuts a body in two, and how far it may move.
+// The place at which the Two-Way algorithm cuts a body in two parts, and the distance that the search may move.
 ghost use Rattle.std.specs.Prelude.{◌≡◌, ◌↔◌, ℕ, ◌+◌, ◌<◌, ◌≤◌, length, IsTrue};
 ghost use Rattle.memchr.specs.Critical.{IsSuffixAt, IsCutPlace};
 ghost use Rattle.memchr.specs.TwoWay.{IsCut};
-ghost use Rattle.cpe_relation.specs.Folded.{folded, Comes, shift_of};
+ghost use Rattle.cpe_relation.specs.Folded.{table_index, IsBefore, shift_of};
 
 use crate::folded::byte_at;
 
@@ -13,11 +13,12 @@ enum Step {
     Push,
 }
 
-// Which of two bytes leads to the greater suffix, by the usual order or the opposite one.
+// Whether the candidate suffix replaces the greatest suffix so far, by one byte of each: `Accept` if it does, `Skip` if
+// it doesn't, and `Push` if the bytes are equal. `usual` is false for the opposite order.
 #[inline(always)]
 fn compared(usual: bool, current: u8, other: u8) -> Step
-    ensures accept { (result ≡ Step.Accept) → Comes usual current other }
-    ensures skip { (result ≡ Step.Skip) → Comes usual other current }
+    ensures accept { (result ≡ Step.Accept) → IsBefore usual current other }
+    ensures skip { (result ≡ Step.Skip) → IsBefore usual other current }
     ensures push { (result ≡ Step.Push) → current ≡ other }
 {
     if current == other {
@@ -35,17 +36,17 @@ fn compared(usual: bool, current: u8, other: u8) -> Step
     Step::Skip
 }
 
-// Where the greatest suffix begins, and its period.
+// The place in the body where its greatest suffix begins, and this suffix's period.
 #[derive(Clone, Copy, Debug)]
 struct Suffix {
     start: usize,
     period: usize,
 }
 
-// The greatest suffix by an order.
+// The greatest suffix of the body, in the usual order of bytes or in the opposite one.
 fn greatest_suffix(body: &[u8], usual: bool) -> Suffix
     requires { 0 < length body.now }
-    ensures { IsSuffixAt (Comes usual) (folded body.now) (length body.now) result.start result.period }
+    ensures { IsSuffixAt (IsBefore usual) (table_index body.now) (length body.now) result.start result.period }
 {
     let m = body.len();
     let (mut start, mut period) = (0, 1);
@@ -78,10 +79,10 @@ fn greatest_suffix(body: &[u8], usual: bool) -> Suffix
     Suffix { start, period }
 }
 
-// Whether the bytes before the cut come again a period on.
+// Whether the bytes before the cut are repeated one period later.
 fn repeats_before(body: &[u8], critical: usize, period: usize) -> bool
     requires { critical + period ≤ length body.now }
-    ensures { IsTrue result ↔ ((k : ℕ) → k < critical → folded body.now k ≡ folded body.now (k + period)) }
+    ensures { IsTrue result ↔ ((k : ℕ) → k < critical → table_index body.now k ≡ table_index body.now (k + period)) }
 {
     for k in 0..critical {
         if byte_at(body, k) != byte_at(body, k + period) {
@@ -91,8 +92,9 @@ fn repeats_before(body: &[u8], critical: usize, period: usize) -> bool
     true
 }
 
-// The critical place that cuts a body, and how far a mismatch left of it moves the search: by the body's period, after
-// which the rest of what matched is known, or by a number no greater than it.
+// The cut of a body. `critical` is the place where the body is cut. `shift` is the distance that the search moves if
+// the part before the cut doesn't match. If `repeats` is set, `shift` is the body's period: after the move, all but the last
+// `shift` bytes of the body are known to match, and aren't compared again. Otherwise `shift` is at most the period.
 #[derive(Clone, Copy, Debug)]
 pub(crate) struct Cut {
     pub(crate) critical: usize,
@@ -100,10 +102,10 @@ pub(crate) struct Cut {
     pub(crate) repeats: bool,
 }
 
-// The cut of a body: the later of its two greatest suffixes begins at a critical place.
+// The cut of a body, at the place where the later of its two greatest suffixes begins. This place is critical.
 pub(crate) fn cut_of(body: &[u8]) -> Cut
     requires { 0 < length body.now }
-    ensures { IsCut (folded body.now) (length body.now) result.critical (shift_of result.repeats result.shift) }
+    ensures { IsCut (table_index body.now) (length body.now) result.critical (shift_of result.repeats result.shift) }
 {
     let opposite = greatest_suffix(body, false);
     let usual = greatest_suffix(body, true);
@@ -115,8 +117,8 @@ pub(crate) fn cut_of(body: &[u8]) -> Cut
 }
 
 fn cut_at(body: &[u8], critical: usize, period: usize) -> Cut
-    requires { IsCutPlace (folded body.now) (length body.now) critical period }
-    ensures { IsCut (folded body.now) (length body.now) result.critical (shift_of result.repeats result.shift) }
+    requires { IsCutPlace (table_index body.now) (length body.now) critical period }
+    ensures { IsCut (table_index body.now) (length body.now) result.critical (shift_of result.repeats result.shift) }
 {
     let m = body.len();
     let large = critical.max(m - critical);

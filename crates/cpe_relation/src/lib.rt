@@ -14,11 +14,11 @@
 //! If a name is compared with many targets, [`covers_in_order`] compares the deciding attributes first.
 //! [`deciding_order`] finds their order once.
 //!
-//! [`near`] is a coarser relation of products: a name covers no name to whose product its own product is not near. The
-//! products near to a given one are found by the prefixes and the ends of their texts.
+//! [`near`] is a coarser relation of products: a name covers another only if its product is near the other's product.
+//! The products near a given product are found by the prefixes and the ends of their texts.
 //!
-//! A target whose attributes are known only in part has specials. No name covers such a target, but a name may cover it
-//! ([`maybe`]): no attribute is DISJOINT, and one is UNDEFINED.
+//! A target that is known only in part has specials. No name covers such a target, but a name may cover it ([`maybe`]):
+//! each attribute is SUPERSET, EQUAL or UNDEFINED, and at least one is UNDEFINED.
 //!
 //! Some laws are functions without effect: [`one_relation`](law::one_relation), [`cover_laws`](law::cover_laws),
 //! [`relation_laws`](law::relation_laws) and [`maybe_laws`](law::maybe_laws). Two things do not hold:
@@ -27,10 +27,10 @@
 //! - With specials, a relation does not give the relation of the swapped names. `8.*` to `8.0` is SUPERSET, but `8.0`
 //!   to `8.*` is UNDEFINED. `sp??` to `sp123` is DISJOINT, but `sp123` to `sp??` is UNDEFINED.
 //!
-//! A body is found in a text by the Two-Way algorithm (Crochemore and Perrin, "Two-way string-matching", Journal of the
-//! ACM 38, 1991; module `standing`). It takes no memory. The number of compared bytes is linear in the length of text
-//! and body together. If the body is short or the places are few, each place is tried instead. This bound is a known
-//! property of the algorithm, and no clause states it. The answer is proved.
+//! A body is found in a text by the Two-Way algorithm (module `standing`; Crochemore and Perrin, "Two-way
+//! string-matching", Journal of the ACM 38, 1991). The search takes no memory. The number of compared bytes is linear
+//! in the length of text and body together. This bound is a known property of the algorithm, and no clause states it.
+//! The result of the search is proved. If the body is short or the places are few, each place is tried instead.
 #![tactic(auto)]
 
 mod above;

@@ -1,12 +1,13 @@
-// Whether a pattern matches a plain text, and whether two texts are the same but for letter case.
+// Whether a pattern matches a plain text, and whether two texts are equal without regard to letter case.
 ghost use Rattle.std.specs.Prelude.{◌≡◌, ◌↔◌, ℕ, ◌-◌, ◌≤◌, IsTrue};
 ghost use Rattle.cpe_values.specs.Borrowed.{text_lent};
-ghost use Rattle.cpe_relation.specs.MatchTests.{allows, matches, same_lower};
+ghost use Rattle.cpe_relation.specs.MatchTests.{allows, matches_text, same_lower};
 
-use crate::standing::stands_within;
+use crate::standing::occurs_within;
 use cpe_values::{Edge, TextRef};
 
-// The fewest characters that may stand before the body where `room` characters stand around it: the trail allows the rest.
+// The least number of characters before the body that the trail allows, if `room` characters are around the body. The
+// trail has to allow the rest.
 fn fewest_before(trail: Edge, room: usize) -> usize
     ensures within { result ≤ room }
     ensures allowed { (k : ℕ) → k ≤ room → (IsTrue (allows trail (room - k)) ↔ (result ≤ k)) }
@@ -18,7 +19,7 @@ fn fewest_before(trail: Edge, room: usize) -> usize
     }
 }
 
-// The most characters that may stand before the body where `room` characters stand around it: the lead allows no more.
+// The greatest number of characters before the body that the lead allows, if `room` characters are around the body.
 fn most_before(lead: Edge, room: usize) -> usize
     ensures within { result ≤ room }
     ensures allowed { (k : ℕ) → k ≤ room → (IsTrue (allows lead k) ↔ (k ≤ result)) }
@@ -30,9 +31,10 @@ fn most_before(lead: Edge, room: usize) -> usize
     }
 }
 
-// Whether a pattern matches a text. The places that both edges allow are all those between two, so one search serves.
+// Whether a pattern matches a text. Lead and trail allow all places between a lowest and a highest, so one search
+// suffices.
 pub(crate) fn is_match(pattern: &TextRef, text: &[u8]) -> bool
-    ensures { result ≡ matches (text_lent pattern.now) text.now }
+    ensures { result ≡ matches_text (text_lent pattern.now) text.now }
 {
     let body = pattern.stem;
     if text.len() < body.len() {
@@ -41,10 +43,11 @@ pub(crate) fn is_match(pattern: &TextRef, text: &[u8]) -> bool
     let room = text.len() - body.len();
     let low = fewest_before(pattern.trail, room);
     let high = most_before(pattern.lead, room);
-    stands_within(text, body, low, high)
+    occurs_within(text, body, low, high)
 }
 
-// Whether two texts are the same in lower case. Most that are, are so byte for byte, which is told by words of bytes.
+// Whether two texts are equal in lower case. Most equal texts have equal bytes, and `==` compares these several at a
+// time.
 pub(crate) fn is_same(text: &[u8], other: &[u8]) -> bool
     ensures { result ≡ same_lower text.now other.now }
 {

@@ -1,8 +1,8 @@
-// When a source product is near a target product.
+// Whether a source product is near a target product.
 ghost use Rattle.std.specs.Prelude.{◌≡◌, ◌↔◌, not, IsTrue};
 ghost use Rattle.cpe_values.specs.Parts.{is_nothing};
 ghost use Rattle.cpe_relation.specs.MatchTests.{begins_with};
-ghost use Rattle.cpe_relation.specs.Near.{near, near_plain, ends_with, Near};
+ghost use Rattle.cpe_relation.specs.Near.{near, near_plain, text_ends_with, Near};
 
 use crate::matching::is_same;
 use cpe_values::{Edge, Pattern, Value};
@@ -20,7 +20,7 @@ fn is_start(text: &[u8], body: &[u8]) -> bool
 }
 
 fn is_end(text: &[u8], body: &[u8]) -> bool
-    ensures { result ≡ ends_with text.now body.now }
+    ensures { result ≡ text_ends_with text.now body.now }
 {
     body.len() <= text.len() && is_start(&text[text.len() - body.len()..], body)
 }
@@ -49,17 +49,18 @@ fn is_near(source: &Value, target: &Value) -> bool
     }
 }
 
-/// Whether a source product is near a target product: the source is ANY; or both are NA; or the target is a plain text, and
-/// the source is the same text, or has a trail alone and its body stands at the target's start, or has a lead alone and its
-/// body stands at the target's end, or has both a lead and a trail. Letters are compared in lower case.
+/// Whether a source product is near a target product, in lower case. ANY is near each target, and NA is near NA. A text
+/// is near a target without specials in four cases. With a lead and a trail it is near each. With only a trail, its
+/// body has to be a prefix of the target. With only a lead, its body has to be a suffix of the target. Without both,
+/// the two texts have to be equal.
 ///
-/// Where a name [`covers`](crate::covers) another, their products are near ([`cover_laws`](crate::cover_laws)). Near is a
-/// rule of this project and none of the report's: names that a product can cover are looked up by it. It doesn't count the
-/// characters that a lead or a trail allows, so `sp?` is near `sp123`. It takes no memory.
+/// If a name [`covers`](crate::covers) another, their products are near ([`cover_laws`](crate::cover_laws)). The number
+/// of characters that a lead or trail allows doesn't count, so `sp?` is near `sp123`. The rule is this project's own:
+/// it serves to look up the names that a product may cover. Allocates: no.
 pub fn near(source: &Value, target: &Value) -> bool
-    // By a function.
+    // The result, by the function `near`.
     ensures value { result ≡ near source.now target.now }
-    // By statements: something stands before the body, or after it.
+    // The result, by the statements `Near`.
     ensures table { IsTrue result ↔ Near source.now target.now }
 {
     is_near(source, target)

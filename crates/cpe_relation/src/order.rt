@@ -1,4 +1,4 @@
-// One name asked of many targets, its attributes in the order in which they soonest decide.
+// Comparisons of one source with many targets, in an order of attributes that decides early.
 ghost use Rattle.std.specs.Prelude.{◌≡◌, ◌&&◌, Bool, IfOk, OnOk};
 ghost use Rattle.cpe_name.specs.declared.attribute.Attribute.{Attribute};
 ghost use Rattle.std.specs.List.{list_all};
@@ -11,11 +11,11 @@ use cpe_name::{ATTRIBUTES, Attribute, Wfn};
 use cpe_values::{Memory, Value};
 use std::alloc::Global;
 
-/// The attributes in the order in which they soonest decide whether the source covers a target: those for which it has
-/// ANY come last, and of the others the part, which most names share, stands after what tells more.
+/// The attributes in the order in which they decide earliest whether the source covers a target. Attributes with the
+/// value ANY are last. Among the others the part is last, because most names share it.
 ///
 /// # Errors
-/// Only that memory ran out.
+/// Only if memory runs out.
 pub fn deciding_order(alloc: Global, source: &Wfn) -> Result<Vec<Attribute>, Memory>
     ensures { IfOk result (λ order. IsOrder order.items) }
 {
@@ -26,7 +26,7 @@ pub fn deciding_order(alloc: Global, source: &Wfn) -> Result<Vec<Attribute>, Mem
     Ok(order)
 }
 
-// Puts an attribute last where it has ANY, and else first.
+// Adds an attribute to the order: at the end if its value is ANY, and otherwise at the beginning.
 fn put(order: &mut Vec<Attribute>, which: Attribute, value: &Value) -> Result<(), Memory>
     ensures { OnOk result ((test : Attribute → Bool) → list_all test order.new.items ≡ (list_all test order.old.items && test which)) }
 {
@@ -37,8 +37,8 @@ fn put(order: &mut Vec<Attribute>, which: Attribute, value: &Value) -> Result<()
     Ok(())
 }
 
-/// Whether the source covers the target, as [`covers`](crate::covers) tells it, by the attributes in this order: the first
-/// that is neither SUPERSET nor EQUAL ends it. It takes no memory.
+/// Whether the source covers the target, as [`covers`](crate::covers) returns it. The attributes are compared in this
+/// order, until one is neither SUPERSET nor EQUAL. Allocates: no.
 #[tactic(auto, unfolding(crate::specs::Attributes::above_at, crate::specs::NameRelation::covers))]
 pub fn covers_in_order(order: &[Attribute], source: &Wfn, target: &Wfn) -> bool
     requires { IsOrder order.now }
@@ -47,7 +47,7 @@ pub fn covers_in_order(order: &[Attribute], source: &Wfn, target: &Wfn) -> bool
     is_above_each_in(order, source, target)
 }
 
-// Called at each attribute, since which one it is isn't known before.
+// Not inlined, because the attribute is not known at compile time.
 #[inline(never)]
 fn is_above_at_next(source: &Wfn, target: &Wfn, which: Attribute) -> bool
     ensures { result ≡ above_at source.now target.now which }

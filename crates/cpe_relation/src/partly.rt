@@ -11,7 +11,7 @@ use crate::above::is_above;
 use cpe_name::{ATTRIBUTES, Attribute, Wfn};
 use cpe_values::Value;
 
-// UNDEFINED is what has a special; the rest is as for covering.
+// Whether the relation is SUPERSET, EQUAL or UNDEFINED. It is UNDEFINED if the target has a special.
 fn may_be_above(source: &Value, target: &Value) -> bool
     ensures { result ≡ may_be_above (relation source.now target.now) }
 {
@@ -33,16 +33,16 @@ fn may_be_above_each(source: &Wfn, target: &Wfn) -> bool
         .all(|which| may_be_above_at(source, target, *which))
 }
 
-// A name without specials is told at once.
+// A target without specials needs no comparison of attributes: no name may cover it.
 fn may_cover(source: &Wfn, target: &Wfn) -> bool
     ensures { result ≡ (name_has_specials target.now && list_all (may_be_above_at source.now target.now) attributes) }
 {
     target.has_wildcards() && may_be_above_each(source, target)
 }
 
-/// Whether the source may cover the target, as far as the target is known: each attribute is SUPERSET, EQUAL or UNDEFINED,
-/// and one at least is UNDEFINED (NIST IR 7696, 6). An attribute is UNDEFINED exactly where the target has a special, so this
-/// never holds together with [`covers`](crate::covers) ([`maybe_laws`](crate::law::maybe_laws)). It takes no memory.
+/// Whether the source may cover the target: each attribute is SUPERSET, EQUAL or UNDEFINED, and at least one is
+/// UNDEFINED (NIST IR 7696, 6). An attribute is UNDEFINED exactly if the target has a special. So a source never both
+/// may cover a target and [`covers`](crate::covers) it ([`maybe_laws`](crate::law::maybe_laws)). Allocates: no.
 pub fn maybe(source: &Wfn, target: &Wfn) -> bool
     ensures { result ≡ maybe source.now target.now }
 {

@@ -1,21 +1,23 @@
-// The search itself: right of the cut from the left, then left of it from the right.
+// The search of the Two-Way algorithm. It compares the part after the cut from left to right, then the part before the
+// cut from right to left.
 ghost use Rattle.std.specs.Prelude.{◌≡◌, ◌≢◌, ◌↔◌, ℕ, ◌+◌, ◌-◌, ◌<◌, ◌≤◌, length, true, false, IsTrue};
 ghost use Rattle.memchr.specs.Find.{IsFirst};
 ghost use Rattle.memchr.specs.TwoWay.{OccursIn, IsCut};
-ghost use Rattle.cpe_relation.specs.Folded.{folded, shift_of};
+ghost use Rattle.cpe_relation.specs.Folded.{table_index, shift_of};
 
 use crate::cut::Cut;
 use crate::folded::byte_at;
 
-// How many bytes of the body, from `start` on, stand at `pos`: the end of what matched.
+// The place in the body of the first byte that differs from the text, if the body is laid at `pos`. The comparison
+// begins at `start`. If no byte differs, the length of the body.
 #[inline(always)]
 fn matched_to(text: &[u8], body: &[u8], pos: usize, start: usize) -> usize
     requires fits { pos + length body.now ≤ length text.now }
     requires from { start ≤ length body.now }
     ensures low { start ≤ result }
     ensures high { result ≤ length body.now }
-    ensures same { (k : ℕ) → start ≤ k → k < result → folded body.now k ≡ folded text.now (pos + k) }
-    ensures differs { result < length body.now → folded body.now result ≢ folded text.now (pos + result) }
+    ensures same { (k : ℕ) → start ≤ k → k < result → table_index body.now k ≡ table_index text.now (pos + k) }
+    ensures differs { result < length body.now → table_index body.now result ≢ table_index text.now (pos + result) }
 {
     let m = body.len();
     let mut i = start;
@@ -25,12 +27,12 @@ fn matched_to(text: &[u8], body: &[u8], pos: usize, start: usize) -> usize
     i
 }
 
-// Whether the bytes from `low` up to `high` of the body stand at `pos`.
+// Whether the bytes of the body from `low` up to `high` equal those of the text, if the body is laid at `pos`.
 #[inline(always)]
 pub(crate) fn matches_between(text: &[u8], body: &[u8], pos: usize, low: usize, high: usize) -> bool
     requires fits { pos + length body.now ≤ length text.now }
     requires top { high ≤ length body.now }
-    ensures { IsTrue result ↔ ((k : ℕ) → low ≤ k → k < high → folded body.now k ≡ folded text.now (pos + k)) }
+    ensures { IsTrue result ↔ ((k : ℕ) → low ≤ k → k < high → table_index body.now k ≡ table_index text.now (pos + k)) }
 {
     let mut j = high;
     while low < j {
@@ -42,7 +44,7 @@ pub(crate) fn matches_between(text: &[u8], body: &[u8], pos: usize, low: usize, 
     true
 }
 
-// How many of the body's first bytes are known to stand after a move by the shift.
+// How many of the body's first bytes are known to match after a move by the shift.
 #[inline(always)]
 fn kept(cut: Cut, m: usize) -> usize
     requires { cut.shift ≤ m }
@@ -52,13 +54,13 @@ fn kept(cut: Cut, m: usize) -> usize
     if cut.repeats { m - cut.shift } else { 0 }
 }
 
-// The first place from `from` on at which the body stands within the first `n` bytes.
+// The first place, not below `from`, at which the body is found within the first `n` bytes of the text.
 pub(crate) fn find(text: &[u8], n: usize, from: usize, body: &[u8], cut: Cut) -> Option<usize>
-    requires cut { IsCut (folded body.now) (length body.now) cut.critical (shift_of cut.repeats cut.shift) }
+    requires cut { IsCut (table_index body.now) (length body.now) cut.critical (shift_of cut.repeats cut.shift) }
     requires some { 0 < length body.now }
     requires within { n ≤ length text.now }
     requires start { from ≤ n }
-    ensures { IsFirst (OccursIn (folded body.now) (length body.now) (folded text.now) n) from (n + 1) result }
+    ensures { IsFirst (OccursIn (table_index body.now) (length body.now) (table_index text.now) n) from (n + 1) result }
 {
     let m = body.len();
     let critical = cut.critical;

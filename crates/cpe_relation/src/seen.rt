@@ -1,10 +1,10 @@
-// What one pass over the relations of the attributes has seen.
+// What a pass over the relations of the attributes has found so far.
 ghost use Rattle.std.specs.Prelude.{◌≡◌};
 ghost use Rattle.cpe_relation.specs.Attributes.{seen_nothing, seen_with, relation_seen};
 
 use crate::relation::Relation;
 
-// Whether any relation was DISJOINT, and whether all were EQUAL, SUBSET or EQUAL, and SUPERSET or EQUAL.
+// Whether some relation was DISJOINT; and whether all relations were EQUAL, all SUBSET or EQUAL, all SUPERSET or EQUAL.
 #[derive(Clone, Copy, Debug)]
 pub(crate) struct Seen {
     disjoint: bool,
@@ -36,7 +36,7 @@ impl Seen {
         }
     }
 
-    // The relation of the names.
+    // The relation of the names, after all attributes.
     pub(crate) fn relation(self) -> Relation
         ensures { result ≡ relation_seen self }
     {

@@ -1,50 +1,50 @@
-// Whether a body stands in a text.
+// Whether a text contains a body at one of some places.
 ghost use Rattle.std.specs.Prelude.{◌↔◌, ◌+◌, ◌≤◌, length, IsTrue};
-ghost use Rattle.cpe_relation.specs.Standing.{StandsAt, StandsWithin};
+ghost use Rattle.cpe_relation.specs.Standing.{HasBodyAt, OccursWithin};
 
 use crate::cut::cut_of;
 use crate::search::{find, matches_between};
 
-// Up to so many bytes of the body, or places less one, each place is tried by itself.
+// If the body has at most 16 bytes, or the last place is at most 16 after the first, each place is tried.
 const FEW: usize = 16;
 
-fn stands_at(text: &[u8], body: &[u8], place: usize) -> bool
+fn occurs_at(text: &[u8], body: &[u8], place: usize) -> bool
     requires { place + length body.now ≤ length text.now }
-    ensures { IsTrue result ↔ StandsAt text.now body.now place }
+    ensures { IsTrue result ↔ HasBodyAt text.now body.now place }
 {
     matches_between(text, body, place, 0, body.len())
 }
 
-// Place by place.
-fn stands_plainly(text: &[u8], body: &[u8], low: usize, high: usize) -> bool
+// Tries the body at each place from `low` to `high`.
+fn occurs_plainly(text: &[u8], body: &[u8], low: usize, high: usize) -> bool
     requires order { low ≤ high }
     requires within { high + length body.now ≤ length text.now }
-    ensures { IsTrue result ↔ StandsWithin text.now body.now low high }
+    ensures { IsTrue result ↔ OccursWithin text.now body.now low high }
 {
     for place in low..high {
-        if stands_at(text, body, place) {
+        if occurs_at(text, body, place) {
             return true;
         }
     }
-    stands_at(text, body, high)
+    occurs_at(text, body, high)
 }
 
-fn stands_between(text: &[u8], body: &[u8], low: usize, high: usize) -> bool
+fn occurs_between(text: &[u8], body: &[u8], low: usize, high: usize) -> bool
     requires order { low ≤ high }
     requires within { high + length body.now ≤ length text.now }
-    ensures { IsTrue result ↔ StandsWithin text.now body.now low high }
+    ensures { IsTrue result ↔ OccursWithin text.now body.now low high }
 {
     if body.len() <= FEW || high - low <= FEW {
-        return stands_plainly(text, body, low, high);
+        return occurs_plainly(text, body, low, high);
     }
     find(text, high + body.len(), low, body, cut_of(body)).is_some()
 }
 
-/// Whether the body stands in the text at one of the places from `low` to `high`, both among them, letters without
-/// regard to case. Places where the body would reach past the end of the text are none. It takes no memory; how long it
-/// takes is told at the head of the crate.
-pub fn stands_within(text: &[u8], body: &[u8], low: usize, high: usize) -> bool
-    ensures { IsTrue result ↔ StandsWithin text.now body.now low high }
+/// Whether the text contains the body at a place from `low` to `high`, without regard to letter case. `high` counts
+/// too. Places at which the body would end after the text don't count. Allocates: no. The crate's page gives the number
+/// of comparisons.
+pub fn occurs_within(text: &[u8], body: &[u8], low: usize, high: usize) -> bool
+    ensures { IsTrue result ↔ OccursWithin text.now body.now low high }
 {
     if text.len() < body.len() {
         return false;
@@ -53,5 +53,5 @@ pub fn stands_within(text: &[u8], body: &[u8], low: usize, high: usize) -> bool
     if last < low {
         return false;
     }
-    stands_between(text, body, low, last)
+    occurs_between(text, body, low, last)
 }

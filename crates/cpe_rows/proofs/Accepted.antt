@@ -1,4 +1,4 @@
--- Rows are lawful at the start, and an accepted entry leaves lawful ones.
+-- Lemmas: the empty rows are lawful, and an accepted entry leaves lawful rows.
 use Rattle.std.proofs.Common.{◌≡◌, ◌||◌, ◌&&◌, List, [], ◌∷◌, true, false, not, nat_lt, cond, length, map, Option, Some, None, refl, ap, sym, ◌∙◌, subst}
 use Rattle.std.specs.Prelude.{is_none, filter}
 use Rattle.std.specs.Option.{option_map_or}
@@ -68,7 +68,7 @@ module _ (rows next : Rows) (e : Entry) (h : IsAccepted rows (edit.Entry e) next
       (and_from (is_lower e.name) (is_identifier e.name) is_valid.0 (not-false (is_identifier e.name) (none_when (not (is_identifier e.name)) fault.NotIdentifier result.0.0)))
       (not_from_false (has_wildcards e.name) (none_when (has_wildcards e.name) fault.Wildcards result.0.1.0))
 
-  -- what was an entry is one
+  -- Each name that had an entry has one after the edit.
   still : (ss : List Values) → list_all (λ s. list_any (is_named s) rows.entries) ss ≡ true → list_all (λ s. list_any (is_named s) left.entries) ss ≡ true
   still [] t = refl
   still (s ∷ ss) t = let parts = and_parts (list_any (is_named s) rows.entries) (list_all (λ s. list_any (is_named s) rows.entries) ss) t in
@@ -76,7 +76,7 @@ module _ (rows next : Rows) (e : Entry) (h : IsAccepted rows (edit.Entry e) next
       (list_any-append (is_named s) rows.entries (e ∷ []) ∙ or_left (list_any (is_named s) rows.entries) (list_any (is_named s) (e ∷ [])) parts.0)
       (still ss parts.1)
 
-  -- successors lead where they led
+  -- Successors lead to the same names as before.
   same_leads : (n : Values) (ss : List Values) → list_all (λ s. list_any (is_named s) rows.entries) ss ≡ true → list_any (λ s. leads_to left.entries s n) ss ≡ list_any (λ s. leads_to rows.entries s n) ss
   same_leads n [] t = refl
   same_leads n (s ∷ ss) t = let parts = and_parts (list_any (is_named s) rows.entries) (list_all (λ s. list_any (is_named s) rows.entries) ss) t in

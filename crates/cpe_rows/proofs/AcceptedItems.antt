@@ -1,4 +1,4 @@
--- An accepted item leaves lawful rows, and so does one that is dropped.
+-- Lemmas: if an edit adds or removes an item and is accepted, it leaves lawful rows.
 use Rattle.std.proofs.Common.{◌≡◌, List, [], ◌∷◌, Bool, true, false, not, cond, refl, ◌∙◌, subst}
 use Rattle.std.specs.List.{list_any, list_all}
 use Rattle.std.proofs.lemmas.Bool.{or_from, or_parts, and_from, and_parts, not_from_false, not-true}

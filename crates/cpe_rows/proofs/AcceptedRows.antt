@@ -1,4 +1,4 @@
--- Accepted edits of statements and of kept results leave lawful rows.
+-- Lemmas: accepted edits of statements and of check results leave lawful rows.
 use Rattle.std.proofs.Common.{◌≡◌, ℕ, List, [], ◌∷◌, ◌++◌, Bool, true, false, not, cond, refl, ◌∙◌, subst}
 use Rattle.std.specs.List.{list_any, list_all}
 use Rattle.std.proofs.lemmas.Bool.{or_from, or_parts, and_from, and_parts, not_from_false, not-true}
@@ -20,7 +20,7 @@ use Rattle.cpe_rows.proofs.Lists.{not_found, not_element, all_with_last, differe
 use Rattle.cpe_rows.proofs.StayFormed.{stay_formed}
 use Rattle.cpe_rows.proofs.Unrefused.{IsUnrefused, unrefused, none_when}
 
--- rows with other statements and results
+-- Rows stay lawful if their statements and check results are replaced by lawful ones.
 with_lists : (rows : Rows) (statements : List Statement) (checks : List (CheckKey × Truth)) → let left : Rows = record rows { statements = statements; checks = checks } in
     IsLawful rows → AreFormed left → list_all is_lawful_statement statements ≡ true → are_different (λ s. has_id s.id) statements ≡ true → are_different (λ c. has_key c.0) checks ≡ true
     → AreWithin left → IsLawful left

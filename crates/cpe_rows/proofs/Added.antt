@@ -1,4 +1,4 @@
--- An entry that is added is in no chain but its own, and changes the ends of no name.
+-- Lemmas: an added entry is in no chain except its own, and it changes the ends of no name.
 use Rattle.std.proofs.Common.{◌≡◌, ℕ, zero, suc, ◌||◌, ◌&&◌, List, [], ◌∷◌, ◌++◌, map, Bool, true, false, cond, length, Option, None, refl, ap, sym, ◌∙◌}
 use Rattle.std.specs.Prelude.{filter, is_none}
 use Rattle.std.specs.List.{list_any, list_all}
@@ -21,7 +21,7 @@ length_with_last : {A : Type 0} (xs : List A) (x : A) → length (xs ++ x ∷ []
 length_with_last [] x = refl
 length_with_last (y ∷ ys) x = ap suc (length_with_last ys x)
 
--- an element from which no edge leads
+-- An element x is appended, from which no edge leads.
 module _ {A : Type 0} (edge : A → A → Bool) (all : List A) (x : A) (start : A → Bool) (out : (b : A) → edge x b ≡ false) where
   same_reached : (n : ℕ) (b : A) → reached edge (all ++ x ∷ []) start n b ≡ reached edge all start n b
   same_reached zero b = refl
@@ -32,7 +32,7 @@ module _ {A : Type 0} (edge : A → A → Bool) (all : List A) (x : A) (start : 
   pub still_reached : (b : A) → Among all b → is_reached edge (all ++ x ∷ []) start b ≡ is_reached edge all start b
   still_reached b m = ap (λ n. reached edge (all ++ x ∷ []) start n b) (length_with_last all x) ∙ (same_reached (suc (length all)) b ∙ sym (done edge all start b m))
 
-  -- and to which none leads
+  -- Also no edge leads to x.
   module _ (into : (a : A) → Among all a → edge a x ≡ false) where
     by_itself : (n : ℕ) → reached edge all start n x ≡ start x
     by_itself zero = refl
@@ -44,7 +44,7 @@ module _ {A : Type 0} (edge : A → A → Bool) (all : List A) (x : A) (start : 
     pub reached_alone : is_reached edge (all ++ x ∷ []) start x ≡ start x
     reached_alone = same_reached (length (all ++ x ∷ [])) x ∙ by_itself (length (all ++ x ∷ []))
 
--- without a start nothing is reached
+-- If no element is a start, none is reached.
 module _ {A : Type 0} (edge : A → A → Bool) (all : List A) (start : A → Bool) (none : (b : A) → Among all b → start b ≡ false) where
   never : (n : ℕ) (b : A) → Among all b → reached edge all start n b ≡ false
   never zero b m = none b m
@@ -59,7 +59,7 @@ nothing_kept p xs h = same_filter p (λ _. false) xs h ∙ empty xs where
   empty [] = refl
   empty (x ∷ xs) = empty xs
 
--- a name that no entry has is the only end of its empty chain
+-- A name without an entry has an empty chain, and is its own only end.
 module _ (entries : List Entry) (n : Values) (absent : list_any (is_named n) entries ≡ false) where
   pub no_chain : chain entries n ≡ []
   no_chain = nothing_kept (is_reached is_successor entries (is_named n)) entries
@@ -68,12 +68,12 @@ module _ (entries : List Entry) (n : Values) (absent : list_any (is_named n) ent
   pub own_end : ends entries n ≡ n ∷ []
   own_end = λ i. cond (absent i) (map (λ e. e.name) (filter is_active (chain entries n))) (n ∷ [])
 
--- an active entry of a new name, where the successors of entries are entries
+-- An active entry of a new name is added. The successors of all entries are entries.
 module _ (entries : List Entry) (e : Entry) (new : list_any (is_named e.name) entries ≡ false) (active : e.deprecation ≡ None) (closed : list_all (has_successors entries) entries ≡ true) where
   abbrev added : List Entry
   added = entries ++ e ∷ []
 
-  -- a name that an entry has is another
+  -- The name of an entry differs from the new name.
   pub is_other : (n : Values) → list_any (is_named n) entries ≡ true → is_same n e.name ≡ false
   is_other n h = false_from_ne_true (is_same n e.name) (λ t. true≢false (sym h ∙ (ap (λ m. list_any (is_named m) entries) ((same_is n e.name).0 t) ∙ new)))
 
@@ -104,14 +104,14 @@ module _ (entries : List Entry) (e : Entry) (new : list_any (is_named e.name) en
   append_nothing [] = refl
   append_nothing (x ∷ xs) = ap (λ l. x ∷ l) (append_nothing xs)
 
-  -- no other chain has it
+  -- The chain of another name is unchanged.
   pub other_chain : (n : Values) → is_same n e.name ≡ false → chain added n ≡ chain entries n
   other_chain n h = chain_of_added n ∙ (ap (λ b. chain entries n ++ cond b (e ∷ []) []) h ∙ append_nothing (chain entries n))
 
   no_entry : (n : Values) → is_same n e.name ≡ true → list_any (is_named n) entries ≡ false
   no_entry n h = ap (λ m. list_any (is_named m) entries) ((same_is n e.name).0 h) ∙ new
 
-  -- it alone is in its own
+  -- The chain of the new name has only the new entry.
   pub own_chain : (n : Values) → is_same n e.name ≡ true → chain added n ≡ e ∷ []
   own_chain n h = chain_of_added n ∙ (λ i. before i ++ cond (h i) (e ∷ []) []) where
     before : chain entries n ≡ []

@@ -1,4 +1,4 @@
--- Verdicts see no statements, so one that is put or dropped is the only change.
+-- Lemmas: verdicts don't depend on other statements. So an added or removed statement is the only change.
 use Rattle.std.proofs.Common.{◌≡◌, ℕ, ◌+◌, List, [], ◌∷◌, ◌++◌, map, length, Some, None, refl, ap, ◌∙◌, append-nil}
 use Rattle.std.specs.Prelude.{position, find}
 use Rattle.cpe_rows.specs.Rows.{Rows, has_id}

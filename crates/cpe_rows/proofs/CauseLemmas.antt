@@ -1,11 +1,11 @@
--- First causes, and what an edit that has one answers.
+-- Lemmas about the first cause of an edit, and the result of an edit that has a cause.
 use Rattle.std.proofs.Common.{◌≡◌, List, [], ◌∷◌, ◌++◌, refl, ap}
 use Rattle.std.specs.Prelude.{Option, Some, None}
 use Rattle.cpe_rows.specs.Rows.{Rows}
 use Rattle.cpe_rows.specs.Step.{first_some, unless}
 use Rattle.cpe_rows.specs.declared.fault.EditFault.{EditFault}
 use Rattle.cpe_rows.specs.declared.fault.EditFault.TheVariants as fault
-use Rattle.cpe_rows.specs.Applied.{Refuses}
+use Rattle.cpe_rows.specs.Applied.{RefusesEdit}
 use Rattle.cpe_rows.specs.Causes.{IsCause}
 
 pub first_behind : (xs ys : List (Option EditFault)) → first_some xs ≡ None → first_some (xs ++ ys) ≡ first_some ys
@@ -23,7 +23,7 @@ first_same [] xs ys h = h
 first_same (Some f ∷ os) xs ys h = refl
 first_same (None ∷ os) xs ys h = first_same os xs ys h
 
--- what is found is a cause
+-- A fault that was found is a cause.
 pub is_cause : (f : EditFault) (o : Option EditFault) → o ≡ Some f → IsCause f o
 is_cause fault.NotIdentifier o h = h
 is_cause fault.Wildcards o h = h
@@ -54,7 +54,7 @@ cause_moves (fault.TooWide n) o p move h = move h
 cause_moves (fault.Full w) o p move h = move h
 cause_moves fault.Memory o p move h = tt
 
-pub cause_refuses : (f : EditFault) (o : Option EditFault) (rows : Rows) → IsCause f o → Refuses f (unless o rows)
+pub cause_refuses : (f : EditFault) (o : Option EditFault) (rows : Rows) → IsCause f o → RefusesEdit f (unless o rows)
 cause_refuses fault.NotIdentifier o rows h = ap (λ c. unless c rows) h
 cause_refuses fault.Wildcards o rows h = ap (λ c. unless c rows) h
 cause_refuses fault.Exists o rows h = ap (λ c. unless c rows) h

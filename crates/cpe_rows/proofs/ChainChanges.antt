@@ -1,4 +1,4 @@
--- Where an entry is changed and keeps its name, the chains that don't come to it stay.
+-- Lemmas: if an entry is changed but keeps its name, the chains that don't lead to it are unchanged.
 use Rattle.std.proofs.Common.{◌≡◌, ℕ, zero, suc, ◌||◌, ◌&&◌, List, [], ◌∷◌, map, Bool, true, false, cond, length, refl, ap, sym, ◌∙◌, inl, inr}
 use Rattle.std.specs.Prelude.{filter}
 use Rattle.std.specs.List.{list_any}
@@ -15,7 +15,7 @@ use Rattle.cpe_rows.proofs.ChangedEntries.{same_any_changed}
 use Rattle.cpe_rows.proofs.Paths.{is_kept}
 
 module _ (f : Entry → Entry) (n : Values) (keeps : (e : Entry) → (f e).name ≡ e.name) where
-  -- what a test says of the entry of this name, before and after
+  -- The test has result b for the entry of this name, before and after the change.
   abbrev Says : (Entry → Bool) → List Entry → Bool → Type 0
   Says p es b = (a : Entry) → Among es a → is_named n a ≡ true → (p a ≡ b) × (p (f a) ≡ b)
 
@@ -47,14 +47,14 @@ module _ (f : Entry → Entry) (n : Values) (keeps : (e : Entry) → (f e).name 
     abbrev left : List Entry
     left = changed f n es
 
-    -- whether it is reached in so many steps, as the entries are, and as they are left
+    -- `before` and `behind` are true of an entry that is reached in at most k steps: before the change, and after it.
     abbrev before : ℕ → Entry → Bool
     before = reached is_successor es (is_named x)
 
     abbrev behind : ℕ → Entry → Bool
     behind = reached is_successor left (is_named x)
 
-    -- the name of an entry tells whether it is reached
+    -- Two entries of the same name are both reached, or both not.
     by_name : (k : ℕ) (a b : Entry) → a.name ≡ b.name → before k a ≡ before k b
     by_name zero a b e = ap (is_same x) e
     by_name (suc k) a b e = λ i. by_name k a b e i || list_any (λ (c : Entry). before k c && list_any (is_same (e i)) (successors_of c)) es

@@ -1,4 +1,4 @@
--- The entries where the one of a name is changed, and keeps its name.
+-- Lemmas about entries of which one is changed.
 use Rattle.std.proofs.Common.{◌≡◌, ◌||◌, ◌&&◌, ◌⊎◌, List, [], ◌∷◌, Bool, true, false, not, cond, refl, ap, sym, ◌∙◌, inl, inr}
 use Rattle.std.specs.List.{list_any, list_all}
 use Rattle.std.proofs.lemmas.Bool.{and_from, and_parts, not-true}
@@ -12,12 +12,12 @@ use Rattle.cpe_rows.specs.declared.entry.Entry.{Entry}
 use Rattle.cpe_rows.proofs.Lists.{not_element}
 use Rattle.cpe_rows.proofs.NameTests.{same_is}
 
--- no two entries have the same name
+-- No two entries have the same name.
 abbrev pub AreNamed : List Entry → Type 0
 AreNamed es = are_different (λ e. is_named e.name) es ≡ true
 
 module _ (f : Entry → Entry) (n : Values) where
-  -- a test that tells nothing of the change
+  -- Tests that have the same result for the changed entry as before.
   module _ (p : Entry → Bool) (same : (e : Entry) → p (f e) ≡ p e) where
     pub same_any_changed : (es : List Entry) → list_any p (changed f n es) ≡ list_any p es
     same_any_changed [] = refl
@@ -35,7 +35,7 @@ module _ (f : Entry → Entry) (n : Values) where
       go true later = ap (λ b. b && list_all p es) (same e)
       go false later = ap (λ b. p e && b) later
 
-  -- what holds of the changed one too
+  -- If the entries pass a test, and each changed entry does, then all entries pass after the change.
   pub all_changed : (p : Entry → Bool) → ((e : Entry) → p (f e) ≡ true) → (es : List Entry) → list_all p es ≡ true
       → list_all p (changed f n es) ≡ true
   all_changed p now [] h = refl
@@ -56,7 +56,7 @@ module _ (f : Entry → Entry) (n : Values) where
       go true later = ap (λ m. not (list_any (is_named m) es) && are_different (λ e. is_named e.name) es) (keeps e)
       go false later = λ i. not (same_any_changed (is_named e.name) (λ a. ap (is_same e.name) (keeps a)) es i) && later i
 
-  -- an element is the changed one or one of another name
+  -- An element after the change is the changed entry, or an unchanged entry of another name.
   abbrev pub Was : List Entry → Entry → Type 0
   Was es b = ((a : Entry) × Among es a × (is_named n a ≡ true) × (f a ≡ b)) ⊎ (Among es b × (is_named n b ≡ false))
 

@@ -1,4 +1,4 @@
--- Which checks stay where a result is kept or dropped.
+-- Lemmas: the checks that are unchanged if a result is set or removed.
 use Rattle.std.proofs.Common.{◌≡◌, ℕ, ◌&&◌, List, [], ◌∷◌, Bool, true, false, cond, Option, Some, None, refl, ap, sym, ◌∙◌}
 use Rattle.std.specs.Prelude.{find}
 use Rattle.std.specs.Option.{option_map_or}
@@ -23,9 +23,9 @@ bytes_turned a b = let d = bytes_eq-Decides a b in one_answer (bytes_eq a b) (by
 pub turned : (a b : CheckKey) → same_key a b ≡ same_key b a
 turned a b = λ i. bytes_turned a.system b.system i && (bytes_turned a.href b.href i && bytes_turned a.id b.id i)
 
--- keys that are the same are told alike from another
-told_alike : (key a b : CheckKey) → same_key a b ≡ true → same_key key a ≡ same_key key b
-told_alike key a b t =
+-- If two keys are the same, comparing a third key with either has the same result.
+alike_known : (key a b : CheckKey) → same_key a b ≡ true → same_key key a ≡ same_key key b
+alike_known key a b t =
     let one = and_parts (bytes_eq a.system b.system) (bytes_eq a.href b.href && bytes_eq a.id b.id) t in
     let two = and_parts (bytes_eq a.href b.href) (bytes_eq a.id b.id) one.1 in
     λ i. bytes_eq key.system ((bytes_eq-Decides a.system b.system).0 one.0 i)
@@ -39,7 +39,7 @@ found o = option_map_or (λ c. c.1) o Unknown
 
 module _ (k key : CheckKey) (h : same_key k key ≡ false) where
   other : (c : CheckKey × Truth) → has_key k c ≡ true → same_key key c.0 ≡ false
-  other c t = sym (told_alike key k c.0 t) ∙ (turned key k ∙ h)
+  other c t = sym (alike_known key k c.0 t) ∙ (turned key k ∙ h)
 
   passed_over : (c : CheckKey × Truth) (rest : Option (CheckKey × Truth)) → same_key key c.0 ≡ false
       → found (cond (same_key key c.0) (Some c) rest) ≡ found rest
@@ -74,10 +74,10 @@ module _ (k key : CheckKey) (h : same_key k key ≡ false) where
   pub dropped : (rows : Rows) → found (find (has_key key) (without_first (has_key k) rows.checks)) ≡ found (find (has_key key) rows.checks)
   dropped rows = dropped_in rows.checks
 
-pub kept_facts : (rows : Rows) (k : CheckKey) (t : Truth) (mode : Mode) (fact : Values)
+pub fact_boards : (rows : Rows) (k : CheckKey) (t : Truth) (mode : Mode) (fact : Values)
     → fact_truth (after rows (edit.SetCheck k t)) mode fact ≡ fact_truth rows mode fact
-kept_facts rows k t Plain fact = refl
-kept_facts rows k t Follow fact = refl
+fact_boards rows k t Plain fact = refl
+fact_boards rows k t Follow fact = refl
 
 pub dropped_facts : (rows : Rows) (k : CheckKey) (mode : Mode) (fact : Values)
     → fact_truth (after rows (edit.DropCheck k)) mode fact ≡ fact_truth rows mode fact

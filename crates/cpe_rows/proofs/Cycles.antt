@@ -1,4 +1,4 @@
--- Where the successors of one entry are changed to such as did not lead to it, no cycle arises.
+-- Lemmas: an entry gets new successors. If none of them led to the entry, no cycle arises.
 use Rattle.std.proofs.Common.{◌≡◌, ◌⊎◌, List, [], ◌∷◌, true, false, refl, ap, sym, ◌∙◌, subst, inl, inr}
 use Rattle.std.specs.List.{list_any}
 use Rattle.std.proofs.lemmas.Bool.{false_from_ne_true, true≢false}
@@ -21,7 +21,7 @@ module _ (es : List Entry) (named : AreNamed es) (acyclic : list_any (is_cyclic 
   abbrev left : List Entry
   left = changed f n es
 
-  -- the entry as it was
+  -- the entry of the same name before the change
   abbrev Former : Entry → Type 0
   Former b = (a : Entry) × Among es a × (a.name ≡ b.name)
 
@@ -29,18 +29,19 @@ module _ (es : List Entry) (named : AreNamed es) (acyclic : list_any (is_cyclic 
   former b (inl w) = (w.0, w.1, sym (keeps w.0) ∙ ap (λ (e : Entry). e.name) w.3)
   former b (inr w) = (b, w.0, refl)
 
-  -- the changed entry has the name
+  -- The changed entry has the name n.
   its_name : (a b : Entry) → is_named n a ≡ true → f a ≡ b → n ≡ b.name
   its_name a b t e = (same_is n a.name).0 t ∙ (sym (keeps a) ∙ ap (λ (e : Entry). e.name) e)
 
   old : (b : Entry) → Among left b → Was f n es b
   old = was f n es named
 
-  -- a path is an old one, or one to the changed entry and one on from a new successor are
+  -- A new path is an old path, or it has two old paths: from s to the changed entry, and from one of the new successors
+  -- to b.
   abbrev Splits : Values → Entry → Type 0
   Splits s b = (leads_to es s b.name ≡ true) ⊎ ((leads_to es s n ≡ true) × (t : Values) × Among ts t × (leads_to es t b.name ≡ true))
 
-  -- a name leads to its own entry
+  -- A name leads to its own entry.
   leads_here : (s : Values) (b : Entry) → is_named s b ≡ true → Former b → leads_to es s b.name ≡ true
   leads_here s b h o = ap (leads_to es s) (sym o.2) ∙ path_leads es s o.0 [] o.1 (ap (is_same s) o.2 ∙ h)
 
@@ -48,7 +49,7 @@ module _ (es : List Entry) (named : AreNamed es) (acyclic : list_any (is_cyclic 
   to_changed s a e (inl h) = ap (leads_to es s) e ∙ h
   to_changed s a e (inr h) = h.0
 
-  -- the edge is old
+  -- A path is extended by an edge that was there before the change.
   along : (s : Values) (a b : Entry) → Among es a → is_successor a b ≡ true → Former b → leads_to es s a.name ≡ true
       → leads_to es s b.name ≡ true
   along s a b k edge o h =
@@ -70,7 +71,7 @@ module _ (es : List Entry) (named : AreNamed es) (acyclic : list_any (is_cyclic 
   no_way_back : (t : Values) → Among ts t → leads_to es t n ≡ true → ⊥
   no_way_back t m h = true≢false (sym h ∙ not_element (λ t. leads_to es t n) ts apart t m)
 
-  -- a successor of an entry, and a path from it back to the entry
+  -- An entry is not reached from its own successors, because each form of a path back is impossible.
   closes : (b : Entry) (s : Values) → Among (successors_of b) s → Was f n es b → Splits s b → ⊥
   closes b s m (inl w) h =
       let among = subst (λ (ss : List Values). Among ss s) (ap successors_of (sym w.3) ∙ to w.0) m in

@@ -1,4 +1,4 @@
--- Accepted edits of deprecations leave lawful rows.
+-- Lemmas: accepted edits of deprecations leave lawful rows.
 use Rattle.std.proofs.Common.{◌≡◌, ℕ, List, [], ◌∷◌, ◌++◌, Bool, true, false, not, length, Option, Some, None, refl, ap, ◌∙◌, subst}
 use Rattle.std.specs.Option.{option_map_or}
 use Rattle.std.specs.List.{list_any, list_all, AllByRecursion}
@@ -26,14 +26,14 @@ use Rattle.cpe_rows.proofs.Unrefused.{unrefused, both_none, none_when, none_mapp
 use Rattle.cpe_rows.proofs.ChangedEntries.{same_any_changed, same_all_changed, all_changed, different_changed}
 use Rattle.cpe_rows.proofs.Cycles.{no_new_cycle}
 
--- as many as the kind of the deprecation allows
+-- The deprecation, if there is one, has a number of successors that its kind allows.
 abbrev IsCounted : Option Deprecation → Type 0
 IsCounted d = option_map_or (λ d. is_count d.kind (length d.successors)) d true ≡ true
 
 abbrev successors_in : Option Deprecation → List Values
 successors_in d = option_map_or (λ d. d.successors) d []
 
--- what is asked of the successors of a deprecation
+-- The properties that the successors of a deprecation need: number, known entries, no repetition, no path back to n.
 record AreSuccessors (entries : List Entry) (n : Values) (d : Option Deprecation) : Type 0 where
   counted : IsCounted d
   known : list_all (λ s. list_any (is_named s) entries) (successors_in d) ≡ true
@@ -54,7 +54,7 @@ module _ (rows : Rows) (n : Values) (d : Option Deprecation) (kind : NoteKind) (
   abbrev before : IsDictionary rows.entries
   before = ok.dictionary
 
-  -- an entry is one before and after
+  -- The change adds and removes no names of entries.
   same_entry : (s : Values) → list_any (is_named s) left.entries ≡ list_any (is_named s) rows.entries
   same_entry s = same_any_changed change n (is_named s) (λ e. refl) rows.entries
 
@@ -86,7 +86,7 @@ module _ (rows : Rows) (n : Values) (d : Option Deprecation) (kind : NoteKind) (
     within = not_found fault.Full (exceeds left) limited room;
   }
 
--- the faults of a deprecation
+-- A deprecation without a fault has lawful successors.
 module _ (rows : Rows) (n : Values) (d : Deprecation) where
   abbrev miscounted : Bool
   miscounted = not (is_count d.kind (length d.successors))
@@ -100,7 +100,7 @@ module _ (rows : Rows) (n : Values) (d : Deprecation) where
   }
 
 module _ (rows next : Rows) (n : Values) (d : Deprecation) (date comment : List ℕ) where
-  -- the change that is not refused, whatever the note tells of
+  -- The rows stay lawful if the change has no fault, for each kind of note.
   noted_lawful : (kind : NoteKind) → let left : Rows = record rows { entries = changed (deprecated (Some d) kind date comment) n rows.entries } in
       IsLawful rows → AreFormed left → AllByRecursion (λ o. o ≡ None) (successor_faults rows n d ++ too_wide left ∷ full left ∷ []) → IsLawful left
   noted_lawful kind ok formed none =

@@ -1,4 +1,4 @@
--- Which facts stay where a deprecation is changed.
+-- Lemmas: the facts that are unchanged if a deprecation is changed.
 use Rattle.std.proofs.Common.{◌≡◌, ◌||◌, ◌⊎◌, List, [], ◌∷◌, ◌++◌, Bool, true, false, cond, Option, Some, None, refl, ap, sym, ◌∙◌, subst, inl, inr}
 use Rattle.std.specs.Prelude.{filter}
 use Rattle.std.specs.List.{list_any, flat_map}
@@ -24,7 +24,7 @@ use Rattle.cpe_rows.specs.Touching.{deprecation_changed, reaches, touches_deprec
 use Rattle.cpe_rows.proofs.ChainChanges.{same_ends}
 use Rattle.cpe_rows.proofs.Reaching.{none_reached}
 
--- what passes in none of the lists of the kept elements, passes in that of no kept one
+-- If nothing passes in the lists of the kept elements, then nothing passes in the list of any kept element x.
 module _ (p : Values → Bool) (of : Values → List Values) (keep : Values → Bool) where
   in_none : (xs : List Values) → list_any p (flat_map of (filter keep xs)) ≡ false → (x : Values) → Among xs x → keep x ≡ true
       → list_any p (of x) ≡ false
@@ -41,7 +41,7 @@ module _ (p : Values → Bool) (of : Values → List Values) (keep : Values → 
     go false e none (inl k) later = absurd (true≢false (sym t ∙ (ap keep (sym k) ∙ e)))
     go false e none (inr k) later = later none x k t
 
--- names that don't lead to n have the same ends
+-- Only names that lead to n have other ends after the change.
 module _ (es left : List Entry) (items : List Values) (n : Values) (same : (x : Values) → leads_to es x n ≡ false → ends left x ≡ ends es x) where
   abbrev both_ends : Values → List Values
   both_ends x = ends es x ++ ends left x
@@ -82,7 +82,7 @@ module _ (es left : List Entry) (items : List Values) (n : Values) (same : (x : 
       let none = none_reached (ends es f) touched parts.1 in
       λ i. truth (all_followed covers f parts.0 none.0 i) (all_followed maybe f parts.0 none.1 i)
 
--- other entries, in which names that don't lead to n have the same ends
+-- The entries are replaced by others. The ends of names that don't lead to n are unchanged.
 pub record KeepsOtherEnds (rows : Rows) (n : Values) (next : Rows) : Type 0 where
   pub entries : List Entry
   pub left : next ≡ record rows { entries = entries }

@@ -1,4 +1,4 @@
--- Truths do not differ from themselves.
+-- Lemmas: two equal lists of truths have no changes.
 use Rattle.std.proofs.Common.{◌≡◌, ℕ, ◌+◌, List, [], ◌∷◌, true, cond, Some, refl, ap, ◌∙◌}
 use Rattle.cpe_rows.specs.Truth.{same_truth}
 use Rattle.cpe_rows.specs.Changes.{change, differing}

@@ -1,4 +1,4 @@
--- An entry that is added changes no verdict.
+-- Lemmas: an added entry changes no verdict.
 use Rattle.std.proofs.Common.{◌≡◌, Bool, [], map, ap, ◌∙◌, refl, subst}
 use Rattle.std.specs.List.{list_any}
 use Rattle.cpe_name.specs.Eleven.{Values}

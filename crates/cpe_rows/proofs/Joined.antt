@@ -1,4 +1,4 @@
--- The tables on a list are the fold of the tables on two.
+-- Lemmas: AND and OR of a list are computed from those of two truths, by adding one truth at a time.
 use Rattle.std.proofs.Common.{◌≡◌, ℕ, ◌<◌, ◌+◌, List, [], ◌∷◌, ◌++◌, Bool, true, false, if◌then◌else◌, ◌||◌, length, take, get_or, map, refl, ap, ◌∙◌}
 use Rattle.std.specs.List.{list_any}
 use Rattle.std.proofs.lemmas.List.{map_more}
@@ -10,7 +10,7 @@ use Rattle.cpe_rows.specs.declared.truth.Truth.TheVariants.{True, False, Error, 
 use Rattle.cpe_rows.specs.declared.test.Operator.{Operator}
 use Rattle.cpe_rows.specs.declared.test.Operator.TheVariants.{And, Or}
 
--- the first of three, by whether each is there
+-- the first of three truths that is present, or else the last; each Boolean says whether one of the three is present
 abbrev pub pick : Truth → Truth → Bool → Bool → Bool → Truth
 pick first last f e u = if f then first else (if e then Error else (if u then Unknown else last))
 
@@ -50,7 +50,7 @@ joined-snoc And ts t =
 joined-snoc Or ts t =
     simp list_any-append (or-pick (list_any (same_truth True) ts) (list_any (same_truth Error) ts) (list_any (same_truth Unknown) ts) t)
 
--- the truths of one child more
+-- The joined truth with one more child is computed from the truth so far and the truth of the child.
 pub joined_more : {A : Type 0} (operator : Operator) (truth : A → Truth) (of : List A) (i : ℕ) (d : A) → i < length of
     → joined operator (map truth (take (i + 1) of)) ≡ joined operator (joined operator (map truth (take i of)) ∷ (truth (get_or of i d) ∷ []))
 joined_more operator truth of i d below = ap (joined operator) (map_more truth of i d below) ∙ joined-snoc operator (map truth (take i of)) (truth (get_or of i d))

@@ -1,4 +1,4 @@
--- What is kept for a check once a result is set or dropped.
+-- Lemmas: the truth of a check after a result was set or removed.
 use Rattle.std.proofs.Common.{◌≡◌, List, [], ◌∷◌, Bool, true, false, not, cond, Option, Some, None, refl, ap, sym, ◌∙◌}
 use Rattle.std.specs.Prelude.{find}
 use Rattle.std.specs.Option.{option_map_or}
@@ -32,7 +32,7 @@ module _ (k key : CheckKey) where
   same_test : (c : Result) → has_key k c ≡ true → has_key key c ≡ same_key key k
   same_test c e = ap (same_key key) (sym (key_is k c.0 e))
 
-  -- a result of another key than this stays before what becomes of the others
+  -- The law is true of a list with a result of another key in front, if it is true of the list without this result.
   other_first : (t : Truth) (c : Result) (cs ds : List Result) → has_key k c ≡ false → kept ds key ≡ cond (same_key key k) t (kept cs key)
       → kept (c ∷ ds) key ≡ cond (same_key key k) t (kept (c ∷ cs) key)
   other_first t c cs ds e later = go (has_key key c) refl where

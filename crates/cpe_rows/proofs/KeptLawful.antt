@@ -1,4 +1,4 @@
--- Every accepted edit leaves lawful rows.
+-- Lemmas: each accepted edit leaves lawful rows.
 use Rattle.cpe_rows.specs.Rows.{Rows}
 use Rattle.cpe_rows.specs.Lawful.{IsLawful}
 use Rattle.cpe_rows.specs.Accepted.{IsAccepted}

@@ -1,4 +1,4 @@
--- Texts and keys that are tested for being the same.
+-- Lemmas: the test of two texts or keys decides whether they are equal.
 use Rattle.std.proofs.Common.{◌≡◌, ℕ, ◌&&◌, List, true, false, sym, ◌∙◌}
 use Rattle.std.specs.Str.{bytes_eq}
 use Rattle.std.proofs.lemmas.Bool.{and_from, and_parts, false_from_ne_true, true≢false}

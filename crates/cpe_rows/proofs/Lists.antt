@@ -1,4 +1,4 @@
--- Tests over the elements of a list, and over a list with one element more.
+-- Lemmas about tests of a list's elements, and of lists with one element more.
 use Rattle.std.proofs.Common.{◌≡◌, ◌||◌, ◌&&◌, List, [], ◌∷◌, ◌++◌, Bool, true, false, cond, not, Some, None, refl, ap, sym, ◌∙◌, inl, inr}
 use Rattle.std.specs.Prelude.{ℕ, ◌<◌, ◌+◌, find, option_map, filter, is_some, length, position, slice_index_or, take}
 use Rattle.std.specs.List.{All, flat_map, list_any, list_all, position_from}
@@ -29,7 +29,7 @@ module _ {A : Type 0} where
   all_elements p [] h = refl
   all_elements p (x ∷ xs) h = and_from (p x) (list_all p xs) (h x (inl refl)) (all_elements p xs (λ a m. h a (inr m)))
 
-  -- two tests that agree at the elements keep the same of them
+  -- If two tests agree on the elements of a list, they keep the same elements.
   pub same_filter : (p q : A → Bool) (xs : List A) → ((a : A) → Among xs a → p a ≡ q a) → filter p xs ≡ filter q xs
   same_filter p q [] h = refl
   same_filter p q (x ∷ xs) h = λ i. cond (h x (inl refl) i) (x ∷ same_filter p q xs (λ a m. h a (inr m)) i) (same_filter p q xs (λ a m. h a (inr m)) i)
@@ -46,7 +46,7 @@ module _ {A : Type 0} where
   all_with_last p [] x h = λ i. h i && true
   all_with_last p (y ∷ ys) x h = ap (λ b. p y && b) (all_with_last p ys x h)
 
-  -- the last one is told apart from each before it
+  -- If an appended element differs from all others, the elements are all different exactly if they were so before.
   pub different_with_last : (same : A → A → Bool) (xs : List A) (x : A) → ((a : A) → Among xs a → same a x ≡ false)
       → are_different same (xs ++ x ∷ []) ≡ are_different same xs
   different_with_last same [] x h = refl
@@ -60,7 +60,7 @@ module _ {A : Type 0} where
     go true e later = let wrong : ⊥ = cc in absurd wrong
     go false e later = later e
 
-  -- what passes both tests, one after the other
+  -- Two filters, one after the other, keep the elements that pass both tests.
   pub both_pass : (p q : A → Bool) (xs : List A) → filter q (filter p xs) ≡ filter (λ x. p x && q x) xs
   both_pass p q [] = refl
   both_pass p q (x ∷ xs) = by (p x) (both_pass p q xs)
@@ -69,7 +69,7 @@ module _ {A : Type 0} where
       by true rest = ap (λ (ys : List A). cond (q x) (x ∷ ys) ys) rest
       by false rest = rest
 
-  -- there is a place from a number on where an element passes, and only there
+  -- `position_from` finds a place exactly if some element passes.
   pub from_place : (p : A → Bool) (i : ℕ) (xs : List A) → is_some (position_from p i xs) ≡ list_any p xs
   from_place p i [] = refl
   from_place p i (x ∷ xs) = by (p x) (from_place p (i + 1) xs)
@@ -81,7 +81,7 @@ module _ {A : Type 0} where
   pub has_place : (p : A → Bool) (xs : List A) → is_some (position p xs) ≡ list_any p xs
   has_place p xs = ap is_some (position_from-zero p xs) ∙ from_place p 0 xs
 
-  -- what holds of all that the first elements give, and of all that the next one gives, holds of all of both
+  -- If P is true of all values from the first elements and from the next element, it is true of the values from both.
   pub all_with_next : {B : Type 0} (P : B → Type 0) (f : A → List B) (xs : List A) (i : ℕ) (d : A) → i < length xs → All P (flat_map f (take i xs)) → All P (f (slice_index_or xs i d))
       → All P (flat_map f (take (i + 1) xs))
   all_with_next P f xs i d lt all one =

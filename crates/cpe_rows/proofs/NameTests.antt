@@ -1,4 +1,4 @@
--- Tests of names and what they test.
+-- Lemmas: `is_same` decides whether names are equal, and `is_lower` whether a name is in lower case.
 use Rattle.std.proofs.Common.{◌≡◌, ◌↔◌, Bool, true, false, IsTrue, refl, sym, ap, ◌∙◌, Decides}
 use Rattle.std.proofs.lemmas.Bool.{false_from_ne_true, true≢false}
 use Rattle.cpe_name.specs.Eleven.{Values}
@@ -6,7 +6,7 @@ use Rattle.cpe_name.specs.Equal.{same_name, same_name-Decides}
 use Rattle.cpe_name.specs.Lower.{lower_name, IsLower}
 use Rattle.cpe_rows.specs.Names.{is_same, is_lower}
 
--- a test that holds where another does is the other
+-- Two tests that decide the same statement have the same result.
 same_test : (a b : Bool) {P : Type 0} → IsTrue a ↔ P → Decides b P → a ≡ b
 same_test true b h d = sym (d.1 (h.0 refl))
 same_test false true h d = h.1 (d.0 refl)
@@ -24,7 +24,7 @@ pub is_lower_is : (n : Values) → IsTrue (is_lower n) ↔ IsLower n
 unfolding is_lower
 is_lower_is n = same_name-Decides (lower_name n) n
 
--- in lower case the same but for the case of letters is equal
+-- Two names in lower case are equal exactly if they differ at most in letter case.
 pub same_in_lower : (a b : Values) → IsLower a → IsLower b → IsTrue (is_same a b) ↔ (lower_name a ≡ lower_name b)
 same_in_lower a b la lb = let s = same_is a b in (λ h. ap lower_name (s.0 h), λ e. s.1 (sym la ∙ (e ∙ lb)))
 

@@ -1,4 +1,4 @@
--- Paths of entries: where they lead, by the names of entries that are all different.
+-- Lemmas about paths of entries with different names: to which entries they lead.
 use Rattle.std.proofs.Common.{◌≡◌, ◌⊎◌, List, [], ◌∷◌, Bool, true, false, not, cond, refl, ap, sym, ◌∙◌, subst, inl, inr}
 use Rattle.std.specs.Prelude.{filter}
 use Rattle.std.specs.List.{list_any}
@@ -16,7 +16,7 @@ use Rattle.cpe_rows.proofs.Reaches.{decided}
 use Rattle.cpe_rows.proofs.ChangedEntries.{AreNamed}
 
 module _ {A : Type 0} (p : A → Bool) where
-  -- an element that passes
+  -- Some element passes the test.
   abbrev pub Passes : List A → Type 0
   Passes xs = (a : A) × Among xs a × (p a ≡ true)
 
@@ -32,7 +32,7 @@ module _ {A : Type 0} (p : A → Bool) where
   element_passes (x ∷ xs) a (inl k) h = or_left (p x) (list_any p xs) (ap p k ∙ h)
   element_passes (x ∷ xs) a (inr k) h = or_right (p x) (list_any p xs) (element_passes xs a k h)
 
-  -- the elements that are kept are those that pass
+  -- Exactly the elements that pass are kept.
   pub was_kept : (xs : List A) (a : A) → Among (filter p xs) a → Among xs a × (p a ≡ true)
   was_kept [] a m = absurd m
   was_kept (x ∷ xs) a m = go (p x) refl m (was_kept xs a) where
@@ -50,7 +50,7 @@ module _ {A : Type 0} (p : A → Bool) where
     go true m = inr m
     go false m = m
 
--- a name fixes the entry
+-- Two entries of the same name are the same entry.
 pub same_entry : (es : List Entry) → AreNamed es → (a b : Entry) → Among es a → Among es b → a.name ≡ b.name → a ≡ b
 same_entry [] h a b k m e = absurd k
 same_entry (x ∷ xs) h a b k m e =
@@ -63,12 +63,12 @@ same_entry (x ∷ xs) h a b k m e =
       go (inr k) (inl m) new later = absurd (true≢false (sym ((same_is x.name a.name).1 (ap (λ (c : Entry). c.name) m ∙ sym e)) ∙ new a k))
       go (inr k) (inr m) new later = later k m e
 
--- an entry whose name is a successor's
+-- An entry whose name is among the successors of another entry is a successor of that entry.
 pub to_successor : (a b : Entry) (s : Values) → Among (successors_of a) s → s ≡ b.name → is_successor a b ≡ true
 to_successor a b s m e = element_passes (is_same b.name) (successors_of a) s m ((same_is b.name s).1 (sym e))
 
 module _ (es : List Entry) where
-  -- the path by which a name leads to another
+  -- There is a path by which the first name leads to an entry of the second name.
   abbrev pub HasPath : Values → Values → Type 0
   HasPath s y = (b : Entry) × Among es b × (y ≡ b.name) × (before : List Entry) × Leads is_successor es (is_named s) before b
 
@@ -87,7 +87,7 @@ module _ (es : List Entry) where
       ((same_is b.name b.name).1 refl)
 
   module _ (named : AreNamed es) where
-    -- one edge more
+    -- A path can be extended by one edge.
     pub leads_on : (s : Values) (a b : Entry) → Among es a → Among es b → is_successor a b ≡ true → leads_to es s a.name ≡ true
         → leads_to es s b.name ≡ true
     leads_on s a b k m edge h =
@@ -95,7 +95,7 @@ module _ (es : List Entry) where
         let before = subst (Leads is_successor es (is_named s) path.3) (same_entry es named path.0 a path.1 k (sym path.2)) path.4 in
         path_leads s b (a ∷ path.3) m (k, edge, before)
 
-    -- one path after another, by a successor of the first one's end
+    -- Two paths can be joined, if the second begins at a successor of the first one's last entry.
     leads_along : (s t : Values) (a : Entry) → Among es a → Among (successors_of a) t → leads_to es s a.name ≡ true
         → (before : List Entry) (b : Entry) → Among es b → Leads is_successor es (is_named t) before b → leads_to es s b.name ≡ true
     leads_along s t a k edge h [] b m l =

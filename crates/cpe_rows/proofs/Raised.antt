@@ -1,4 +1,5 @@
--- Which numbers an edit can raise, so that its faults in rows within their limits are its causes.
+-- Lemmas: the numbers that an edit can raise. So the first fault of an edit in rows within their limits is the first
+-- cause.
 use Rattle.std.proofs.Common.{◌≡◌, ℕ, ◌+◌, suc, List, [], ◌∷◌, ◌++◌, Bool, true, false, not, nat_lt, cond, length, map, Option, Some, None, refl, ap, sym, ◌∙◌}
 use Rattle.std.specs.Prelude.{find, option_map}
 use Rattle.std.proofs.lemmas.List.{length-append}
@@ -39,7 +40,7 @@ module _ (next : Rows) where
   abbrev number : Which → Option EditFault
   number which = when (exceeds next which) (fault.Full which)
 
-  -- the numbers that exceed their limits, one after the other
+  -- The first exceeded limit is the first fault of the list that has the fault of each limit.
   each_number : (ws : List Which) → first_some (option_map fault.Full (find (exceeds next) ws) ∷ []) ≡ first_some (map number ws)
   each_number [] = refl
   each_number (w ∷ ws) = go (exceeds next w) (each_number ws) where
@@ -48,7 +49,7 @@ module _ (next : Rows) where
     go true h = refl
     go false h = h
 
-  -- a number that does not exceed its limit is passed over
+  -- A number that does not exceed its limit has no fault, so it can be left out of the list.
   past : (w : Which) (ws : List Which) (os : List (Option EditFault)) → exceeds next w ≡ false → first_some (map number ws) ≡ first_some os
       → first_some (map number (w ∷ ws)) ≡ first_some os
   past w ws os e h = (λ i. first_some (when (e i) (fault.Full w) ∷ map number ws)) ∙ h
@@ -96,7 +97,7 @@ module _ (next : Rows) where
       (past limit.Statements (limit.Facts ∷ limit.Checks ∷ limit.Weight ∷ []) (number limit.Checks ∷ heavy next ∷ []) s
       (past limit.Facts (limit.Checks ∷ limit.Weight ∷ []) (number limit.Checks ∷ heavy next ∷ []) f refl)))
 
--- where one more is put last, the number of these alone may be too large
+-- If an element is appended, only the number of elements in this list, and the weight, may exceed their limits.
 with_last : {A : Type 0} (prefix : List (Option EditFault)) (next : Rows) (which : Which) (xs : List A) (x : A)
     → first_some (full next ∷ []) ≡ first_some (when (nat_lt (most which) (length (xs ++ x ∷ []))) (fault.Full which) ∷ heavy next ∷ [])
     → first_some (prefix ++ full next ∷ []) ≡ first_some (prefix ++ when (nat_lt (most which) (length xs + 1)) (fault.Full which) ∷ heavy next ∷ [])
@@ -111,7 +112,7 @@ module _ (rows : Rows) (h : AreWithin rows) where
   within : (which : Which) → exceeds rows which ≡ false
   within = each_within rows h
 
-  -- the entries but for one that is changed
+  -- A changed entry leaves the number of entries unchanged, so only the weight may exceed its limit.
   of_changed : (f : Entry → Entry) (n : Values) → let next : Rows = record rows { entries = changed f n rows.entries } in
       first_some (full next ∷ []) ≡ first_some (heavy next ∷ [])
   of_changed f n = raised_weight (record rows { entries = changed f n rows.entries })

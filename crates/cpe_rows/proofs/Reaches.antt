@@ -1,4 +1,4 @@
--- As many edges as there are elements are enough.
+-- Lemmas: an element that is reached at all is reached by as many edges as there are elements, or fewer.
 use Rattle.std.proofs.Common.{◌≡◌, ℕ, ◌+◌, ◌<◌, ◌≤◌, zero, suc, ◌||◌, ◌&&◌, ◌⊎◌, inl, inr, List, [], ◌∷◌, Bool, true, false, length, if◌then◌else◌, refl, ap, sym, ◌∙◌, arith}
 use Rattle.std.specs.List.{list_any}
 use Rattle.std.proofs.lemmas.Bool.{or_left, or_right, or_cases, and_from, and_parts}
@@ -8,7 +8,7 @@ module _ {A : Type 0} (edge : A → A → Bool) (all : List A) (start : A → Bo
   abbrev r : ℕ → A → Bool
   r = reached edge all start
 
-  -- two tests agree on a list
+  -- Two tests have the same results for the elements of a list.
   abbrev Same : (A → Bool) → (A → Bool) → List A → Type 0
   Same p q xs = (b : A) → Among xs b → p b ≡ q b
 
@@ -23,7 +23,7 @@ module _ {A : Type 0} (edge : A → A → Bool) (all : List A) (start : A → Bo
     one true n h = omega arith
     one false n h = omega arith
 
-  -- a test that passes more either passes the same, or more of the list
+  -- If q passes all that p passes, then both pass the same elements of a list, or q passes more of them.
   grew : (p q : A → Bool) → ((b : A) → p b ≡ true → q b ≡ true) → (xs : List A) → Same p q xs ⊎ (count p xs < count q xs)
   grew p q more [] = inl (λ b h. absurd h)
   grew p q more (x ∷ xs) = go (p x) (q x) refl refl (grew p q more xs) (below xs) where
@@ -48,7 +48,7 @@ module _ {A : Type 0} (edge : A → A → Bool) (all : List A) (start : A → Bo
   edges : ℕ → A → Bool
   edges n b = list_any (λ a. r n a && edge a b) all
 
-  -- what one edge leads to depends on the test at the elements alone
+  -- Which elements one more edge reaches depends only on the results of the test for the list's elements.
   same_any : (p q : A → Bool) (b : A) (xs : List A) → Same p q xs → list_any (λ a. p a && edge a b) xs ≡ list_any (λ a. q a && edge a b) xs
   same_any p q b [] s = refl
   same_any p q b (x ∷ xs) s = λ i. (s x (inl refl) i && edge x b) || same_any p q b xs (λ c h. s c (inr h)) i
@@ -59,7 +59,7 @@ module _ {A : Type 0} (edge : A → A → Bool) (all : List A) (start : A → Bo
   still : (n : ℕ) → Same (r n) (r (suc n)) all → Same (r (suc n)) (r (suc (suc n))) all
   still n s b h = λ i. s b h i || same_any (r n) (r (suc n)) b all s i
 
-  -- as many steps pass as many elements, or one step more passes no other
+  -- At least n elements are reached by n edges, or one edge more reaches no further element.
   filled : (n : ℕ) → (n ≤ count (r n) all) ⊎ Same (r n) (r (suc n)) all
   filled zero = inl (omega arith)
   filled (suc n) = go (filled n) (grew (r n) (r (suc n)) (more n) all) where
@@ -75,7 +75,7 @@ module _ {A : Type 0} (edge : A → A → Bool) (all : List A) (start : A → Bo
     go (inl h) (inl s) = s
     go (inl h) (inr lt) = absurd (omega (arith, count_le (r (suc (length all))) all))
 
-  -- a step beyond changes nothing
+  -- With as many edges as there are elements, one edge more reaches no further element.
   closed : (b : A) → Among all b → r (suc (length all)) b ≡ true → r (length all) b ≡ true
   closed b h e = done b h ∙ e
 
@@ -91,7 +91,7 @@ module _ {A : Type 0} (edge : A → A → Bool) (all : List A) (start : A → Bo
   found_at p a b (x ∷ xs) (inl h) e f = or_left (p x && edge x b) _ (ap (λ y. p y && edge y b) h ∙ and_from (p a) (edge a b) e f)
   found_at p a b (x ∷ xs) (inr h) e f = or_right (p x && edge x b) _ (found_at p a b xs h e f)
 
-  -- what is reached has a path
+  -- A path leads to each element that is reached.
   sound : (n : ℕ) (b : A) → r n b ≡ true → (before : List A) × Leads edge all start before b
   sound zero b e = ([], e)
   sound (suc n) b e = go (sound n) (or_cases (r n b) (list_any (λ a. r n a && edge a b) all) e) where
@@ -99,7 +99,7 @@ module _ {A : Type 0} (edge : A → A → Bool) (all : List A) (start : A → Bo
     go earlier (inl h) = earlier b h
     go earlier (inr h) = let last = found (r n) b all h in let rest = earlier last.0 last.2 in (last.0 ∷ rest.0, (last.1, last.3, rest.1))
 
-  -- what has a path is reached
+  -- Each element to which a path leads is reached.
   from_start : (n : ℕ) (b : A) → start b ≡ true → r n b ≡ true
   from_start zero b e = e
   from_start (suc n) b e = or_left (r n b) _ (from_start n b e)

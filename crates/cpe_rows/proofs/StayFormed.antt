@@ -1,4 +1,4 @@
--- What an edit leaves is formed as the rows and the edit are.
+-- Lemmas: if the rows and the edit are formed, the rows after the edit are formed.
 use Rattle.std.proofs.Common.{ℕ, List, [], ◌∷◌, Bool, true, false, cond, Option, Some, None}
 use Rattle.std.specs.Prelude.{All, IsTrue}
 use Rattle.std.proofs.lemmas.List.Elements.{All-cons, All-head, All-tail, All-push, All-nil}
@@ -33,7 +33,7 @@ module _ (P : Entry → Type 0) (f : Entry → Entry) (n : Values) (keeps : (e :
     go true one all later = All-cons P (f e) es (keeps e one) all
     go false one all later = All-cons P e (changed f n es) one later
 
--- an entry with another deprecation, and a note of it
+-- An entry stays formed if its deprecation is replaced and a note is added.
 deprecated_formed : (d : Option Deprecation) (kind : NoteKind) (date comment : List ℕ) (e : Entry)
     → All IsName (successors_of (deprecated d kind date comment e)) → IsTrue (is_date date) → IsFormedEntry e → IsFormedEntry (deprecated d kind date comment e)
 deprecated_formed d kind date comment e names dated h = record {

@@ -1,4 +1,4 @@
--- Laws of the tables on lists, and of tests that are negated.
+-- Lemmas: laws of AND and OR of lists, and of negated tests.
 use Rattle.std.proofs.Common.{◌≡◌, ◌↔◌, ◌||◌, List, [], ◌∷◌, map, Bool, true, false, cond, refl, ap, sym, ◌∙◌, rules}
 use Rattle.std.specs.Bool.{Decides, one_answer}
 use Rattle.std.specs.Cmp.{decided}
@@ -20,7 +20,7 @@ use Rattle.cpe_rows.specs.declared.test.Test.TheVariants.{rolls-Logic}
 use Rattle.cpe_rows.specs.declared.test.Test.TheOpen.{Test-F}
 use Rattle.cpe_rows.proofs.Joined.{pick}
 
--- ---- members
+-- ---- the truths of a list
 
 abbrev is_in : Truth → List Truth → Bool
 is_in t ts = list_any (same_truth t) ts
@@ -72,7 +72,7 @@ false_parts : (t : Truth) (f e u : Bool)
     → (t ≡ False) × (pick True False f e u ≡ False)
 false_parts t f e u h = search rules
 
--- each of what is joined to the neutral truth is neutral
+-- If the joined truth is the neutral truth, then each joined part is the neutral truth.
 parts : (o : Operator) (t : Truth) (ts : List Truth) → joined o (t ∷ ts) ≡ joined o []
     → (t ≡ joined o []) × (joined o ts ≡ joined o [])
 parts And t ts h = true_parts t (is_in False ts) (is_in Error ts) (is_in Unknown ts) h
@@ -94,7 +94,7 @@ all_neutral o ts = (
   λ k. from_neutral o ts (recursion_from_All (λ t. t ≡ joined o []) ts k),
 )
 
--- ---- negation: the first of an order, negated, is the first of the negated order
+-- ---- negation: the first truth of an order, negated, is the first truth of the negated order
 
 same_negated : (t u : Truth) → same_truth t u ≡ same_truth (not_of t) (not_of u)
 same_negated t u = search rules
@@ -119,7 +119,7 @@ not_and = not_first (False ∷ Error ∷ Unknown ∷ []) True
 pub not_or : (ts : List Truth) → not_of (joined Or ts) ≡ joined And (map not_of ts)
 not_or = not_first (True ∷ Error ∷ Unknown ∷ []) False
 
--- ---- tests
+-- ---- negated tests
 
 alone : (o : Operator) (t : Truth) → joined o (t ∷ []) ≡ t
 alone o t = search rules

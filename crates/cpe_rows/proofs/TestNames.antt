@@ -1,4 +1,4 @@
--- The names of a test's fact references.
+-- Lemmas: the names of a test's facts, from those of its children.
 use Rattle.std.proofs.Common.{◌≡◌, List, Bool, ap, sym, ◌∙◌}
 use Rattle.std.proofs.lemmas.List.Folds.{flat_map-map}
 use Rattle.std.specs.List.{flat_map}

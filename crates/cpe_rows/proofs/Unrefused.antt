@@ -1,4 +1,4 @@
--- What is known where no fault was found.
+-- Lemmas about edits without faults.
 use Rattle.std.proofs.Common.{◌≡◌, ℕ, ◌+◌, ◌||◌, List, [], ◌∷◌, ◌++◌, Bool, true, false, not, cond, Option, Some, None, Ok, refl, sym, ◌∙◌, subst, inl, inr}
 use Rattle.std.specs.Prelude.{option_map, position}
 use Rattle.std.specs.List.{list_any, list_all, position_from, AllByRecursion}
@@ -15,7 +15,7 @@ use Rattle.cpe_rows.specs.declared.edit.Edit.{Edit}
 use Rattle.cpe_rows.specs.declared.fault.EditFault.{EditFault}
 use Rattle.cpe_rows.proofs.Lists.{no_element, not_element}
 
--- no fault of the edit
+-- The edit has no fault.
 abbrev pub IsUnrefused : Rows → Edit → Type 0
 IsUnrefused rows e = AllByRecursion (λ o. o ≡ None) (faults rows e)
 
@@ -59,7 +59,7 @@ module _ {A : Type 0} where
   all_where_none_not p (x ∷ xs) h = let parts = or_parts (not (p x)) (list_any (λ x. not (p x)) xs) h in
       and_from (p x) (list_all p xs) (not-false (p x) parts.0) (all_where_none_not p xs parts.1)
 
-  -- what doesn't equal what was seen before it equals nothing after it
+  -- If no element is equal to an earlier one, then none is equal to a later one.
   module _ (same : A → A → Bool) (other : (a b : A) → same a b ≡ false → same b a ≡ false) where
     abbrev Apart : List A → List A → Type 0
     Apart xs seen = (a : A) → Among xs a → (c : A) → Among seen c → same a c ≡ false

@@ -1,4 +1,4 @@
--- What an accepted edit doesn't touch stays.
+-- Lemmas: facts, checks and verdicts that an accepted edit doesn't touch are unchanged.
 use Rattle.std.proofs.Common.{◌≡◌, false, refl, subst}
 use Rattle.cpe_name.specs.Eleven.{Values}
 use Rattle.cpe_rows.specs.Rows.{Rows}
@@ -31,7 +31,7 @@ facts_after rows next (edit.PutStatement s) Plain f a h = refl
 facts_after rows next (edit.PutStatement s) Follow f a h = refl
 facts_after rows next (edit.DropStatement id) Plain f a h = refl
 facts_after rows next (edit.DropStatement id) Follow f a h = refl
-facts_after rows next (edit.SetCheck k t) mode f a h = check.kept_facts rows k t mode f
+facts_after rows next (edit.SetCheck k t) mode f a h = check.fact_boards rows k t mode f
 facts_after rows next (edit.DropCheck k) mode f a h = check.dropped_facts rows k mode f
 
 checks_after : (rows : Rows) (e : Edit) (key : CheckKey) → touches_check e key ≡ false → check_truth (after rows e) key ≡ check_truth rows key

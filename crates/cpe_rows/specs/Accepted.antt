@@ -1,4 +1,4 @@
--- A valid and formed edit of lawful rows that is not refused.
+-- An edit is accepted: the rows are lawful, the edit is valid and formed, and `step` returns the next rows.
 use Rattle.std.specs.Prelude.{◌≡◌, true, Ok}
 use Rattle.cpe_rows.specs.Rows.{Rows}
 use Rattle.cpe_rows.specs.Valid.{is_valid_edit}

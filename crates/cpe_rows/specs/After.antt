@@ -1,4 +1,4 @@
--- The rows that each edit leaves, where it is accepted.
+-- The rows after each edit, if the edit is accepted.
 use Rattle.std.specs.Prelude.{ℕ, List, [], ◌∷◌, ◌++◌, Bool, if◌then◌else◌, Option, Some, None}
 use Rattle.cpe_name.specs.Eleven.{Values}
 use Rattle.cpe_rows.specs.Names.{is_same}
@@ -13,25 +13,25 @@ use Rattle.cpe_rows.specs.declared.entry.NoteKind.TheVariants as note
 use Rattle.cpe_rows.specs.declared.edit.Edit.{Edit}
 use Rattle.cpe_rows.specs.declared.edit.Edit.TheVariants as edit
 
--- the entry of this name changed
+-- the entries, with a change of the entry of this name
 abbrev pub changed : (Entry → Entry) → Values → List Entry → List Entry
 changed f n [] = []
 changed f n (e ∷ es) = if is_named n e then f e ∷ es else e ∷ changed f n es
 
--- a note goes last
+-- the provenance with one more note, which is the last
 abbrev pub noted : NoteKind → List ℕ → List ℕ → Provenance → Provenance
 noted kind date comment v = record v { notes = v.notes ++ record { kind = kind; date = date; comment = comment } ∷ [] }
 
--- another deprecation or none, and a note of it
+-- the entry with another deprecation or with none, and with a note about the change
 abbrev pub deprecated : Option Deprecation → NoteKind → List ℕ → List ℕ → Entry → Entry
 deprecated d kind date comment e = record e { deprecation = d; provenance = noted kind date comment e.provenance }
 
--- the list closed up after the first that passes, which is left out
+-- the list without its first element that passes
 abbrev pub without_first : {A : Type 0} → (A → Bool) → List A → List A
 without_first passes [] = []
 without_first passes (x ∷ xs) = if passes x then xs else x ∷ without_first passes xs
 
--- the result stands where that of an equal key stood, or else after all others
+-- The result replaces the result of an equal key. If there is none, it is appended.
 abbrev pub with_check : CheckKey → Truth → List (CheckKey × Truth) → List (CheckKey × Truth)
 with_check k t [] = (k, t) ∷ []
 with_check k t (c ∷ cs) = if has_key k c then (c.0, t) ∷ cs else c ∷ with_check k t cs

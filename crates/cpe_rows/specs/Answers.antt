@@ -1,4 +1,4 @@
--- What each query answers. An absent name or id has an answer too.
+-- The answer to each query. Absent names and ids have answers too.
 use Rattle.std.specs.Prelude.{List, Bool, ◌&&◌, ◌||◌, map, filter, find, not, option_map}
 use Rattle.std.specs.Option.{option_map_or}
 use Rattle.cpe_name.specs.Eleven.{Values}
@@ -16,19 +16,19 @@ use Rattle.cpe_rows.specs.declared.reply.Row.{Row}
 use Rattle.cpe_rows.specs.declared.reply.Reply.{Reply}
 use Rattle.cpe_rows.specs.declared.reply.Reply.TheVariants as reply
 
--- active, or the kind of the deprecation
+-- the state of an entry: active, or deprecated with a kind
 abbrev pub state_of : Entry → State
 state_of e = option_map_or (λ d. Deprecated d.kind) e.deprecation Active
 
--- the entry in short
+-- the summary of an entry
 abbrev pub row_of : Entry → Row
 row_of e = record { name = e.name; state = state_of e }
 
--- the name covers the entry, which is active where that is asked
+-- The name covers the entry. The entry is active, if only active entries are wanted.
 abbrev pub is_found : Values → Bool → Entry → Bool
 is_found n active_only e = covers n e.name && (not active_only || is_active e)
 
--- the found entries in their order, each in short
+-- the summaries of the found entries, in their order
 abbrev pub rows_found : Values → Bool → List Entry → List Row
 rows_found n active_only entries = map row_of (filter (is_found n active_only) entries)
 

@@ -1,4 +1,4 @@
--- What an edit answers and leaves where it is applied.
+-- The answer of an edit, and the rows after it.
 use Rattle.std.specs.Prelude.{◌≡◌, Result, Ok, Err, ⊤}
 use Rattle.cpe_rows.specs.Rows.{Rows}
 use Rattle.cpe_rows.specs.Step.{step}
@@ -6,12 +6,13 @@ use Rattle.cpe_rows.specs.declared.edit.Edit.{Edit}
 use Rattle.cpe_rows.specs.declared.fault.EditFault.{EditFault}
 use Rattle.cpe_rows.specs.declared.fault.EditFault.TheVariants.{Memory}
 
--- the fault is the step's, unless memory ran out
-abbrev pub Refuses : EditFault → Result Rows EditFault → Type 0
-Refuses Memory stepped = ⊤
-Refuses f stepped = stepped ≡ Err f
+-- The fault is that of `step`, unless memory ran out.
+abbrev pub RefusesEdit : EditFault → Result Rows EditFault → Type 0
+RefusesEdit Memory stepped = ⊤
+RefusesEdit f stepped = stepped ≡ Err f
 
--- the new rows are the step's, whatever is answered beside them; after a fault, and where memory ran out, they are the old ones
+-- If an edit succeeds, the new rows are those of `step`, and any answer is allowed. If it fails or memory runs out, the
+-- rows are unchanged.
 abbrev pub Applied : {A : Type 0} → Rows → Rows → Edit → Result A EditFault → Type 0
 Applied old new e (Ok answer) = step old e ≡ Ok new
-Applied old new e (Err f) = (new ≡ old) × Refuses f (step old e)
+Applied old new e (Err f) = (new ≡ old) × RefusesEdit f (step old e)

@@ -1,5 +1,5 @@
--- Why an edit of rows within their limits is refused: its faults without the numbers that it cannot raise, and the weight of the
--- rows that it would leave. Those of an edit of one list are told of that list alone.
+-- Causes to refuse an edit of rows within their limits: the faults, without limits that the edit cannot exceed. The
+-- weight of the rows is separate (`heavy`). If an edit changes only one list, its causes are computed from this list.
 use Rattle.std.specs.Prelude.{◌≡◌, ◌+◌, ◌++◌, List, [], ◌∷◌, ⊤, length, nat_lt, not, Option, Some}
 use Rattle.std.specs.List.{list_any}
 use Rattle.cpe_name.specs.Eleven.{Values}
@@ -19,35 +19,35 @@ use Rattle.cpe_rows.specs.declared.fault.EditFault.{EditFault}
 use Rattle.cpe_rows.specs.declared.fault.EditFault.TheVariants as fault
 use Rattle.cpe_rows.specs.declared.fault.Which.TheVariants as limit
 
--- the fault is the one that was found, unless memory ran out
+-- The fault is the one that was found, unless memory ran out.
 abbrev pub IsCause : EditFault → Option EditFault → Type 0
 IsCause fault.Memory found = ⊤
 IsCause f found = found ≡ Some f
 
--- why the entry can't be added
+-- causes to refuse an entry
 abbrev pub entry_causes : List Entry → Entry → List (Option EditFault)
 entry_causes entries e =
     when (not (is_identifier e.name)) fault.NotIdentifier ∷ when (has_wildcards e.name) fault.Wildcards
     ∷ when (list_any (is_named e.name) entries) fault.Exists
     ∷ when (nat_lt (most limit.Entries) (length entries + 1)) (fault.Full limit.Entries) ∷ []
 
--- the same of an item
+-- causes to refuse an item
 abbrev pub item_causes : List Values → Values → List (Option EditFault)
 item_causes items n =
     when (list_any (is_same n) items) fault.Exists ∷ when (nat_lt (most limit.Items) (length items + 1)) (fault.Full limit.Items) ∷ []
 
--- the same of a statement
+-- causes to refuse a statement
 abbrev pub statement_causes : List Statement → Statement → List (Option EditFault)
 statement_causes statements s =
     when (list_any (has_id s.id) statements) fault.Exists
     ∷ when (nat_lt (most limit.Statements) (length statements + 1)) (fault.Full limit.Statements)
     ∷ when (nat_lt (most limit.Facts) (number_of_facts (statements ++ s ∷ []))) (fault.Full limit.Facts) ∷ []
 
--- the same of a check result
+-- causes to refuse a check result
 abbrev pub check_causes : List (CheckKey × Truth) → CheckKey → Truth → List (Option EditFault)
 check_causes checks k t = when (nat_lt (most limit.Checks) (length (with_check k t checks))) (fault.Full limit.Checks) ∷ []
 
--- why an edit is refused, but for the weight
+-- causes to refuse an edit, without the weight
 abbrev pub causes : Rows → Edit → List (Option EditFault)
 causes rows (edit.Entry e) = entry_causes rows.entries e
 causes rows (edit.Item n) = item_causes rows.items n
@@ -66,6 +66,6 @@ causes rows (edit.DropStatement id) = when (not (is_statement rows id)) fault.Un
 causes rows (edit.SetCheck k t) = check_causes rows.checks k t
 causes rows (edit.DropCheck k) = when (not (is_checked rows k)) fault.Unknown ∷ []
 
--- the rows would weigh too much
+-- the fault of rows that weigh too much
 abbrev pub heavy : Rows → Option EditFault
 heavy next = when (exceeds next limit.Weight) (fault.Full limit.Weight)

@@ -1,4 +1,4 @@
--- How many rows there are of each kind, and how much of them.
+-- The number of rows of each kind, the number of facts, and the weight.
 use Rattle.std.specs.Prelude.{length, filter, not}
 use Rattle.cpe_rows.specs.Rows.{Rows}
 use Rattle.cpe_rows.specs.Chains.{is_active}

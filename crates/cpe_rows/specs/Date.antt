@@ -1,8 +1,8 @@
--- The shape of a date: four digits, `-`, two digits, `-`, two digits.
+-- The form of a date: four digits, `-`, two digits, `-`, two digits.
 use Rattle.std.specs.Prelude.{ℕ, ◌==◌, ◌&&◌, List, [], ◌∷◌, Bool, true, false}
 use Rattle.std.specs.Char.{is_ascii_digit}
 
--- as many bytes as there are tests, each of which passes its own
+-- There are as many bytes as tests, and each byte passes the test at its place.
 abbrev pub follows : List (ℕ → Bool) → List ℕ → Bool
 follows [] [] = true
 follows [] (b ∷ bs) = false

@@ -1,4 +1,4 @@
--- The truth of a test (NIST IR 7698), from the truths of its fact references and check references.
+-- The truth of a test (NIST IR 7698), from the truths of its facts and checks.
 use Rattle.std.specs.Prelude.{List, Bool, true, false}
 use Rattle.cpe_name.specs.Eleven.{Values}
 use Rattle.cpe_rows.specs.Truth.{and_all, or_all, not_of}
@@ -10,17 +10,17 @@ use Rattle.cpe_rows.specs.declared.test.Test.{Test}
 use Rattle.cpe_rows.specs.declared.test.Test.TheOpen.{Test-F}
 use Rattle.cpe_rows.specs.declared.test.Test.TheFolds.{fold-Test}
 
--- a logical test joins the truths of its children by its operator
+-- the truths of the children, joined by the operator
 abbrev pub joined : Operator → List Truth → Truth
 joined And ts = and_all ts
 joined Or ts = or_all ts
 
--- and swaps what it joined where it negates
+-- the joined truth, negated if the test negates
 abbrev pub negated : Bool → Truth → Truth
 negated true t = not_of t
 negated false t = t
 
--- one level of a test, with the truth of each child in its place
+-- the truth of a test, from the truths of its children
 abbrev pub test_truth_step : (Values → Truth) → (CheckKey → Truth) → Test-F Truth → Truth
 test_truth_step fact check (Test-F.Logic operator negate of) = negated negate (joined operator of)
 test_truth_step fact check (Test-F.Fact name) = fact name

@@ -1,4 +1,4 @@
--- The names of a test's fact references, in the order of its arrays, and how many there are.
+-- The names of a test's facts, in the order in which the test lists them, and the number of facts.
 use Rattle.std.specs.Prelude.{ℕ, List, [], ◌∷◌, length}
 use Rattle.std.specs.List.{flat_map}
 use Rattle.cpe_name.specs.Eleven.{Values}
@@ -12,10 +12,10 @@ fact_names_step (Test-F.Logic operator negate of) = flat_map (λ names. names) o
 fact_names_step (Test-F.Fact name) = name ∷ []
 fact_names_step (Test-F.Check key) = []
 
--- each as often as it stands there
+-- the names of the facts; a repeated fact is listed each time
 abbrev pub fact_names : Test → List Values
 fact_names = fold-Test (List Values) fact_names_step
 
--- the fact references of all statements, each counted as often as it stands there
+-- the number of facts in all statements; a repeated fact counts each time
 abbrev pub number_of_facts : List Statement → ℕ
 number_of_facts statements = length (flat_map (λ s. fact_names s.test) statements)

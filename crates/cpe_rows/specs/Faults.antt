@@ -1,4 +1,4 @@
--- Why an edit is refused: the causes of each edit, in the order in which they are tested. Places are counted from 1.
+-- The faults of an edit, in the order in which they are tested. Places count from 1.
 use Rattle.std.specs.Prelude.{ℕ, ◌+◌, ◌&&◌, List, [], ◌∷◌, ◌++◌, length, find, Bool, false, not, nat_le, if◌then◌else◌, Option, Some, None, option_map, position}
 use Rattle.std.specs.Option.{option_map_or}
 use Rattle.std.specs.List.{list_any}
@@ -20,29 +20,30 @@ use Rattle.cpe_rows.specs.declared.fault.EditFault.TheVariants as fault
 abbrev pub when : Bool → EditFault → Option EditFault
 when b f = if b then Some f else None
 
--- ---- of the rows that an edit would leave
+-- ---- faults of the rows after an edit
 
--- the first number that exceeds its limit
+-- the first limit that the rows exceed
 abbrev pub full : Rows → Option EditFault
 full rows = option_map fault.Full (find (exceeds rows) limited)
 
--- the first entry with too many ends
+-- the first entry that has too many ends
 abbrev pub too_wide : Rows → Option EditFault
 too_wide rows = option_map (λ e. fault.TooWide e.name) (find (is_wide rows.entries) rows.entries)
 
--- ---- of a deprecation
+-- ---- faults of a deprecation
 
--- a deprecation of this kind may have so many successors
+-- A deprecation of this kind may have n successors.
 abbrev pub is_count : Kind → ℕ → Bool
 is_count NameRemoval n = nat_le n 0
 is_count NameCorrection n = nat_le 1 n && nat_le n MOST_SUCCESSORS
 is_count AdditionalInformation n = nat_le 1 n && nat_le n MOST_SUCCESSORS
 
--- the place of the first that passes
+-- the place of the first element that passes
 abbrev pub place_of : {A : Type 0} → (A → Bool) → List A → Option ℕ
 place_of passes xs = option_map (λ k. k + 1) (position passes xs)
 
--- the place, counted on from k, of the first that was seen or stands earlier too
+-- the place of the first element that is equal to an earlier element, or to one that was seen; the first element has
+-- place k
 abbrev pub repeated_from : {A : Type 0} → (A → A → Bool) → List A → ℕ → List A → Option ℕ
 repeated_from same seen k [] = None
 repeated_from same seen k (x ∷ xs) = if list_any (same x) seen then Some k else repeated_from same (x ∷ seen) (k + 1) xs
@@ -58,7 +59,7 @@ successor_faults rows n d =
 abbrev pub is_deprecated : Rows → Values → Bool
 is_deprecated rows n = option_map_or (λ e. not (is_active e)) (entry_of rows n) false
 
--- ---- of an edit
+-- ---- faults of an edit
 
 abbrev pub faults : Rows → Edit → List (Option EditFault)
 faults rows (edit.Entry e) =

@@ -1,4 +1,5 @@
--- What rows and edits have by the types of their parts: names are well-formed (NIST IR 7695, 5), and dates have the shape of one.
+-- Properties that rows and edits have by the types of their parts: names are well-formed (NIST IR 7695, 5), and dates
+-- have the form of a date.
 use Rattle.std.specs.Prelude.{⊤, IsTrue, All}
 use Rattle.cpe_name.specs.Names.{IsName}
 use Rattle.cpe_rows.specs.Rows.{Rows}

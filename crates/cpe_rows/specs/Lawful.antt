@@ -1,4 +1,4 @@
--- What holds of all rows that accepted edits left.
+-- Properties of lawful rows. All accepted edits leave lawful rows.
 use Rattle.std.specs.Prelude.{◌≡◌, ◌&&◌, List, [], ◌∷◌, length, Bool, true, false, not}
 use Rattle.std.specs.List.{list_any, list_all}
 use Rattle.std.specs.Option.{option_map_or}
@@ -13,32 +13,32 @@ use Rattle.cpe_rows.specs.Formed.{AreFormed}
 use Rattle.cpe_rows.specs.declared.entry.Entry.{Entry}
 use Rattle.cpe_rows.specs.declared.statement.Statement.{Statement}
 
--- each is told apart from those after it
+-- No two elements of the list are the same, by this test.
 abbrev pub are_different : {A : Type 0} → (A → A → Bool) → List A → Bool
 are_different same [] = true
 are_different same (x ∷ xs) = not (list_any (same x) xs) && are_different same xs
 
--- an identifier without specials, in lower case
+-- The name is in lower case, without specials, and its part, vendor and product are texts.
 abbrev pub is_entry_name : Values → Bool
 is_entry_name n = is_lower n && is_identifier n && not (has_wildcards n)
 
--- the deprecation, if there is one, has as many successors as its kind allows
+-- The deprecation, if there is one, has a number of successors that its kind allows.
 abbrev pub has_count : Entry → Bool
 has_count e = option_map_or (λ d. is_count d.kind (length d.successors)) e.deprecation true
 
--- each successor is an entry
+-- Each successor is an entry.
 abbrev pub has_successors : List Entry → Entry → Bool
 has_successors entries e = list_all (λ s. list_any (is_named s) entries) (successors_of e)
 
--- a path leads from a successor of the entry back to it
+-- A path leads from a successor of the entry back to the entry.
 abbrev pub is_cyclic : List Entry → Entry → Bool
 is_cyclic entries e = list_any (λ s. leads_to entries s e.name) (successors_of e)
 
--- an id, and a test that a statement may have, whose names are in lower case
+-- The statement has a valid id, and a test that a statement may have. The names in the test are in lower case.
 abbrev pub is_lawful_statement : Statement → Bool
 is_lawful_statement s = is_id s.id && is_statement_test s.test
 
--- what holds of the dictionary
+-- properties of lawful entries
 pub record IsDictionary (entries : List Entry) : Type 0 where
   pub names : list_all (λ e. is_entry_name e.name) entries ≡ true
   pub names_differ : are_different (λ e. is_named e.name) entries ≡ true

@@ -1,4 +1,4 @@
--- How many rows there may be, and how much of them.
+-- The numbers of rows, their limits, and the limit of an entry's ends.
 use Rattle.std.specs.Prelude.{◌≡◌, ℕ, List, [], ◌∷◌, length, Bool, false, nat_lt}
 use Rattle.std.specs.List.{list_any}
 use Rattle.cpe_rows.specs.Rows.{Rows}
@@ -18,7 +18,7 @@ number_of limit.Facts rows = number_of_facts rows.statements
 number_of limit.Checks rows = length rows.checks
 number_of limit.Weight rows = weight rows
 
--- no number is greater
+-- the highest number allowed
 abbrev pub most : Which → ℕ
 most limit.Entries = MOST_ENTRIES
 most limit.Items = MOST_ITEMS
@@ -27,17 +27,17 @@ most limit.Facts = MOST_FACTS
 most limit.Checks = MOST_CHECKS
 most limit.Weight = MOST_WEIGHT
 
--- what is limited, in the order in which it is tested
+-- all quantities that have a limit, in the order in which they are tested
 abbrev pub limited : List Which
 limited = limit.Entries ∷ limit.Items ∷ limit.Statements ∷ limit.Facts ∷ limit.Checks ∷ limit.Weight ∷ []
 
 abbrev pub exceeds : Rows → Which → Bool
 exceeds rows which = nat_lt (most which) (number_of which rows)
 
--- no number of the rows exceeds its limit
+-- No number of the rows exceeds its limit.
 abbrev pub AreWithin : Rows → Type 0
 AreWithin rows = list_any (exceeds rows) limited ≡ false
 
--- an entry has more ends than it may
+-- The entry has more ends than allowed.
 abbrev pub is_wide : List Entry → Entry → Bool
 is_wide entries e = nat_lt MOST_ENDS (length (ends entries e.name))

@@ -1,4 +1,4 @@
--- Tests that negate others, and tests that say the same.
+-- Tests that negate another test, and tests that have the same truth.
 use Rattle.std.specs.Prelude.{◌≡◌, [], ◌∷◌, true}
 use Rattle.cpe_name.specs.Eleven.{Values}
 use Rattle.cpe_rows.specs.Truth.{not_of}
@@ -8,15 +8,15 @@ use Rattle.cpe_rows.specs.declared.test.CheckKey.{CheckKey}
 use Rattle.cpe_rows.specs.declared.test.Operator.{Operator}
 use Rattle.cpe_rows.specs.declared.test.Test.{Test, Logic}
 
--- the logical test that negates this one alone
+-- the logical test that negates this test, its only child
 abbrev pub negation_of : Operator → Test → Test
 negation_of o t = Logic o true (t ∷ [])
 
--- one truth, whatever is known of facts and checks
+-- Both tests have the same truth, for all truths of facts and checks.
 abbrev pub HaveSameTruth : Test → Test → Type 0
 HaveSameTruth s t = (fact : Values → Truth) (check : CheckKey → Truth) → test_truth fact check s ≡ test_truth fact check t
 
--- the truth of the second negated, whatever is known of facts and checks
+-- The first test has the negated truth of the second, for all truths of facts and checks.
 abbrev pub HasNegatedTruth : Test → Test → Type 0
 HasNegatedTruth s t =
     (fact : Values → Truth) (check : CheckKey → Truth) → test_truth fact check s ≡ not_of (test_truth fact check t)

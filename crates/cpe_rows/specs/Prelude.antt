@@ -1,4 +1,4 @@
--- What most contracts over the plain state name, in one place.
+-- The words that most contracts about the rows use, gathered in one file.
 pub use Rattle.cpe_name.specs.Eleven.{Values}
 pub use Rattle.cpe_name.specs.Lower.{IsLower}
 pub use Rattle.cpe_relation.specs.NameRelation.{covers}
@@ -16,6 +16,6 @@ pub use Rattle.cpe_rows.specs.After.{after, changed, with_check, without_first}
 pub use Rattle.cpe_rows.specs.Faults.{when}
 pub use Rattle.cpe_rows.specs.Causes.{IsCause, causes}
 pub use Rattle.cpe_rows.specs.Step.{first_some, step}
-pub use Rattle.cpe_rows.specs.Applied.{Applied, Refuses}
+pub use Rattle.cpe_rows.specs.Applied.{Applied, RefusesEdit}
 pub use Rattle.cpe_rows.specs.Accepted.{IsAccepted}
 pub use Rattle.cpe_rows.specs.Changes.{change, changes, others}

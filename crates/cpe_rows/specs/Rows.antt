@@ -1,5 +1,5 @@
--- The plain state: the rows that accepted edits left, in the order in which they came. Names are in lower case.
--- Nothing else is kept in it: no number, no index, no verdict.
+-- The rows that accepted edits leave, in the order in which they were added. Names are in lower case. The rows have no
+-- numbers, indexes or verdicts.
 use Rattle.std.specs.Prelude.{ℕ, List, [], ◌&&◌, Bool, Option, find}
 use Rattle.std.specs.List.{list_any}
 use Rattle.std.specs.Str.{bytes_eq}
@@ -20,11 +20,11 @@ pub record Rows : Type 0 where
 abbrev pub no_rows : Rows
 no_rows = record { entries = []; items = []; statements = []; checks = [] }
 
--- the entry has this name
+-- The entry has this name.
 abbrev pub is_named : Values → Entry → Bool
 is_named n e = is_same n e.name
 
--- the entry of this name
+-- the entry of this name, if there is one
 abbrev pub entry_of : Rows → Values → Option Entry
 entry_of rows n = find (is_named n) rows.entries
 
@@ -34,22 +34,22 @@ is_entry rows n = list_any (is_named n) rows.entries
 abbrev pub is_item : Rows → Values → Bool
 is_item rows n = list_any (is_same n) rows.items
 
--- the statement has this id
+-- The statement has this id.
 abbrev pub has_id : List ℕ → Statement → Bool
 has_id id s = bytes_eq s.id id
 
--- a statement has this id
+-- Some statement has this id.
 abbrev pub is_statement : Rows → List ℕ → Bool
 is_statement rows id = list_any (has_id id) rows.statements
 
--- the same system, reference and id
+-- Two keys have the same system, reference and id.
 abbrev pub same_key : CheckKey → CheckKey → Bool
 same_key a b = bytes_eq a.system b.system && (bytes_eq a.href b.href && bytes_eq a.id b.id)
 
--- the result is that of this key
+-- The result has this key.
 abbrev pub has_key : CheckKey → (CheckKey × Truth) → Bool
 has_key k c = same_key k c.0
 
--- a result is kept for this key
+-- A result with this key is kept.
 abbrev pub is_checked : Rows → CheckKey → Bool
 is_checked rows k = list_any (has_key k) rows.checks

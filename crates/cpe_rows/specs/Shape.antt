@@ -1,4 +1,4 @@
--- How deep a test is, and whether it is sound at each level.
+-- The depth of a test, and whether the test is sound: both are computed from the children.
 use Rattle.std.specs.Prelude.{ℕ, suc, max, ◌&&◌, List, [], ◌∷◌, Bool, true, nat_lt, length}
 use Rattle.std.specs.List.{list_all}
 use Rattle.cpe_rows.specs.Names.{is_lower}
@@ -15,7 +15,7 @@ depth_step (Test-F.Logic operator negate of) = suc (largest of)
 depth_step (Test-F.Fact name) = 0
 depth_step (Test-F.Check key) = 0
 
--- its levels of logic: one, and those of the deepest of its children
+-- the number of levels of logical tests: one more than that of the deepest child
 abbrev pub depth_of : Test → ℕ
 depth_of = fold-Test ℕ depth_step
 
@@ -24,6 +24,6 @@ sound_step (Test-F.Logic operator negate of) = nat_lt 0 (length of) && list_all 
 sound_step (Test-F.Fact name) = is_lower name
 sound_step (Test-F.Check key) = true
 
--- each logical test has a child, and each name is in lower case
+-- Each logical test has a child, and each name is in lower case.
 abbrev pub is_sound : Test → Bool
 is_sound = fold-Test Bool sound_step

@@ -1,4 +1,4 @@
--- What an edit makes of the rows: the first of its faults, or else the rows that it leaves.
+-- The result of an edit: its first fault, or the rows after it if it has no fault.
 use Rattle.std.specs.Prelude.{List, [], ◌∷◌, Option, Some, None, Result, Ok, Err}
 use Rattle.cpe_rows.specs.Rows.{Rows}
 use Rattle.cpe_rows.specs.After.{after}

@@ -1,4 +1,4 @@
--- What an edit touches: the facts and checks whose truth it may change. The laws say that all else stays.
+-- The facts and checks that an edit touches: their truth may change. The laws say that everything else is unchanged.
 use Rattle.std.specs.Prelude.{List, Bool, false, ◌||◌, ◌++◌, filter, Option, Some, None}
 use Rattle.std.specs.List.{list_any, flat_map}
 use Rattle.cpe_name.specs.Eleven.{Values}
@@ -24,22 +24,23 @@ touches_step fact check (Test-F.Logic operator negate of) = list_any (λ touched
 touches_step fact check (Test-F.Fact name) = fact name
 touches_step fact check (Test-F.Check key) = check key
 
--- some fact reference or check reference of the test passes
-abbrev pub touches : (Values → Bool) → (CheckKey → Bool) → Test → Bool
-touches fact check = fold-Test Bool (touches_step fact check)
+-- Some fact or check of the test passes.
+abbrev pub test_touches : (Values → Bool) → (CheckKey → Bool) → Test → Bool
+test_touches fact check = fold-Test Bool (touches_step fact check)
 
--- the name covers the other, or may cover it
+-- The name covers the other name, or may cover it.
 abbrev pub reaches : Values → Values → Bool
 reaches name other = covers name other || maybe name other
 
--- the fact stands in the relation to the item by the names as they stand, or an end of the fact to one of the item
-abbrev pub stands_to : (Values → Values → Bool) → List Entry → Mode → Values → Values → Bool
-stands_to relates entries Plain fact item = relates fact item
-stands_to relates entries Follow fact item = is_followed relates entries fact item
+-- The relation is true of the fact and the item: of their names as they are in mode `plain`, and of some of their ends
+-- in mode `follow`.
+abbrev pub is_related : (Values → Values → Bool) → List Entry → Mode → Values → Values → Bool
+is_related relates entries Plain fact item = relates fact item
+is_related relates entries Follow fact item = is_followed relates entries fact item
 
--- the fact covers the item, or may cover it
+-- The fact covers the item, or may cover it.
 abbrev pub touches_item : List Entry → Mode → Values → Values → Bool
-touches_item entries mode fact item = stands_to reaches entries mode fact item
+touches_item entries mode fact item = is_related reaches entries mode fact item
 
 -- the name of the entry whose deprecation the edit changes
 abbrev pub deprecation_changed : Edit → Option Values
@@ -48,18 +49,18 @@ deprecation_changed (edit.Amend n d date comment) = Some n
 deprecation_changed (edit.Restore n date comment) = Some n
 deprecation_changed e = None
 
--- the ends, before and after, of the items that lead to the entry of this name
+-- the ends, before and after the edit, of the items that lead to the entry of this name
 abbrev pub touched_ends : Rows → Rows → Values → List Values
 touched_ends rows next n =
     flat_map (λ x. ends rows.entries x ++ ends next.entries x) (filter (λ x. leads_to rows.entries x n) rows.items)
 
--- a fact that is followed leads to the entry of this name, or has an end that covers or may cover a touched one
+-- In mode `follow`, the fact leads to the entry of this name, or one of its ends covers or may cover a touched end.
 abbrev pub touches_deprecation : Rows → Rows → Values → Mode → Values → Bool
 touches_deprecation rows next n Plain fact = false
 touches_deprecation rows next n Follow fact =
     leads_to rows.entries fact n || list_any (λ f. list_any (reaches f) (touched_ends rows next n)) (ends rows.entries fact)
 
--- the edit touches the fact, in a statement of this mode
+-- The edit touches the fact, in a statement of this mode.
 abbrev pub touches_fact : Rows → Edit → Mode → Values → Bool
 touches_fact rows (edit.Item n) mode fact = touches_item rows.entries mode fact n
 touches_fact rows (edit.DropItem n) mode fact = touches_item rows.entries mode fact n
@@ -71,12 +72,12 @@ touches_fact rows (edit.Restore n date comment) mode fact =
     touches_deprecation rows (after rows (edit.Restore n date comment)) n mode fact
 touches_fact rows e mode fact = false
 
--- the edit touches the check
+-- The edit touches the check.
 abbrev pub touches_check : Edit → CheckKey → Bool
 touches_check (edit.SetCheck k t) key = same_key k key
 touches_check (edit.DropCheck k) key = same_key k key
 touches_check e key = false
 
--- it touches the statement by a fact or by a check
+-- The edit touches a fact or a check of the statement.
 abbrev pub touches_statement : Rows → Edit → Statement → Bool
-touches_statement rows e s = touches (touches_fact rows e s.mode) (touches_check e) s.test
+touches_statement rows e s = test_touches (touches_fact rows e s.mode) (touches_check e) s.test

@@ -1,4 +1,4 @@
--- Which edits and queries may be asked: their names are in lower case, and ids and tests have their form.
+-- Valid edits and queries: their names are in lower case, and ids and tests have their form.
 use Rattle.std.specs.Prelude.{ℕ, ◌&&◌, List, length, Bool, true, false, nat_lt, nat_le, is_none}
 use Rattle.std.specs.List.{list_all}
 use Rattle.cpe_rows.specs.Names.{is_lower}
@@ -14,7 +14,7 @@ use Rattle.cpe_rows.specs.declared.edit.Query.TheVariants as query
 abbrev pub is_visible : ℕ → Bool
 is_visible b = nat_le 33 b && nat_le b 126
 
--- visible characters, one at least and not too many
+-- The bytes are an id: visible characters, at least one and at most `MOST_ID_BYTES`.
 abbrev pub is_id : List ℕ → Bool
 is_id id = nat_lt 0 (length id) && nat_le (length id) MOST_ID_BYTES && list_all is_visible id
 
@@ -23,7 +23,7 @@ is_logic (Test-F.Logic operator negate of) = true
 is_logic (Test-F.Fact name) = false
 is_logic (Test-F.Check key) = false
 
--- a logical test that is not too deep and sound
+-- The test may be that of a statement: it is logical, not too deep, and sound.
 abbrev pub is_statement_test : Test → Bool
 is_statement_test t = is_logic (out-Test t) && nat_le (depth_of t) MOST_LEVELS && is_sound t
 

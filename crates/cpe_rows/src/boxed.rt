@@ -1,4 +1,4 @@
-// Names in memory of their own.
+// Names in separate memory.
 ghost use Rattle.std.specs.Prelude.{◌≡◌, IfOk};
 
 use cpe_name::Wfn;
@@ -6,9 +6,9 @@ use cpe_values::Memory;
 use std::alloc::Global;
 use std::marker::Model;
 
-/// A name in memory of its own, so that what holds a name or something smaller is small.
+/// A name in separate memory. So an enum that has either a name or something smaller is small.
 ///
-/// Contracts see it as they see the name.
+/// Contracts see it as the name.
 #[derive(Debug, Drop)]
 pub struct BoxedName {
     name: Box<Wfn>,
@@ -23,10 +23,10 @@ impl Model for BoxedName {
 }
 
 impl BoxedName {
-    /// The name, moved to memory of its own.
+    /// The name, moved to separate memory.
     ///
     /// # Errors
-    /// Only that memory ran out; the name is then dropped.
+    /// Only if memory runs out. The name is then dropped.
     pub fn new(alloc: Global, name: Wfn) -> Result<BoxedName, Memory>
         ensures { IfOk result (λ b. b ≡ name) }
     {
@@ -36,17 +36,17 @@ impl BoxedName {
         }
     }
 
-    /// The name. It takes no memory.
+    /// The name. Allocates: no.
     pub fn as_name(&self) -> &Wfn
         ensures { result.now ≡ self.now }
     {
         &self.name
     }
 
-    /// The same name again.
+    /// A copy of the name, in separate memory.
     ///
     /// # Errors
-    /// Only that memory ran out.
+    /// Only if memory runs out.
     pub fn copy(&self, alloc: Global) -> Result<BoxedName, Memory>
         ensures { IfOk result (λ b. b ≡ self.now) }
     {

@@ -1,20 +1,20 @@
-// How many rows there are.
+// The numbers of rows.
 
-/// How many rows there are of each kind, and how much of them.
+/// The number of rows of each kind, the number of facts, and the weight.
 #[derive(Debug, Clone, Copy, PartialEq, Eq)]
 pub struct Counts {
-    /// The entries.
+    /// How many entries there are.
     pub entries: u64,
-    /// The entries that have a deprecation.
+    /// How many entries have a deprecation.
     pub deprecated: u64,
-    /// The items.
+    /// How many items there are.
     pub items: u64,
-    /// The statements.
+    /// How many statements there are.
     pub statements: u64,
-    /// The fact references of all statements, each as often as it stands there.
+    /// How many facts the statements have. A fact that is repeated counts each time.
     pub facts: u64,
-    /// The kept check results.
+    /// How many results of checks are kept.
     pub checks: u64,
-    /// The weight of all rows, by which their memory is bounded.
+    /// The weight of all rows, which bounds their memory.
     pub weight: u64,
 }

@@ -1,4 +1,4 @@
-// Edits and queries.
+// Edits of the rows, and queries about them.
 ghost use Rattle.std.specs.Prelude.{◌≡◌};
 ghost use Rattle.std.specs.List.{list_all};
 ghost use Rattle.cpe_rows.specs.Names.{is_lower};
@@ -17,27 +17,27 @@ use cpe_name::Wfn;
 /// A change of the rows.
 #[derive(Debug, Drop)]
 pub enum Edit {
-    /// Adds an entry, which has no deprecation.
+    /// Adds an entry without a deprecation.
     Entry(Entry),
     /// Adds an item.
     Item(Wfn),
-    /// Drops an item.
+    /// Removes an item.
     DropItem(Wfn),
-    /// Gives an active entry a deprecation, and a note of this date and comment.
+    /// Gives an active entry a deprecation. Adds a note with this date and comment.
     Deprecate {
         name: Wfn,
         deprecation: Deprecation,
         date: Date,
         comment: Text,
     },
-    /// Replaces the deprecation of an entry, with a note of this date and comment.
+    /// Replaces the deprecation of an entry. Adds a note with this date and comment.
     Amend {
         name: Wfn,
         deprecation: Deprecation,
         date: Date,
         comment: Text,
     },
-    /// Takes the deprecation of an entry away, with a note of this date and comment.
+    /// Removes the deprecation of an entry. Adds a note with this date and comment.
     Restore {
         name: Wfn,
         date: Date,
@@ -45,27 +45,27 @@ pub enum Edit {
     },
     /// Adds a statement.
     PutStatement(Statement),
-    /// Drops the statement of this id.
+    /// Removes the statement of this id.
     DropStatement(Text),
-    /// Keeps the result of a check, in the place of the one that is kept for this key, if any.
+    /// Keeps the result of a check. Replaces the result that is kept for this key, if there is one.
     SetCheck {
         key: CheckKey,
         result: Truth,
     },
-    /// Drops the result that is kept for a key.
+    /// Removes the result that is kept for this key.
     DropCheck(CheckKey),
 }
 
 /// A question about the rows.
 #[derive(Debug, Drop)]
 pub enum Query {
-    /// Whether an entry has this name, and whether it is active.
+    /// The state of the entry of this name, if there is one.
     Lookup(Wfn),
-    /// The entries that the name covers, or the active ones among them.
+    /// The entries that the name covers, or only the active entries among them.
     Search { name: Wfn, active_only: bool },
-    /// The items that the name covers.
+    /// The items that the name covers, and the items that it may cover.
     Items(Wfn),
-    /// The entries to which a path of successors leads from the entry of this name.
+    /// The chain of this name, and its ends.
     Chain(Wfn),
     /// The whole entry of this name.
     Show(Wfn),
@@ -103,9 +103,10 @@ fn are_lower(names: &[Wfn]) -> bool
 }
 
 impl Edit {
-    /// Whether the edit is in order: its names in lower case, no deprecation beside a new entry, an id of 1 to 256 visible ASCII
-    /// characters, and in a statement a logical test of at most 32 levels, none of them empty. Lawful rows stay lawful under
-    /// such edits ([`rows_stay_lawful`](crate::rows_stay_lawful)). It takes no memory.
+    /// Whether the edit is valid. Its names are in lower case, and a new entry has no deprecation. An id has 1 to 256
+    /// visible ASCII characters. The test of a statement is logical and has at most 32 levels; each logical test in it
+    /// has a child. Valid edits leave lawful rows lawful ([`rows_stay_lawful`](crate::rows_stay_lawful)). Allocates:
+    /// no.
     pub fn valid(&self) -> bool
         ensures { result ≡ is_valid_edit self.now }
     {
@@ -132,7 +133,8 @@ impl Edit {
 }
 
 impl Query {
-    /// Whether the query is in order: its name in lower case, or its id of 1 to 256 visible ASCII characters. It takes no memory.
+    /// Whether the query is valid: its name is in lower case, or its id has 1 to 256 visible ASCII characters.
+    /// Allocates: no.
     pub fn valid(&self) -> bool
         ensures { result ≡ is_valid_query self.now }
     {

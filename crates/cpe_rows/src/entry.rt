@@ -11,77 +11,77 @@ use std::alloc::Global;
 /// Why an entry is deprecated (NIST IR 7697).
 #[derive(Debug, Clone, Copy, PartialEq, Eq)]
 pub enum Kind {
-    /// Its name was wrong; the successors have the right one.
+    /// Its name was wrong. The successors have the right name.
     NameCorrection,
-    /// Its name should not have been there, and has no successors.
+    /// Its name should not have been in the dictionary. It has no successors.
     NameRemoval,
-    /// More is known: the successors tell apart what it named.
+    /// More is known now. Its name was used for several products, and the successors name each of them.
     AdditionalInformation,
 }
 
-/// What a note tells of.
+/// The subject of a note.
 #[derive(Debug, Clone, Copy, PartialEq, Eq)]
 pub enum NoteKind {
-    /// The entry as it was first handed in.
+    /// The entry as it was first submitted.
     OriginalRecord,
-    /// Another authority.
+    /// A change of the authority.
     AuthorityChange,
-    /// That the entry was deprecated.
+    /// The deprecation of the entry.
     Deprecation,
-    /// That its deprecation was replaced or taken away.
+    /// The replacement or removal of the deprecation.
     DeprecationModification,
 }
 
-/// A note on a change of an entry.
+/// A note about a change of an entry.
 #[derive(Debug, Drop)]
 pub struct Note {
-    /// What it tells of.
+    /// The subject of the note.
     pub kind: NoteKind,
-    /// When the entry was changed.
+    /// The day of the change.
     pub date: Date,
-    /// What was said of the change, perhaps nothing.
+    /// A comment on the change, perhaps empty.
     pub comment: Text,
 }
 
-/// Where an entry comes from (NIST IR 7697). Each text may be empty.
+/// The origin of an entry (NIST IR 7697). Each text may be empty.
 #[derive(Debug, Drop)]
 pub struct Provenance {
-    /// Who handed the entry in.
+    /// Who submitted the entry.
     pub submitter: Text,
-    /// Who put it into the dictionary.
+    /// Who added the entry to the dictionary.
     pub authority: Text,
-    /// What was noted of its changes, the last one last.
+    /// The notes on changes of the entry, in the order in which they were added.
     pub notes: List<Note>,
 }
 
-/// That an entry is deprecated, for one reason whatever the number of its successors: none where it was removed, and else up to
-/// 16 entries, no two alike.
+/// The mark of a deprecated entry. It has one kind for all successors. A removed entry has no successors. Otherwise
+/// there are 1 to 16 successors, all different.
 #[derive(Debug, Drop)]
 pub struct Deprecation {
-    /// Why it is deprecated.
+    /// Why the entry is deprecated.
     pub kind: Kind,
-    /// The names that stand in the place of the entry's.
+    /// The names of the entries that replace the deprecated one.
     pub successors: List<Wfn>,
 }
 
-/// An entry of the dictionary. It is active where it has no deprecation.
+/// An entry of the dictionary. It is active if it has no deprecation.
 #[derive(Debug, Drop)]
 pub struct Entry {
-    /// Its name: part, vendor and product are texts, and no value has a special.
+    /// The name of the entry. Part, vendor and product are texts, and no value has a special.
     pub name: Wfn,
-    /// What a reader calls it, perhaps nothing.
+    /// A title for readers, perhaps empty.
     pub title: Text,
-    /// Where it comes from.
+    /// The origin of the entry.
     pub provenance: Provenance,
-    /// That it is deprecated, if it is.
+    /// The deprecation, if the entry is deprecated.
     pub deprecation: Option<Deprecation>,
 }
 
 impl Note {
-    /// The same note again.
+    /// A copy of the note.
     ///
     /// # Errors
-    /// Only that memory ran out.
+    /// Only if memory runs out.
     pub fn copy(&self, alloc: Global) -> Result<Note, Memory>
         ensures { IfOk result (λ n. n ≡ self.now) }
     {
@@ -94,10 +94,10 @@ impl Note {
 }
 
 impl Deprecation {
-    /// The same deprecation again.
+    /// A copy of the deprecation.
     ///
     /// # Errors
-    /// Only that memory ran out.
+    /// Only if memory runs out.
     pub fn copy(&self, alloc: Global) -> Result<Deprecation, Memory>
         ensures { IfOk result (λ d. d ≡ self.now) }
     {
@@ -113,10 +113,10 @@ impl Deprecation {
 }
 
 impl Provenance {
-    /// The same provenance again.
+    /// A copy of the provenance.
     ///
     /// # Errors
-    /// Only that memory ran out.
+    /// Only if memory runs out.
     pub fn copy(&self, alloc: Global) -> Result<Provenance, Memory>
         ensures { IfOk result (λ p. p ≡ self.now) }
     {
@@ -139,10 +139,10 @@ fn copy_of_notes(alloc: Global, notes: &[Note]) -> Result<List<Note>, Memory>
     Ok(copies)
 }
 
-/// The deprecation of an entry again, if it has one.
+/// A copy of an entry's deprecation, if the entry has one.
 ///
 /// # Errors
-/// Only that memory ran out.
+/// Only if memory runs out.
 pub fn copy_of_deprecation(
     alloc: Global,
     deprecation: &Option<Deprecation>,
@@ -156,10 +156,10 @@ pub fn copy_of_deprecation(
 }
 
 impl Entry {
-    /// The same entry again.
+    /// A copy of the entry.
     ///
     /// # Errors
-    /// Only that memory ran out.
+    /// Only if memory runs out.
     pub fn copy(&self, alloc: Global) -> Result<Entry, Memory>
         ensures { IfOk result (λ e. e ≡ self.now) }
     {

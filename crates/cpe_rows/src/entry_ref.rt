@@ -1,17 +1,17 @@
-// An entry that is lent.
+// Entries whose parts are borrowed.
 use crate::entry::{Deprecation, Provenance};
 use crate::text::Text;
 use cpe_name::Wfn;
 
-/// The parts of an entry that stands elsewhere, lent.
+/// References to the parts of an entry that is kept elsewhere.
 #[derive(Clone, Copy)]
 pub struct EntryRef<'e> {
-    /// Its name.
+    /// The name of the entry.
     pub name: &'e Wfn,
-    /// What a reader calls it, perhaps nothing.
+    /// A title for readers, perhaps empty.
     pub title: &'e Text,
-    /// Where it comes from.
+    /// The origin of the entry.
     pub provenance: &'e Provenance,
-    /// That it is deprecated, if it is.
+    /// The deprecation, if the entry is deprecated.
     pub deprecation: Option<&'e Deprecation>,
 }

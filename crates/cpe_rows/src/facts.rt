@@ -1,4 +1,4 @@
-// The truth of a test, from the truths of its facts and checks.
+// The truth of a test, computed from the truths of its facts and checks.
 ghost use Rattle.std.specs.Prelude.{◌≡◌, IfOk, List, [], ◌∷◌};
 ghost use Rattle.cpe_name.specs.Eleven.{Values};
 ghost use Rattle.cpe_rows.specs.Evaluation.{test_truth, joined};
@@ -11,23 +11,23 @@ use cpe_name::Wfn;
 use cpe_values::Memory;
 use std::alloc::Global;
 
-/// What is known of facts and checks.
+/// The truths of facts and checks.
 pub trait Facts {
     ghost fact_truth: { Self → Values → Truth };
 
     ghost check_truth: { Self → CheckKey → Truth };
 
-    /// The truth of a fact reference.
+    /// The truth of the fact with this name.
     fn fact(&self, name: &Wfn) -> Truth
         ensures { result ≡ fact_truth self.now name.now };
 
-    /// The truth of a check reference.
+    /// The truth of the check with this key.
     fn check(&self, key: &CheckKey) -> Truth
         ensures { result ≡ check_truth self.now key.now };
 }
 
-/// The truth of a test (NIST IR 7698): that of a logical test is its children's joined by its operator, swapped where it
-/// negates. It takes no memory.
+/// The truth of a test (NIST IR 7698). A logical test joins the truths of its children by its operator, and negates the
+/// result if `negate` is set. Allocates: no.
 pub fn evaluate<F: Facts>(test: &Test, facts: &F) -> Truth
     ensures { result ≡ test_truth (F.fact_truth facts.now) (F.check_truth facts.now) test.now }
 {
@@ -48,28 +48,28 @@ pub fn evaluate<F: Facts>(test: &Test, facts: &F) -> Truth
     }
 }
 
-/// What is known of facts and checks, where a fact has to be looked for, which may run out of memory.
+/// The truths of facts and checks, if facts have to be searched. The search of a fact may run out of memory.
 pub trait FindFacts {
     ghost fact_truth: { Self → Values → Truth };
 
     ghost check_truth: { Self → CheckKey → Truth };
 
-    /// The truth of a fact reference.
+    /// The truth of the fact with this name.
     ///
     /// # Errors
-    /// Only that memory ran out.
+    /// Only if memory runs out.
     fn find_fact(&self, alloc: Global, name: &Wfn) -> Result<Truth, Memory>
         ensures { IfOk result (λ truth. truth ≡ fact_truth self.now name.now) };
 
-    /// The truth of a check reference.
+    /// The truth of the check with this key.
     fn find_check(&self, key: &CheckKey) -> Truth
         ensures { result ≡ check_truth self.now key.now };
 }
 
-/// The truth of a test as [`evaluate`] has it, where facts have to be looked for.
+/// The truth of a test, as [`evaluate`] returns it. It is for facts that have to be searched.
 ///
 /// # Errors
-/// Only that memory ran out.
+/// Only if memory runs out.
 pub fn find_truth<F: FindFacts>(alloc: Global, test: &Test, facts: &F) -> Result<Truth, Memory>
     ensures { IfOk result (λ truth. truth ≡ test_truth (F.fact_truth facts.now) (F.check_truth facts.now) test.now) }
 {
@@ -90,7 +90,7 @@ pub fn find_truth<F: FindFacts>(alloc: Global, test: &Test, facts: &F) -> Result
     }
 }
 
-// What is joined of no children.
+// The truth of a logical test without children, before negation.
 fn neutral(operator: Operator) -> Truth
     ensures { result ≡ joined operator [] }
 {

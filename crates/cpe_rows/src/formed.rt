@@ -1,4 +1,5 @@
-// What edits have by the types of their parts. These functions do nothing: their clauses are facts of every edit.
+// Properties that each edit has by the types of its parts. These functions do nothing: their clauses are the
+// properties.
 ghost use Rattle.std.specs.Prelude.{All};
 ghost use Rattle.cpe_name.specs.Names.{IsName};
 ghost use Rattle.cpe_rows.specs.Chains.{successors_of};
@@ -58,8 +59,7 @@ fn is_formed_statement(statement: &Statement)
 }
 
 impl Edit {
-    /// What is so of every edit: its names are well-formed (NIST IR 7695, 5), and its dates have the shape of one. It does nothing, and
-    /// tells a proof so.
+    /// Law: the names of each edit are well-formed (NIST IR 7695, 5), and its dates have the form of a date.
     pub fn formed(&self)
         ensures { IsFormed self.now }
     {

@@ -1,11 +1,11 @@
-//! The rows of a dictionary and of an inventory, and what they mean.
+//! The rows of a dictionary and of an inventory, and their meaning.
 //!
 //! A dictionary (NIST IR 7697) has entries with provenance and deprecations. An inventory has items. Statements (NIST
-//! IR 7698) are tests over these items. The definitions say which rows an edit leaves, what a question answers, and
-//! which verdict a statement has. They are about the types [`Edit`], [`Query`], [`Reply`] and [`EditFault`]. An engine
+//! IR 7698) are tests over these items. The definitions fix the rows after an edit, the answer to a question, and the
+//! verdict of a statement. They use the types [`Edit`], [`Query`], [`Reply`] and [`EditFault`]. An engine in a crate
 //! above keeps the rows.
 //!
-//! An edit changes the verdicts of few statements. The laws of [`touching`] say which: if an edit touches no fact and
+//! An edit changes the verdicts of few statements. The laws in [`touching`] say which: if an edit touches no fact and
 //! no check of a test, the test keeps its truth.
 #![tactic(auto)]
 

@@ -1,11 +1,11 @@
-// Lists that contracts see as such.
+// Lists, which contracts see as lists of items.
 ghost use Rattle.std.specs.Prelude.{◌≡◌, [], ◌∷◌, ◌++◌, length, slice_get, IfOk, OnOk, OnErr, option_copied};
 
 use cpe_values::Memory;
 use std::alloc::Global;
 use std::marker::Model;
 
-/// A `Vec` that contracts see as the list of its items, so that two lists are the same where their items are.
+/// A `Vec` that contracts see as the list of its items. Two lists are the same if their items are the same.
 #[derive(Debug, Drop)]
 pub struct List<T> {
     items: Vec<T>,
@@ -23,7 +23,7 @@ impl<T> Model for List<T> {
 }
 
 impl<T> List<T> {
-    /// The empty list. It takes no memory.
+    /// The empty list. Allocates: no.
     pub fn new(alloc: Global) -> List<T>
         ensures { result ≡ [] }
     {
@@ -32,11 +32,11 @@ impl<T> List<T> {
         }
     }
 
-    /// The empty list, with room for so many items and no more. A list that grows by [`push`](List::push) takes room for four at
-    /// least, and lists are kept by the million.
+    /// The empty list, with memory for exactly `count` items. A list that grows by [`push`](List::push) reserves memory
+    /// for at least four items. That is too much, because millions of lists are kept.
     ///
     /// # Errors
-    /// Only that memory ran out.
+    /// Only if memory runs out.
     pub fn with_room(alloc: Global, count: usize) -> Result<List<T>, Memory>
         ensures { IfOk result (λ items. items ≡ []) }
     {
@@ -46,14 +46,14 @@ impl<T> List<T> {
         }
     }
 
-    /// The list of a vector's items. It takes no memory.
+    /// The list of a vector's items. Allocates: no.
     pub fn from_vec(items: Vec<T>) -> List<T>
         ensures { result ≡ items.items }
     {
         List { items }
     }
 
-    /// The items as a vector. It takes no memory.
+    /// The items as a vector. Allocates: no.
     pub fn into_vec(self) -> Vec<T>
         ensures { result.items ≡ self }
     {
@@ -75,7 +75,7 @@ impl<T> List<T> {
         self.items.len()
     }
 
-    /// The item at a place from 0. There is none exactly where the place is the length or more.
+    /// The item at a place, counted from 0. There is none exactly if the place is the length or more.
     pub fn at(&self, k: usize) -> Option<&T>
         ensures { option_copied result ≡ slice_get self.now k }
     {
@@ -83,8 +83,9 @@ impl<T> List<T> {
     }
 }
 
-// Takes room for one more, and no more than that. A list of fewer than four items grows by it: so it has no room to spare, where
-// room for four at once is three places too many. From four on room doubles, or many items would be moved as often as there are items.
+// Reserves memory for exactly one item more, if the list has fewer than four items. So a short list has no unused
+// memory, while `push` would reserve four places at once. A longer list grows by `push`, which doubles its memory.
+// Otherwise each new item would move all others.
 fn grow_if_short<T>(items: &mut Vec<T>) -> Result<(), Memory>
     ensures { items.new.items ≡ items.old.items }
 {
@@ -98,10 +99,10 @@ fn grow_if_short<T>(items: &mut Vec<T>) -> Result<(), Memory>
 }
 
 impl<T: Drop> List<T> {
-    /// Puts the item last.
+    /// Appends an item.
     ///
     /// # Errors
-    /// Only that memory ran out; the list is then as it was, and the item is dropped.
+    /// Only if memory runs out. The list is then unchanged, and the item is dropped.
     pub fn push(&mut self, item: T) -> Result<(), Memory>
         ensures ok { OnOk result (self.new ≡ self.old ++ item ∷ []) }
         ensures err { OnErr result (self.new ≡ self.old) }
@@ -111,11 +112,11 @@ impl<T: Drop> List<T> {
             Err(_) => Err(Memory),
         }
     }
-    /// Puts the item last, as [`push`](List::push) does, with no room to spare in a list of up to four items: for lists that are kept
-    /// and mostly short. Of more items the room doubles.
+    /// Appends an item, as [`push`](List::push) does. A list of up to four items has no unused memory, so this is for
+    /// lists that are mostly short and are kept. The memory of a longer list doubles if it is full.
     ///
     /// # Errors
-    /// Only that memory ran out; the list is then as it was, and the item is dropped.
+    /// Only if memory runs out. The list is then unchanged, and the item is dropped.
     pub fn push_close(&mut self, item: T) -> Result<(), Memory>
         ensures ok { OnOk result (self.new ≡ self.old ++ item ∷ []) }
         ensures err { OnErr result (self.new ≡ self.old) }

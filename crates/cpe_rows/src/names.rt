@@ -1,12 +1,12 @@
-// What rows ask of a name.
+// Tests of names.
 ghost use Rattle.std.specs.Prelude.{◌≡◌};
 ghost use Rattle.cpe_rows.specs.Names.{is_same, is_lower, is_text, is_identifier, has_wildcards};
 
 use cpe_name::{Attribute, Wfn};
 use cpe_values::Value;
 
-/// Whether two names are equal. Rows hold names in lower case, and such names are the same exactly where they are equal. It
-/// takes no memory.
+/// Whether two names are equal. Rows have names in lower case only, so letter case makes no difference among them.
+/// Allocates: no.
 #[tactic(auto, unfolding(crate::specs::Names::is_same))]
 pub fn is_same(name: &Wfn, other: &Wfn) -> bool
     ensures { result ≡ is_same name.now other.now }
@@ -14,14 +14,14 @@ pub fn is_same(name: &Wfn, other: &Wfn) -> bool
     *name == *other
 }
 
-/// Whether a name has no letter in upper case. It takes no memory.
+/// Whether a name has no upper-case letter. Allocates: no.
 pub fn is_lower(name: &Wfn) -> bool
     ensures { result ≡ is_lower name.now }
 {
     name.is_lower()
 }
 
-/// Whether a value of a name has a special. It takes no memory.
+/// Whether some value of a name has a special. Allocates: no.
 #[tactic(auto, unfolding(crate::specs::Names::has_wildcards))]
 pub fn has_wildcards(name: &Wfn) -> bool
     ensures { result ≡ has_wildcards name.now }
@@ -35,7 +35,7 @@ fn is_text(value: &Value) -> bool
     matches!(value, Value::Text(_))
 }
 
-/// Whether the part, the vendor and the product are texts, as an entry's name has them. It takes no memory.
+/// Whether part, vendor and product are texts, as in the name of an entry. Allocates: no.
 #[tactic(auto, unfolding(crate::specs::Names::is_identifier))]
 pub fn is_identifier(name: &Wfn) -> bool
     ensures { result ≡ is_identifier name.now }

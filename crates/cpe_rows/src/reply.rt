@@ -1,4 +1,4 @@
-// What queries and edits answer.
+// The answers to queries, and the changed verdicts of edits.
 use crate::entry::{Entry, Kind};
 use crate::list::List;
 use crate::text::Text;
@@ -8,25 +8,26 @@ use cpe_name::Wfn;
 /// Whether an entry is active.
 #[derive(Debug, Clone, Copy, PartialEq, Eq)]
 pub enum State {
-    /// It has no deprecation.
+    /// The entry has no deprecation.
     Active,
-    /// It has one of this kind.
+    /// The entry has a deprecation of this kind.
     Deprecated(Kind),
 }
 
 /// The summary of an entry: its name, and whether it is active.
 #[derive(Debug, Drop)]
 pub struct Row {
-    /// Its name.
+    /// The name of the entry.
     pub name: Wfn,
-    /// Whether it is active.
+    /// Whether the entry is active.
     pub state: State,
 }
 
-/// The answer to a query, with the name or id that was asked for. Rows are in the order of the dictionary or inventory.
+/// The answer to a query, with the name or id of the query. The rows have the order of the dictionary or of the
+/// inventory.
 #[derive(Debug, Drop)]
 pub enum Reply {
-    /// The state of the entry, or none where there is no entry of this name.
+    /// The state of the entry, or `None` if no entry has this name.
     Lookup {
         name: Wfn,
         state: Option<State>,
@@ -36,38 +37,38 @@ pub enum Reply {
         name: Wfn,
         rows: List<Row>,
     },
-    /// The items that the name covers, and those that it may cover, since they are known only in part.
+    /// The items that the name covers, and the items that it may cover. The latter are known only in part.
     Items {
         name: Wfn,
         rows: List<Wfn>,
         maybe: List<Wfn>,
     },
-    /// The entries to which a path of successors leads from the name, and the names of the active ones among them. Where
-    /// there is no entry of this name, there are no entries, and the name is its own end.
+    /// The entries of the name's chain, and the name's ends. If no entry has this name, the chain is empty, and the
+    /// name is its own end.
     Chain {
         name: Wfn,
         links: List<Row>,
         ends: List<Wfn>,
     },
-    /// The entry, or none where there is no entry of this name.
+    /// The entry, or `None` if no entry has this name.
     Show {
         name: Wfn,
         entry: Option<Entry>,
     },
-    /// The verdict of the statement, or none where there is no statement of this id.
+    /// The verdict of the statement, or `None` if no statement has this id.
     Verdict {
         id: Text,
         truth: Option<Truth>,
     },
 }
 
-/// A statement whose verdict is another after an edit, by its place from 0.
+/// A statement whose verdict an edit changed. Places count from 0.
 #[derive(Debug, Clone, Copy, PartialEq, Eq)]
 pub struct Changed {
-    /// Its place after the edit; that of a dropped statement is the one that it had.
+    /// The statement's place after the edit. For a removed statement, its place before the edit.
     pub place: u32,
-    /// The verdict before, or none where the statement is new.
+    /// The verdict before the edit, or `None` if the edit added the statement.
     pub before: Option<Truth>,
-    /// The verdict after, or none where the statement was dropped.
+    /// The verdict after the edit, or `None` if the edit removed the statement.
     pub after: Option<Truth>,
 }

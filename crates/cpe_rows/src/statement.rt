@@ -1,4 +1,4 @@
-// Statements of applicability (NIST IR 7698).
+// Statements (NIST IR 7698).
 ghost use Rattle.std.specs.Prelude.{◌≡◌, IfOk};
 
 use crate::test::Test;
@@ -6,33 +6,33 @@ use crate::text::Text;
 use cpe_values::Memory;
 use std::alloc::Global;
 
-/// How the fact references of a statement are asked.
+/// How the facts of a statement are compared with items.
 #[derive(Debug, Clone, Copy, PartialEq, Eq)]
 pub enum Mode {
-    /// By the names as they stand.
+    /// The names of facts and items are compared as they are.
     Plain,
-    /// By the active entries to which deprecations lead from the names.
+    /// The ends of the names' chains are compared.
     Follow,
 }
 
-/// An applicability statement: a test whose truth is its verdict.
+/// A statement: a test whose truth is the statement's verdict.
 #[derive(Debug, Drop)]
 pub struct Statement {
-    /// What it is known by: 1 to 256 visible ASCII characters.
+    /// The id of the statement: 1 to 256 visible ASCII characters.
     pub id: Text,
-    /// What a reader calls it, perhaps nothing.
+    /// A title for readers, perhaps empty.
     pub title: Text,
-    /// How its fact references are asked.
+    /// How the facts of the statement are compared with items.
     pub mode: Mode,
-    /// A logical test of at most 32 levels, each with a child.
+    /// A logical test of at most 32 levels. Each logical test in it has a child.
     pub test: Test,
 }
 
 impl Statement {
-    /// The same statement again.
+    /// A copy of the statement.
     ///
     /// # Errors
-    /// Only that memory ran out.
+    /// Only if memory runs out.
     pub fn copy(&self, alloc: Global) -> Result<Statement, Memory>
         ensures { IfOk result (λ s. s ≡ self.now) }
     {

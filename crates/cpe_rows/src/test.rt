@@ -1,4 +1,4 @@
-// Tests of applicability statements: trees of logical tests over facts and checks.
+// Tests of statements: trees of logical tests over facts and checks.
 ghost use Rattle.std.specs.Prelude.{◌≡◌, ◌↔◌, IsTrue, IfOk, nat_le};
 ghost use Rattle.cpe_rows.specs.Shape.{depth_of, is_sound};
 
@@ -9,49 +9,49 @@ use crate::text::Text;
 use cpe_values::Memory;
 use std::alloc::Global;
 
-/// How a logical test joins the truths of its children (NIST IR 7698).
+/// The operator by which a logical test joins the truths of its children (NIST IR 7698).
 #[derive(Debug, Clone, Copy, PartialEq, Eq)]
 pub enum Operator {
-    /// By [`and_of`](crate::and_of).
+    /// Joins truths by [`and_of`](crate::and_of).
     And,
-    /// By [`or_of`](crate::or_of).
+    /// Joins truths by [`or_of`](crate::or_of).
     Or,
 }
 
-/// What names a check and its result: a check of some system, in a document, by its id there (NIST IR 7698).
+/// The key of a check and of its result (NIST IR 7698): a system, a document, and an id in this document.
 #[derive(Debug, PartialEq, Eq, Hash, Drop)]
 pub struct CheckKey {
-    /// The checking system.
+    /// The system that runs the check.
     pub system: Text,
-    /// Where the document with the check is.
+    /// The address of the document that has the check.
     pub href: Text,
-    /// The check's id in it.
+    /// The id of the check in the document.
     pub id: Text,
 }
 
-/// A test of an applicability statement (NIST IR 7698).
+/// The test of a statement, or a part of it (NIST IR 7698).
 #[derive(Debug, Drop)]
 pub enum Test {
-    /// A logical test: its children's truths are joined, and TRUE and FALSE change places where it negates.
+    /// A logical test. It joins the truths of its children. If it negates, TRUE becomes FALSE, and FALSE becomes TRUE.
     Logic {
-        /// How the truths are joined.
+        /// The operator that joins the truths.
         operator: Operator,
-        /// Whether it negates.
+        /// Whether the joined truth is negated.
         negate: bool,
-        /// The children.
+        /// The children of the test.
         of: List<Test>,
     },
-    /// A fact reference: whether the inventory has something that the name covers.
+    /// A fact: TRUE if the name covers an item of the inventory.
     Fact(BoxedName),
-    /// A check reference: the result that is kept for the key.
+    /// A check: its truth is the result that is kept for this key.
     Check(CheckKey),
 }
 
 impl CheckKey {
-    /// The same key again.
+    /// A copy of the key.
     ///
     /// # Errors
-    /// Only that memory ran out.
+    /// Only if memory runs out.
     pub fn copy(&self, alloc: Global) -> Result<CheckKey, Memory>
         ensures { IfOk result (λ k. k ≡ self.now) }
     {
@@ -62,7 +62,7 @@ impl CheckKey {
         })
     }
 
-    /// Whether two keys are equal, as `==` tells it: their three texts are. It takes no memory.
+    /// Whether two keys are equal: their three texts are equal. This is `==`. Allocates: no.
     pub fn same(&self, other: &CheckKey) -> bool
         ensures { IsTrue result ↔ (self.now ≡ other.now) }
     {
@@ -71,10 +71,10 @@ impl CheckKey {
 }
 
 impl Test {
-    /// The same test again.
+    /// A copy of the test.
     ///
     /// # Errors
-    /// Only that memory ran out.
+    /// Only if memory runs out.
     pub fn copy(&self, alloc: Global) -> Result<Test, Memory>
         ensures { IfOk result (λ t. t ≡ self.now) }
     {
@@ -99,7 +99,7 @@ impl Test {
         }
     }
 
-    // Whether the depth is within a limit. A logical test without logical tests among its children has depth 1.
+    // Whether the depth is within a limit. A logical test whose children are only facts and checks has depth 1.
     pub(crate) fn is_within(&self, limit: u32) -> bool
         ensures { result ≡ nat_le (depth_of self.now) limit }
     {

@@ -1,4 +1,4 @@
-// Texts that contracts see as their bytes.
+// Texts, which contracts see as lists of bytes.
 ghost use Rattle.std.specs.Prelude.{◌≡◌, ◌↔◌, IfOk, IsTrue, string_bytes};
 
 use cpe_values::Memory;
@@ -6,7 +6,7 @@ use std::alloc::Global;
 use std::hash::{Hash, Hasher};
 use std::marker::Model;
 
-/// A text in UTF-8. Contracts see it as its bytes, and two texts are equal by `==` exactly where these are.
+/// A text in UTF-8. Contracts see its bytes. Two texts are equal by `==` exactly if their bytes are equal.
 #[derive(Debug, Drop)]
 pub struct Text {
     text: String,
@@ -21,10 +21,10 @@ impl Model for Text {
 }
 
 impl Text {
-    /// The text of a string.
+    /// The text with the bytes of a string.
     ///
     /// # Errors
-    /// Only that memory ran out.
+    /// Only if memory runs out.
     pub fn new(alloc: Global, text: &str) -> Result<Text, Memory>
         ensures { IfOk result (λ t. t ≡ text.now) }
     {
@@ -40,10 +40,10 @@ impl Text {
         self.text.as_str()
     }
 
-    /// The same text again.
+    /// A copy of the text.
     ///
     /// # Errors
-    /// Only that memory ran out.
+    /// Only if memory runs out.
     pub fn copy(&self, alloc: Global) -> Result<Text, Memory>
         ensures { IfOk result (λ t. t ≡ self.now) }
     {

@@ -1,21 +1,21 @@
-// The four truths and their tables.
+// The four truths, and the tables of AND, OR and negation.
 ghost use Rattle.std.specs.Prelude.{◌≡◌};
 ghost use Rattle.cpe_rows.specs.Truth.{and_of, or_of, not_of};
 
-/// What is known of a statement, a test, a fact or a check.
+/// What is known of a statement, a test, a fact or a check (NIST IR 7698).
 #[derive(Debug, Clone, Copy, PartialEq, Eq)]
 pub enum Truth {
-    /// It holds.
+    /// It is true.
     True,
-    /// It does not hold.
+    /// It is false.
     False,
-    /// A check failed to tell.
+    /// A check ended with an error.
     Error,
-    /// Not known: no result is kept, or the one that is kept says so.
+    /// It is not known: no result is kept for a check, the kept result is UNKNOWN, or an item is known in part.
     Unknown,
 }
 
-/// The first of FALSE, ERROR, UNKNOWN and TRUE that is among the two. It takes no memory.
+/// AND of two truths: the first of FALSE, ERROR, UNKNOWN and TRUE that is one of them. Allocates: no.
 pub fn and_of(a: Truth, b: Truth) -> Truth
     ensures { result ≡ and_of a b }
 {
@@ -27,7 +27,7 @@ pub fn and_of(a: Truth, b: Truth) -> Truth
     }
 }
 
-/// The first of TRUE, ERROR, UNKNOWN and FALSE that is among the two. It takes no memory.
+/// OR of two truths: the first of TRUE, ERROR, UNKNOWN and FALSE that is one of them. Allocates: no.
 pub fn or_of(a: Truth, b: Truth) -> Truth
     ensures { result ≡ or_of a b }
 {
@@ -39,7 +39,7 @@ pub fn or_of(a: Truth, b: Truth) -> Truth
     }
 }
 
-/// TRUE for FALSE and the other way round; the others are kept. It takes no memory.
+/// The negation: FALSE for TRUE, and TRUE for FALSE. ERROR and UNKNOWN are unchanged. Allocates: no.
 pub fn not_of(a: Truth) -> Truth
     ensures { result ≡ not_of a }
 {

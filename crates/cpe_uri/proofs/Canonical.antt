@@ -1,4 +1,4 @@
--- The canonical URI of a name is one of the URIs of the name in lower case.
+-- Lemmas: the canonical URI of a name is a URI of the name in lower case.
 use Rattle.std.proofs.Common.{◌≡◌, cond, ℕ, zero, suc, ◌+◌, ◌*◌, ◌/◌, ◌%◌, ◌<◌, ◌≤◌, Bool, true, false, not, ◌&&◌, ◌||◌, eqb, nat_eq, List, [], ◌∷◌, ◌++◌, length, get_or, map, replicate, codes, refl, sym, ap, subst, ◌∙◌, inl, inr, arith}
 use Rattle.std.specs.List.{flat_map, list_all, join_with_byte, AllByRecursion}
 use Rattle.std.specs.Char.{to_ascii_lowercase}
@@ -23,14 +23,14 @@ use Rattle.cpe_name.specs.Names.{named, attributes, value_of, IsName}
 use Rattle.cpe_name.specs.Lower.{lower_name, IsLower}
 use Rattle.cpe_name.proofs.LowerNames.{lower_at}
 use Rattle.cpe_name.proofs.WholeTexts.{good_value}
-use Rattle.cpe_uri.specs.Spelling.{edge_codes, text_codes, hex_digit, character, component, is_hex, hex_value, has_percent_form, spells, Spelled, Stands}
-use Rattle.cpe_uri.specs.Canon.{is_any, extended, packed, edition_component, components, trimmed, canon}
-use Rattle.cpe_uri.specs.Grammar.{is_tilde, begins_with_tilde, Fields, EditionStands, Uri}
+use Rattle.cpe_uri.specs.Spelling.{edge_codes, text_codes, hex_digit, uri_character, uri_component, is_hex, hex_value, has_percent_form, spells, Spelled, IsSpellingOf}
+use Rattle.cpe_uri.specs.Canon.{is_any_component, extended, packed, edition_component, components, trimmed, canon}
+use Rattle.cpe_uri.specs.Grammar.{is_tilde, begins_with_tilde, Fields, IsEditionSpelling, Uri}
 use Rattle.cpe_uri.proofs.Texts.{edge_lower}
 
 -- ---- codes
 
--- a special's code, or a character
+-- whether a number is a code: 1 for `?`, 2 for `*`, or a character, which is its own code
 abbrev pub is_code : ℕ → Bool
 is_code c = eqb c 1 || eqb c 2 || is_character c
 
@@ -49,8 +49,8 @@ coded c h k = grind (arith, nat_tests)
 no_letter : (c : ℕ) → is_bare style.Formatted c ≡ false → to_ascii_lowercase c ≡ c
 no_letter c h = grind (arith, nat_tests)
 
--- the canonical spelling of a code is an accepted one of the code in lower case
-pub character_spells : (c : ℕ) → is_code c ≡ true → spells (to_ascii_lowercase c) (character c) ≡ true
+-- the canonical spelling of a code is an accepted spelling of the code in lower case
+pub character_spells : (c : ℕ) → is_code c ≡ true → spells (to_ascii_lowercase c) (uri_character c) ≡ true
 character_spells c h = elim (cases_Bool (is_bare style.Formatted c)) [
   | inl bare ↦ rw bare (and_from (is_bare style.Formatted c || eqb c 126) (eqb (to_ascii_lowercase c) (to_ascii_lowercase c)) (rw bare refl) (eq-eqb _ _ refl))
   | inr other ↦
@@ -58,14 +58,14 @@ character_spells c h = elim (cases_Bool (is_bare style.Formatted c)) [
       let high : c / 16 < 16 = omega (arith, small c h) in
       let rest : c % 16 < 16 = omega arith in
       let sum : eqb (16 * hex_value (hex_digit (c / 16)) + hex_value (hex_digit (c % 16))) c ≡ true = rw (digit_value (c / 16) high, digit_value (c % 16) rest) (eq-eqb _ _ (omega arith)) in
-      ap (λ (x : ℕ). spells x (character c)) low ∙ rw (other, digit_is_hex (c / 16) high, digit_is_hex (c % 16) rest, sum) (coded c h other)
+      ap (λ (x : ℕ). spells x (uri_character c)) low ∙ rw (other, digit_is_hex (c / 16) high, digit_is_hex (c % 16) rest, sum) (coded c h other)
 ]
 
-pub codes_spelled : (cs : List ℕ) → list_all is_code cs ≡ true → Spelled (map to_ascii_lowercase cs) (flat_map character cs)
+pub codes_spelled : (cs : List ℕ) → list_all is_code cs ≡ true → Spelled (map to_ascii_lowercase cs) (flat_map uri_character cs)
 codes_spelled [] h = refl
 codes_spelled (c ∷ cs) h =
     let p = and_parts (is_code c) (list_all is_code cs) h in
-    (character c, flat_map character cs, refl, character_spells c p.0, codes_spelled cs p.1)
+    (uri_character c, flat_map uri_character cs, refl, character_spells c p.0, codes_spelled cs p.1)
 
 -- ---- texts and values
 
@@ -90,19 +90,19 @@ text_are_codes t is =
     let body : list_all is_code t.body ≡ true = body_codes t.body is.characters in
     rw (list_all-append is_code (edge_codes t.lead ++ t.body) (edge_codes t.trail), list_all-append is_code (edge_codes t.lead) t.body, edge_are_codes t.lead, body) (edge_are_codes t.trail)
 
--- the codes of the specials are their own lower case
+-- the codes of a text, in lower case, are those of the text in lower case
 codes_low : (t : Parts) → map to_ascii_lowercase (text_codes t) ≡ text_codes (lower_parts t)
 codes_low t = rw (map-append to_ascii_lowercase (edge_codes t.lead ++ t.body) (edge_codes t.trail), map-append to_ascii_lowercase (edge_codes t.lead) t.body, edge_lower t.lead, edge_lower t.trail) refl
 
--- the canonical spelling of a value is an accepted one of the value in lower case
-pub value_stands : (v : Value) → IsValue v → Stands (lower_value v) (component v)
-value_stands value.Any is = refl
-value_stands value.Na is = refl
-value_stands (value.Text t) is = subst (λ (cs : List ℕ). Spelled cs (component (value.Text t))) (codes_low t) (codes_spelled (text_codes t) (text_are_codes t is))
+-- the canonical spelling of a value is an accepted spelling of the value in lower case
+pub value_is_spelled : (v : Value) → IsValue v → IsSpellingOf (lower_value v) (uri_component v)
+value_is_spelled value.Any is = refl
+value_is_spelled value.Na is = refl
+value_is_spelled (value.Text t) is = subst (λ (cs : List ℕ). Spelled cs (uri_component (value.Text t))) (codes_low t) (codes_spelled (text_codes t) (text_are_codes t is))
 
--- ---- neither a colon nor a tilde stands in a component
+-- ---- a component has neither a colon nor a tilde
 
--- neither of them
+-- the byte is neither a colon nor a tilde
 abbrev pub is_quiet : ℕ → Bool
 is_quiet c = not (is_tilde c) && not (eqb c 58)
 
@@ -112,19 +112,19 @@ digit_quiet n h = grind (arith, nat_tests)
 bare_quiet : (c : ℕ) → is_bare style.Formatted c ≡ true → is_quiet c ≡ true
 bare_quiet c h = grind (arith, nat_tests)
 
-character_quiet : (c : ℕ) → is_code c ≡ true → list_all is_quiet (character c) ≡ true
+character_quiet : (c : ℕ) → is_code c ≡ true → list_all is_quiet (uri_character c) ≡ true
 character_quiet c h = elim (cases_Bool (is_bare style.Formatted c)) [
   | inl bare ↦ rw (bare, bare_quiet c bare) refl
   | inr other ↦ rw (other, digit_quiet (c / 16) (omega (arith, small c h)), digit_quiet (c % 16) (omega arith)) refl
 ]
 
-codes_quiet : (cs : List ℕ) → list_all is_code cs ≡ true → list_all is_quiet (flat_map character cs) ≡ true
+codes_quiet : (cs : List ℕ) → list_all is_code cs ≡ true → list_all is_quiet (flat_map uri_character cs) ≡ true
 codes_quiet [] h = refl
 codes_quiet (c ∷ cs) h =
     let p = and_parts (is_code c) (list_all is_code cs) h in
-    rw (list_all-append is_quiet (character c) (flat_map character cs), character_quiet c p.0) (codes_quiet cs p.1)
+    rw (list_all-append is_quiet (uri_character c) (flat_map uri_character cs), character_quiet c p.0) (codes_quiet cs p.1)
 
-value_quiet : (v : Value) → IsValue v → list_all is_quiet (component v) ≡ true
+value_quiet : (v : Value) → IsValue v → list_all is_quiet (uri_component v) ≡ true
 value_quiet value.Any is = refl
 value_quiet value.Na is = refl
 value_quiet (value.Text t) is = codes_quiet (text_codes t) (text_are_codes t is)
@@ -150,39 +150,39 @@ quiet_uncoloned (c ∷ s) h =
 
 -- ---- the edition
 
-any_low : (v : Value) → is_any v ≡ true → lower_value v ≡ value.Any
+any_low : (v : Value) → is_any_component v ≡ true → lower_value v ≡ value.Any
 any_low value.Any h = refl
 any_low value.Na h = absurd cc
 any_low (value.Text t) h = absurd cc
 
--- each value of a name is one
+-- the components of a name are accepted spellings of its values in lower case
 module _ (w : Values) (name : IsName w) where
-  stands : (a : Attribute) → Stands (value_of (lower_name w) a) (component (value_of w a))
-  stands a = subst (λ (v : Value). Stands v (component (value_of w a))) (sym (lower_at w a)) (value_stands (value_of w a) (good_value w a name))
+  present : (a : Attribute) → IsSpellingOf (value_of (lower_name w) a) (uri_component (value_of w a))
+  present a = subst (λ (v : Value). IsSpellingOf v (uri_component (value_of w a))) (sym (lower_at w a)) (value_is_spelled (value_of w a) (good_value w a name))
 
-  untilded : (a : Attribute) → list_all (λ c. not (is_tilde c)) (component (value_of w a)) ≡ true
-  untilded a = quiet_untilded (component (value_of w a)) (value_quiet (value_of w a) (good_value w a name))
+  untilded : (a : Attribute) → list_all (λ c. not (is_tilde c)) (uri_component (value_of w a)) ≡ true
+  untilded a = quiet_untilded (uri_component (value_of w a)) (value_quiet (value_of w a) (good_value w a name))
 
-  fields_stand : (which : List Attribute) → Fields (lower_name w) which (flat_map (λ a. 126 ∷ component (value_of w a)) which)
-  fields_stand [] = refl
-  fields_stand (a ∷ rest) = (component (value_of w a), flat_map (λ b. 126 ∷ component (value_of w b)) rest, refl, stands a, untilded a, fields_stand rest)
+  fields_spelled : (which : List Attribute) → Fields (lower_name w) which (flat_map (λ a. 126 ∷ uri_component (value_of w a)) which)
+  fields_spelled [] = refl
+  fields_spelled (a ∷ rest) = (uri_component (value_of w a), flat_map (λ b. 126 ∷ uri_component (value_of w b)) rest, refl, present a, untilded a, fields_spelled rest)
 
-  others_any : (which : List Attribute) → list_all (λ a. is_any (value_of w a)) which ≡ true → AllByRecursion (λ a. value_of (lower_name w) a ≡ value.Any) which
+  others_any : (which : List Attribute) → list_all (λ a. is_any_component (value_of w a)) which ≡ true → AllByRecursion (λ a. value_of (lower_name w) a ≡ value.Any) which
   others_any [] h = tt
   others_any (a ∷ rest) h =
-      let p = and_parts (is_any (value_of w a)) (list_all (λ b. is_any (value_of w b)) rest) h in
+      let p = and_parts (is_any_component (value_of w a)) (list_all (λ b. is_any_component (value_of w b)) rest) h in
       (lower_at w a ∙ any_low (value_of w a) p.0, others_any rest p.1)
 
-  edition_stands : EditionStands (lower_name w) (edition_component w)
-  edition_stands = elim (cases_Bool (list_all (λ a. is_any (value_of w a)) extended)) [
-    | inl any ↦ subst (EditionStands (lower_name w)) (sym (alone_is any)) (inl (record { bare = untilded_start (component w.edition) (untilded Edition); edition = stands Edition; others = others_any extended any }))
-    | inr some ↦ subst (EditionStands (lower_name w)) (sym (packed_is some)) (inr (fields_stand (Edition ∷ extended)))
+  edition_spelled : IsEditionSpelling (lower_name w) (edition_component w)
+  edition_spelled = elim (cases_Bool (list_all (λ a. is_any_component (value_of w a)) extended)) [
+    | inl any ↦ subst (IsEditionSpelling (lower_name w)) (sym (alone_is any)) (inl (record { bare = untilded_start (uri_component w.edition) (untilded Edition); edition = present Edition; others = others_any extended any }))
+    | inr some ↦ subst (IsEditionSpelling (lower_name w)) (sym (packed_is some)) (inr (fields_spelled (Edition ∷ extended)))
   ]
     where
-      alone_is : list_all (λ a. is_any (value_of w a)) extended ≡ true → edition_component w ≡ component w.edition
+      alone_is : list_all (λ a. is_any_component (value_of w a)) extended ≡ true → edition_component w ≡ uri_component w.edition
       alone_is h = rw h refl
 
-      packed_is : list_all (λ a. is_any (value_of w a)) extended ≡ false → edition_component w ≡ packed w
+      packed_is : list_all (λ a. is_any_component (value_of w a)) extended ≡ false → edition_component w ≡ packed w
       packed_is h = rw h refl
 
 -- ---- colons at the end
@@ -191,21 +191,21 @@ abbrev pub is_empty : List ℕ → Bool
 is_empty [] = true
 is_empty (c ∷ s) = false
 
--- a colon before each component
+-- the components, with a colon before each
 abbrev pub behind_colons : List (List ℕ) → List ℕ
 behind_colons cs = flat_map (λ c. 58 ∷ c) cs
 
--- without the empty components at the end
+-- the components, without the empty ones at the end
 abbrev pub kept_behind : List (List ℕ) → List (List ℕ)
 kept_behind [] = []
 kept_behind (c ∷ cs) = cond (list_all is_empty (c ∷ cs)) [] (c ∷ kept_behind cs)
 
--- the same, but the first component stays
+-- the components, without the empty ones at the end, except that the first component is kept
 abbrev pub kept : List (List ℕ) → List (List ℕ)
 kept [] = []
 kept (c ∷ cs) = c ∷ kept_behind cs
 
--- no colon is in it
+-- no byte of the text is a colon
 abbrev pub Uncoloned : List ℕ → Type 0
 Uncoloned s = list_all (λ c. not (eqb c 58)) s ≡ true
 
@@ -216,7 +216,7 @@ joined c (d ∷ cs) = ap (λ (u : List ℕ). c ++ 58 ∷ u) (joined d cs)
 other_byte : (b : ℕ) → not (eqb b 58) ≡ true → nat_eq 58 b ≡ false
 other_byte b h = grind (arith, nat_tests)
 
--- a byte of a component stops the trimming
+-- trimming keeps a beginning that has no colons
 trimmed_through : (c s : List ℕ) → Uncoloned c → trimmed 58 (c ++ s) ≡ c ++ trimmed 58 s
 trimmed_through [] s h = refl
 trimmed_through (b ∷ c) s h =
@@ -240,7 +240,7 @@ trimmed_behind (c ∷ cs) h =
           rw (colons, some) (ap (λ (u : List ℕ). 58 ∷ u) (trimmed_through c (behind_colons cs) h.0 ∙ ap (λ (u : List ℕ). c ++ u) (trimmed_behind cs h.1)))
     ]
 
--- the canonical URI has the components, without the empty ones at its end
+-- the trimmed URI has the components, without the empty ones at the end
 trimmed_join : (c : List ℕ) (cs : List (List ℕ)) → AllByRecursion Uncoloned (c ∷ cs) → trimmed 58 (codes "cpe:/" ++ join_with_byte 58 (c ∷ cs)) ≡ codes "cpe:/" ++ join_with_byte 58 (kept (c ∷ cs))
 trimmed_join c cs h =
     ap (λ (u : List ℕ). codes "cpe:/" ++ u) (ap (trimmed 58) (joined c cs) ∙ trimmed_through c (behind_colons cs) h.0 ∙ ap (λ (u : List ℕ). c ++ u) (trimmed_behind cs h.1) ∙ sym (joined c (kept_behind cs)))
@@ -262,7 +262,7 @@ kept_behind_at (c ∷ cs) (suc i) = elim (cases_Bool (list_all is_empty (c ∷ c
   | inr some ↦ rw some (kept_behind_at cs i)
 ]
 
--- where one is dropped, an empty one is read
+-- a component that was dropped counts as empty, so each component is unchanged
 kept_at : (cs : List (List ℕ)) (i : ℕ) → get_or (kept cs) i [] ≡ get_or cs i []
 kept_at [] i = refl
 kept_at (c ∷ cs) zero = refl
@@ -275,7 +275,7 @@ kept_behind_few (c ∷ cs) = elim (cases_Bool (list_all is_empty (c ∷ cs))) [
   | inr some ↦ rw some (omega (arith, kept_behind_few cs))
 ]
 
--- ---- the whole
+-- ---- the whole URI
 
 value_again : (v : Value) → lower_value (lower_value v) ≡ lower_value v
 value_again value.Any = refl
@@ -286,7 +286,7 @@ value_again (value.Text t) = ap (λ (b : List ℕ). value.Text (parts t.lead b t
     again [] = refl
     again (c ∷ b) = rw (lowercase-lowercase c) (ap (λ (u : List ℕ). to_ascii_lowercase c ∷ u) (again b))
 
--- a name in lower case is in lower case
+-- `lower_name` returns a name in lower case
 pub lower_is_lower : (w : Values) → IsLower (lower_name w)
 lower_is_lower w = ap named (again attributes)
   where
@@ -297,42 +297,42 @@ lower_is_lower w = ap named (again attributes)
         cc (same, again rest)
 
 module _ (w : Values) (name : IsName w) where
-  uncoloned : (a : Attribute) → Uncoloned (component (value_of w a))
-  uncoloned a = quiet_uncoloned (component (value_of w a)) (value_quiet (value_of w a) (good_value w a name))
+  uncoloned : (a : Attribute) → Uncoloned (uri_component (value_of w a))
+  uncoloned a = quiet_uncoloned (uri_component (value_of w a)) (value_quiet (value_of w a) (good_value w a name))
 
-  packed_uncoloned : (which : List Attribute) → Uncoloned (flat_map (λ a. 126 ∷ component (value_of w a)) which)
+  packed_uncoloned : (which : List Attribute) → Uncoloned (flat_map (λ a. 126 ∷ uri_component (value_of w a)) which)
   packed_uncoloned [] = refl
-  packed_uncoloned (a ∷ rest) = rw (list_all-append (λ c. not (eqb c 58)) (component (value_of w a)) (flat_map (λ b. 126 ∷ component (value_of w b)) rest), uncoloned a) (packed_uncoloned rest)
+  packed_uncoloned (a ∷ rest) = rw (list_all-append (λ c. not (eqb c 58)) (uri_component (value_of w a)) (flat_map (λ b. 126 ∷ uri_component (value_of w b)) rest), uncoloned a) (packed_uncoloned rest)
 
   edition_uncoloned : Uncoloned (edition_component w)
-  edition_uncoloned = elim (cases_Bool (list_all (λ a. is_any (value_of w a)) extended)) [
+  edition_uncoloned = elim (cases_Bool (list_all (λ a. is_any_component (value_of w a)) extended)) [
     | inl any ↦ rw any (uncoloned Edition)
     | inr some ↦ rw some (packed_uncoloned (Edition ∷ extended))
   ]
 
   -- the components after the first
   abbrev pub behind : List (List ℕ)
-  behind = component w.vendor ∷ component w.product ∷ component w.version ∷ component w.update ∷ edition_component w ∷ component w.language ∷ []
+  behind = uri_component w.vendor ∷ uri_component w.product ∷ uri_component w.version ∷ uri_component w.update ∷ edition_component w ∷ uri_component w.language ∷ []
 
-  kept_stands : (a : Attribute) (i : ℕ) → get_or (components w) i [] ≡ component (value_of w a) → Stands (value_of (lower_name w) a) (get_or (kept (components w)) i [])
-  kept_stands a i is = subst (Stands (value_of (lower_name w) a)) (sym is ∙ sym (kept_at (components w) i)) (stands w name a)
+  kept_spelled : (a : Attribute) (i : ℕ) → get_or (components w) i [] ≡ uri_component (value_of w a) → IsSpellingOf (value_of (lower_name w) a) (get_or (kept (components w)) i [])
+  kept_spelled a i is = subst (IsSpellingOf (value_of (lower_name w) a)) (sym is ∙ sym (kept_at (components w) i)) (present w name a)
 
   -- the canonical URI of a name is a URI of the name in lower case
-  pub canon_stands : IsName (lower_name w) → Uri (lower_name w) (canon w)
-  canon_stands lowered = record {
+  pub canon_spelled : IsName (lower_name w) → Uri (lower_name w) (canon w)
+  canon_spelled lowered = record {
     name = lowered;
     lower = lower_is_lower w;
     prefix = codes "cpe:/";
     components = kept (components w);
-    text = trimmed_join (component w.part) behind (uncoloned Part, (uncoloned Vendor, (uncoloned Product, (uncoloned Version, (uncoloned Update, (edition_uncoloned, (uncoloned Language, tt)))))));
+    text = trimmed_join (uri_component w.part) behind (uncoloned Part, (uncoloned Vendor, (uncoloned Product, (uncoloned Version, (uncoloned Update, (edition_uncoloned, (uncoloned Language, tt)))))));
     begins = refl;
     some = omega arith;
     few = omega (arith, kept_behind_few behind);
-    part = kept_stands Part 0 refl;
-    vendor = kept_stands Vendor 1 refl;
-    product = kept_stands Product 2 refl;
-    version = kept_stands Version 3 refl;
-    update = kept_stands Update 4 refl;
-    edition = subst (EditionStands (lower_name w)) (sym (kept_at (components w) 5)) (edition_stands w name);
-    language = kept_stands Language 6 refl;
+    part = kept_spelled Part 0 refl;
+    vendor = kept_spelled Vendor 1 refl;
+    product = kept_spelled Product 2 refl;
+    version = kept_spelled Version 3 refl;
+    update = kept_spelled Update 4 refl;
+    edition = subst (IsEditionSpelling (lower_name w)) (sym (kept_at (components w) 5)) (edition_spelled w name);
+    language = kept_spelled Language 6 refl;
   }

@@ -1,4 +1,4 @@
--- Components byte by byte: the machine takes those of ANY, NA and the texts, and each of its states can be completed.
+-- Lemmas: the machine reads the components of ANY, NA and texts, and can still reach an end from each state.
 use Rattle.std.proofs.Common.{◌≡◌, ◌⊎◌, ℕ, ◌+◌, ◌*◌, ◌<◌, ◌≤◌, ◌&&◌, ◌||◌, not, ltb, leb, Bool, true, false, eqb, cond, List, [], ◌∷◌, ◌++◌, length, map, take, drop, ◌-◌, slice_index, Option, Some, None, Ok, refl, sym, ap, subst, ◌∙◌, inl, inr, arith}
 use Rattle.std.specs.Option.{option_map}
 use Rattle.std.specs.List.{list_all}
@@ -6,7 +6,7 @@ use Rattle.std.specs.Char.{to_ascii_lowercase}
 use Rattle.std.proofs.lemmas.Bool.{not-true, cases_Bool, eqb-true, eq-eqb, and_parts, and_from, or_cases, or_left, or_right, both_ways}
 use Rattle.std.proofs.lemmas.Bool.Decides.{nat_tests}
 use Rattle.std.proofs.lemmas.List.{take_all}
-use Rattle.cpe_grammar.proofs.Reading.{goes, went_in, went_out}
+use Rattle.name_grammar.proofs.Reading.{rest_goes, went_in, went_out}
 use Rattle.cpe_values.specs.declared.spelling.Style.TheVariants as style
 use Rattle.cpe_values.specs.Parts.{is_character}
 use Rattle.cpe_values.specs.Skipping.{skip_while}
@@ -15,12 +15,12 @@ use Rattle.cpe_values.proofs.SkippingLemmas.{length-skip_while}
 use Rattle.cpe_uri.specs.Spelling.{is_hex, hex_value, has_percent_form, spells, Spelled}
 use Rattle.cpe_uri.specs.declared.text.Stage.{Stage}
 use Rattle.cpe_uri.specs.declared.text.Stage.TheVariants.{Start, Na, Hyphen, LeadStar, LeadMarks, Body, TrailMarks, TrailStar}
-use Rattle.cpe_uri.specs.declared.text.State.{State}
-use Rattle.cpe_uri.specs.declared.text.State.TheVariants.{Whole, Percent, Half}
-use Rattle.cpe_uri.specs.TextMachine.{begins_body, after_mark, after_star, after_character, takes_character, takes_special, takes_digit, is_start, next, is_over, stands_bare, after_bare, after_percent, after_digit, after_code, step, may_end, is_in_body, ends_component, read_from}
+use Rattle.cpe_uri.specs.declared.text.TextState.{TextState}
+use Rattle.cpe_uri.specs.declared.text.TextState.TheVariants.{Whole, Percent, Half}
+use Rattle.cpe_uri.specs.TextMachine.{begins_body, after_mark, after_star, after_character, takes_character, takes_special, takes_digit, is_start, next, is_over, is_bare_here, after_bare, after_percent, after_digit, after_code, text_step, may_end, is_in_body, ends_component, read_from}
 use Rattle.cpe_uri.proofs.Stages.{some_stage, no_stage, stage_is, no_stage_is, run, run_then, NextCase, mark, star, plain, next_case}
 
--- ---- which way a test goes
+-- ---- the cases of a test
 
 when_true : {X : Type 0} (b : Bool) (x y : X) → b ≡ true → cond b x y ≡ x
 when_true true x y h = refl
@@ -30,7 +30,7 @@ when_false : {X : Type 0} (b : Bool) (x y : X) → b ≡ false → cond b x y �
 when_false true x y h = absurd cc
 when_false false x y h = refl
 
--- ---- what the code asks
+-- ---- what the functions of `text.rt` test
 
 bare_no_percent : (b : ℕ) → is_bare style.Formatted b ≡ true → eqb b 37 ≡ false
 bare_no_percent b h = grind (arith, nat_tests)
@@ -48,18 +48,18 @@ pub skip_within : (s : List ℕ) → length (skip_while (is_bare style.Formatted
 skip_within s = length-skip_while (is_bare style.Formatted) s
 
 module _ (packed : Bool) where
-  body_stays : (c : ℕ) → is_bare style.Formatted c ≡ true → step packed (Whole Body) c ≡ Some (Whole Body)
+  body_stays : (c : ℕ) → is_bare style.Formatted c ≡ true → text_step packed (Whole Body) c ≡ Some (Whole Body)
   body_stays c h = rw (bare_no_percent c h, h, bare_no_mark c h, bare_no_star c h, bare_character c h) refl
 
-  -- after bare characters a body is still one
+  -- bare characters inside a body don't change what is read after them
   pub skip_same : (s : List ℕ) → read_from packed (Whole Body) (skip_while (is_bare style.Formatted) s) ≡ read_from packed (Whole Body) s
   skip_same [] = refl
   skip_same (c ∷ s) = elim (cases_Bool (is_bare style.Formatted c)) [
-    | inl h ↦ ap (read_from packed (Whole Body)) (when_true _ (skip_while (is_bare style.Formatted) s) (c ∷ s) h) ∙ skip_same s ∙ sym (goes (step packed) may_end (Whole Body) (Whole Body) c s (body_stays c h))
+    | inl h ↦ ap (read_from packed (Whole Body)) (when_true _ (skip_while (is_bare style.Formatted) s) (c ∷ s) h) ∙ skip_same s ∙ sym (rest_goes (text_step packed) may_end (Whole Body) (Whole Body) c s (body_stays c h))
     | inr h ↦ ap (read_from packed (Whole Body)) (when_false _ (skip_while (is_bare style.Formatted) s) (c ∷ s) h)
   ]
 
-  pub skip_in_body : (q : State) (s : List ℕ) → is_in_body q ≡ true → read_from packed q (skip_while (is_bare style.Formatted) s) ≡ read_from packed q s
+  pub skip_in_body : (q : TextState) (s : List ℕ) → is_in_body q ≡ true → read_from packed q (skip_while (is_bare style.Formatted) s) ≡ read_from packed q s
   skip_in_body (Whole Start) s h = absurd cc
   skip_in_body (Whole Na) s h = absurd cc
   skip_in_body (Whole Hyphen) s h = absurd cc
@@ -75,8 +75,8 @@ module _ (packed : Bool) where
   body_ended [] h = refl
   body_ended (c ∷ s) h = let e : c ≡ 58 = eqb-true c 58 h in rw e refl
 
-  -- a body ends with its component
-  pub ended_body : (q : State) (s : List ℕ) → is_in_body q ≡ true → ends_component s ≡ true → read_from packed q s ≡ Ok s
+  -- inside a body, the machine succeeds at the end of a component
+  pub ended_body : (q : TextState) (s : List ℕ) → is_in_body q ≡ true → ends_component s ≡ true → read_from packed q s ≡ Ok s
   ended_body (Whole Start) s h e = absurd cc
   ended_body (Whole Na) s h e = absurd cc
   ended_body (Whole Hyphen) s h e = absurd cc
@@ -88,50 +88,50 @@ module _ (packed : Bool) where
   ended_body (Percent q) s h e = absurd cc
   ended_body (Half q n) s h e = absurd cc
 
-  body_begins : (c : ℕ) → is_bare style.Formatted c ≡ true → eqb c 45 ≡ false → step packed (Whole Start) c ≡ Some (Whole Body)
+  body_begins : (c : ℕ) → is_bare style.Formatted c ≡ true → eqb c 45 ≡ false → text_step packed (Whole Start) c ≡ Some (Whole Body)
   body_begins c h k = rw (bare_no_percent c h, h, bare_no_mark c h, bare_no_star c h, bare_character c h, k) refl
 
-  -- a component that begins with bare characters is a body after them
+  -- if a component begins with bare characters, the machine may begin after them, inside the body
   begun : (c : ℕ) (s : List ℕ) → begins_body c ≡ true → read_from packed (Whole Body) (skip_while (is_bare style.Formatted) s) ≡ read_from packed (Whole Start) (c ∷ s)
   begun c s h =
       let p = and_parts (is_bare style.Formatted c) (not (eqb c 45)) h in
-      skip_same s ∙ sym (goes (step packed) may_end (Whole Start) (Whole Body) c s (body_begins c p.0 (not-true (eqb c 45) p.1)))
+      skip_same s ∙ sym (rest_goes (text_step packed) may_end (Whole Start) (Whole Body) c s (body_begins c p.0 (not-true (eqb c 45) p.1)))
 
   pub begun_at : (s : List ℕ) → 1 ≤ length s → begins_body (slice_index s 0) ≡ true → read_from packed (Whole Body) (skip_while (is_bare style.Formatted) (take (length s - 1) (drop 1 s))) ≡ read_from packed (Whole Start) s
   begun_at [] some h = absurd (omega (arith, some))
   begun_at (c ∷ s) some h = let n : length (c ∷ s) - 1 ≡ length s = omega arith in ap (λ (u : List ℕ). read_from packed (Whole Body) (skip_while (is_bare style.Formatted) u)) (take_all (length (c ∷ s) - 1) s (omega (arith, n))) ∙ begun c s h
 
-  -- a step is taken
-  pub went : (q t : State) (c : ℕ) (s : List ℕ) → step packed q c ≡ Some t → read_from packed q (c ∷ s) ≡ read_from packed t s
-  went q t c s e = goes (step packed) may_end q t c s e
+  -- if there is a step, the machine continues from the next state
+  pub went : (q t : TextState) (c : ℕ) (s : List ℕ) → text_step packed q c ≡ Some t → read_from packed q (c ∷ s) ≡ read_from packed t s
+  went q t c s e = rest_goes (text_step packed) may_end q t c s e
 
-  pub went_at : (q t : State) (s : List ℕ) → 1 ≤ length s → step packed q (slice_index s 0) ≡ Some t → read_from packed t (take (length s - 1) (drop 1 s)) ≡ read_from packed q s
+  pub went_at : (q t : TextState) (s : List ℕ) → 1 ≤ length s → text_step packed q (slice_index s 0) ≡ Some t → read_from packed t (take (length s - 1) (drop 1 s)) ≡ read_from packed q s
   went_at q t [] some e = absurd (omega (arith, some))
   went_at q t (c ∷ s) some e = let n : length (c ∷ s) - 1 ≡ length s = omega arith in ap (read_from packed t) (take_all (length (c ∷ s) - 1) s (omega (arith, n))) ∙ sym (went q t c s e)
 
--- ---- what was read: codes, each in one of its spellings
+-- ---- what was read: codes, each in an accepted spelling
 
-abbrev some_state : State → Option State
+abbrev some_state : TextState → Option TextState
 some_state q = Some q
 
-abbrev no_state : Option State
+abbrev no_state : Option TextState
 no_state = None
 
-state_is : (p q : State) → some_state p ≡ some_state q → p ≡ q
+state_is : (p q : TextState) → some_state p ≡ some_state q → p ≡ q
 state_is p q e = cc
 
-no_state_is : (q : State) → no_state ≡ some_state q → ⊥
+no_state_is : (q : TextState) → no_state ≡ some_state q → ⊥
 no_state_is q e = cc
 
-mapped : (o : Option Stage) (t : State) → option_map Whole o ≡ some_state t → (q : Stage) × (o ≡ Some q) × (t ≡ Whole q)
+mapped : (o : Option Stage) (t : TextState) → option_map Whole o ≡ some_state t → (q : Stage) × (o ≡ Some q) × (t ≡ Whole q)
 mapped (Some q) t e = (q, refl, sym (state_is (Whole q) t e))
 mapped None t e = absurd (no_state_is t e)
 
-chose : (b : Bool) (o : Option State) (t : State) → cond b o no_state ≡ some_state t → (b ≡ true) × (o ≡ Some t)
+chose : (b : Bool) (o : Option TextState) (t : TextState) → cond b o no_state ≡ some_state t → (b ≡ true) × (o ≡ Some t)
 chose true o t e = (refl, e)
 chose false o t e = absurd (no_state_is t e)
 
--- no stage is the first again
+-- no step returns to the stage `Start`
 pub later_next : (q t : Stage) (c : ℕ) → next q c ≡ Some t → is_start t ≡ false
 later_next q t c e = go q c t (next_case q t c e) where
   is_not : (p t : Stage) → is_start p ≡ false → some_stage p ≡ some_stage t → is_start t ≡ false
@@ -170,7 +170,7 @@ later_next q t c e = go q c t (next_case q t c e) where
   go _ _ _ (star q t h) = after_star_not q t h
   go _ _ _ (plain q t c good h) = either_not (takes_character q) (is_start q && eqb c 45) Hyphen Body t refl refl h
 
--- a letter counts as in lower case
+-- a letter in either case has the same next stage
 next_lower : (q : Stage) (b : ℕ) → next q (to_ascii_lowercase b) ≡ next q b
 next_lower q b =
     let one : eqb (to_ascii_lowercase b) 1 ≡ eqb b 1 = grind (arith, nat_tests) in
@@ -185,7 +185,7 @@ lower_lower b = grind (arith, nat_tests)
 coded_lower : (c : ℕ) → has_percent_form c ≡ true → to_ascii_lowercase c ≡ c
 coded_lower c h = grind (arith, nat_tests)
 
--- codes that lead from this stage to the end of a component
+-- the text spells codes in lower case; after these codes, from the stage `q` on, the component may end
 pub record Read (q : Stage) (s : List ℕ) : Type 0 where
   pub codes : List ℕ
   pub spelled : Spelled codes s
@@ -207,14 +207,14 @@ read_more q t c u s e good low r = record {
 read_end : (q : Stage) → is_over q ≡ true → Read q []
 read_end q h = record { codes = []; spelled = refl; lower = refl; end = q; runs = refl; over = h }
 
--- or the lone hyphen at the start
+-- the outcome of reading a text: `Read` holds, or the text is a hyphen alone at the beginning
 abbrev pub Outcome : Stage → List ℕ → Type 0
 Outcome q s = Read q s ⊎ ((is_start q ≡ true) × (s ≡ 45 ∷ []))
 
 not_lone : (q : Stage) (s : List ℕ) → is_start q ≡ false → Outcome q s → Read q s
 not_lone q s h o = elim o [ inl r ↦ r | inr lone ↦ absurd (both_ways (is_start q) h lone.0) ]
 
--- after a hyphen it goes on as from the stage of one
+-- a bare hyphen at the beginning, with codes after it, has this outcome
 hyphen_read : (q : Stage) (s : List ℕ) → is_start q ≡ true → Read Na s → Outcome q (45 ∷ s)
 hyphen_read Start s h r = go r.codes r.spelled r.lower r.runs where
   go : (codes : List ℕ) → Spelled codes s → map to_ascii_lowercase codes ≡ codes → run Na codes ≡ Some r.end → Outcome Start (45 ∷ s)
@@ -229,97 +229,97 @@ hyphen_read (TrailMarks n) s h r = absurd cc
 hyphen_read TrailStar s h r = absurd cc
 
 module _ (packed : Bool) where
-  bare_unit : (b : ℕ) → stands_bare packed b ≡ true → spells (to_ascii_lowercase b) (b ∷ []) ≡ true
+  bare_unit : (b : ℕ) → is_bare_here packed b ≡ true → spells (to_ascii_lowercase b) (b ∷ []) ≡ true
   bare_unit b h = and_from (is_bare style.Formatted b || eqb b 126) (eqb (to_ascii_lowercase b) (to_ascii_lowercase b)) (elim (or_cases (is_bare style.Formatted b) (eqb b 126 && not packed) h) [
     | inl bare ↦ or_left _ _ bare
     | inr tilde ↦ or_right _ _ (and_parts (eqb b 126) (not packed) tilde).0
   ]) (eq-eqb _ _ refl)
 
-  -- after a bare byte
-  bare_read : (q : Stage) (b : ℕ) (s : List ℕ) (t : State) → ((p : Stage) → read_from packed (Whole p) s ≡ Ok [] → Outcome p s) → eqb b 37 ≡ false → step packed (Whole q) b ≡ Some t → read_from packed t s ≡ Ok [] → Outcome q (b ∷ s)
+  -- a bare byte, with a text after it that was read, has this outcome
+  bare_read : (q : Stage) (b : ℕ) (s : List ℕ) (t : TextState) → ((p : Stage) → read_from packed (Whole p) s ≡ Ok [] → Outcome p s) → eqb b 37 ≡ false → text_step packed (Whole q) b ≡ Some t → read_from packed t s ≡ Ok [] → Outcome q (b ∷ s)
   bare_read q b s t again other taken e =
-      let bare = chose (stands_bare packed b) (after_bare q b) t (sym (when_false (eqb b 37) (after_percent q) _ other) ∙ taken) in
+      let bare = chose (is_bare_here packed b) (after_bare q b) t (sym (when_false (eqb b 37) (after_percent q) _ other) ∙ taken) in
       elim (cases_Bool (is_start q && eqb b 45)) [
         | inl first ↦
             let p = and_parts (is_start q) (eqb b 45) first in
             let is : Whole Na ≡ t = state_is (Whole Na) t (sym (when_true (is_start q && eqb b 45) (some_state (Whole Na)) (option_map Whole (next q b)) first) ∙ bare.1) in
-            let rest = not_lone Na s refl (again Na (ap (λ (x : State). read_from packed x s) is ∙ e)) in
+            let rest = not_lone Na s refl (again Na (ap (λ (x : TextState). read_from packed x s) is ∙ e)) in
             subst (λ (d : ℕ). Outcome q (d ∷ s)) (sym (eqb-true b 45 p.1)) (hyphen_read q s p.0 rest)
         | inr later ↦
             let so = mapped (next q b) t (sym (when_false (is_start q && eqb b 45) (some_state (Whole Na)) (option_map Whole (next q b)) later) ∙ bare.1) in
-            let rest = not_lone so.0 s (later_next q so.0 b so.1) (again so.0 (ap (λ (x : State). read_from packed x s) (sym so.2) ∙ e)) in
+            let rest = not_lone so.0 s (later_next q so.0 b so.1) (again so.0 (ap (λ (x : TextState). read_from packed x s) (sym so.2) ∙ e)) in
             inl (read_more q so.0 (to_ascii_lowercase b) (b ∷ []) s (next_lower q b ∙ so.1) (bare_unit b bare.0) (lower_lower b) rest)
       ]
 
   -- ---- after a percent sign and its digits
 
-  from_state : (t u : State) (s : List ℕ) → t ≡ u → read_from packed u s ≡ Ok [] → read_from packed t s ≡ Ok []
-  from_state t u s same e = ap (λ (x : State). read_from packed x s) same ∙ e
+  from_state : (t u : TextState) (s : List ℕ) → t ≡ u → read_from packed u s ≡ Ok [] → read_from packed t s ≡ Ok []
+  from_state t u s same e = ap (λ (x : TextState). read_from packed x s) same ∙ e
 
   percent_read : (q : Stage) (s : List ℕ) → read_from packed (Whole q) (37 ∷ s) ≡ Ok [] → read_from packed (Percent q) s ≡ Ok []
   percent_read q s e =
-      let so = went_in (step packed) may_end (Whole q) 37 s e in
+      let so = went_in (text_step packed) may_end (Whole q) 37 s e in
       from_state (Percent q) so.0 s (state_is (Percent q) so.0 (chose (takes_character q || takes_special q) (Some (Percent q)) so.0 so.1).1) so.2
 
   digit_read : (q : Stage) (h : ℕ) (s : List ℕ) → read_from packed (Percent q) (h ∷ s) ≡ Ok [] → (is_hex h ≡ true) × (read_from packed (Half q (hex_value h)) s ≡ Ok [])
   digit_read q h s e =
-      let so = went_in (step packed) may_end (Percent q) h s e in
+      let so = went_in (text_step packed) may_end (Percent q) h s e in
       let hex = chose (is_hex h) (after_digit q (hex_value h)) so.0 so.1 in
       (hex.0, from_state (Half q (hex_value h)) so.0 s (state_is (Half q (hex_value h)) so.0 (chose (takes_digit q (hex_value h)) (Some (Half q (hex_value h))) so.0 hex.1).1) so.2)
 
-  -- a code and what it leads to
+  -- the code has a percent form and a next stage, from which the rest is read
   record CodeRead (q : Stage) (c : ℕ) (s : List ℕ) : Type 0 where
     stage : Stage
     form : has_percent_form c ≡ true
-    goes : next q c ≡ Some stage
+    rest_goes : next q c ≡ Some stage
     rest : read_from packed (Whole stage) s ≡ Ok []
 
   code_read : (q : Stage) (h l : ℕ) (s : List ℕ) → read_from packed (Half q h) (l ∷ s) ≡ Ok [] → (is_hex l ≡ true) × CodeRead q (16 * h + hex_value l) s
   code_read q h l s e =
-      let so = went_in (step packed) may_end (Half q h) l s e in
+      let so = went_in (text_step packed) may_end (Half q h) l s e in
       let hex = chose (is_hex l) (after_code q (16 * h + hex_value l)) so.0 so.1 in
       let form = chose (has_percent_form (16 * h + hex_value l)) (option_map Whole (next q (16 * h + hex_value l))) so.0 hex.1 in
       let to = mapped (next q (16 * h + hex_value l)) so.0 form.1 in
-      (hex.0, record { stage = to.0; form = form.0; goes = to.1; rest = from_state (Whole to.0) so.0 s (sym to.2) so.2 })
+      (hex.0, record { stage = to.0; form = form.0; rest_goes = to.1; rest = from_state (Whole to.0) so.0 s (sym to.2) so.2 })
 
   form_spells : (h l : ℕ) → is_hex h ≡ true → is_hex l ≡ true → has_percent_form (16 * hex_value h + hex_value l) ≡ true → spells (16 * hex_value h + hex_value l) (37 ∷ h ∷ l ∷ []) ≡ true
   form_spells h l hex hex2 form = rw (hex, hex2, eq-eqb (16 * hex_value h + hex_value l) (16 * hex_value h + hex_value l) refl) form
 
   form_after : (q : Stage) (h l : ℕ) (s : List ℕ) → ((p : Stage) → read_from packed (Whole p) s ≡ Ok [] → Outcome p s) → is_hex h ≡ true → is_hex l ≡ true → CodeRead q (16 * hex_value h + hex_value l) s → Read q (37 ∷ h ∷ l ∷ s)
   form_after q h l s again hex hex2 code =
-      read_more q code.stage (16 * hex_value h + hex_value l) (37 ∷ h ∷ l ∷ []) s code.goes (form_spells h l hex hex2 code.form) (coded_lower (16 * hex_value h + hex_value l) code.form) (not_lone code.stage s (later_next q code.stage (16 * hex_value h + hex_value l) code.goes) (again code.stage code.rest))
+      read_more q code.stage (16 * hex_value h + hex_value l) (37 ∷ h ∷ l ∷ []) s code.rest_goes (form_spells h l hex hex2 code.form) (coded_lower (16 * hex_value h + hex_value l) code.form) (not_lone code.stage s (later_next q code.stage (16 * hex_value h + hex_value l) code.rest_goes) (again code.stage code.rest))
 
-  -- after a percent form
+  -- a text that begins with a percent form was read code by code
   form_read : (q : Stage) (h l : ℕ) (s : List ℕ) → ((p : Stage) → read_from packed (Whole p) s ≡ Ok [] → Outcome p s) → read_from packed (Whole q) (37 ∷ h ∷ l ∷ s) ≡ Ok [] → Read q (37 ∷ h ∷ l ∷ s)
   form_read q h l s again e =
       let high = digit_read q h (l ∷ s) (percent_read q (h ∷ l ∷ s) e) in
       let low = code_read q (hex_value h) l s high.1 in
       form_after q h l s again high.0 low.0 low.1
 
-  -- a percent sign, and an end too early
+  -- a percent sign at the end of a text is refused
   cut_percent : (q : Stage) → read_from packed (Whole q) (37 ∷ []) ≡ Ok [] → ⊥
-  cut_percent q e = let over = went_out (step packed) may_end (Percent q) (percent_read q [] e) in absurd cc
+  cut_percent q e = let over = went_out (text_step packed) may_end (Percent q) (percent_read q [] e) in absurd cc
 
   cut_half : (q : Stage) (h : ℕ) → read_from packed (Whole q) (37 ∷ h ∷ []) ≡ Ok [] → ⊥
-  cut_half q h e = let over = went_out (step packed) may_end (Half q (hex_value h)) (digit_read q h [] (percent_read q (h ∷ []) e)).1 in absurd cc
+  cut_half q h e = let over = went_out (text_step packed) may_end (Half q (hex_value h)) (digit_read q h [] (percent_read q (h ∷ []) e)).1 in absurd cc
 
-  -- what is taken whole was read code by code
+  -- a text that is read whole was read code by code
   pub was_read : (q : Stage) (s : List ℕ) → read_from packed (Whole q) s ≡ Ok [] → Outcome q s
-  was_read q [] e = inl (read_end q (went_out (step packed) may_end (Whole q) e))
+  was_read q [] e = inl (read_end q (went_out (text_step packed) may_end (Whole q) e))
   was_read q (c ∷ []) e = elim (cases_Bool (eqb c 37)) [
     | inl form ↦ absurd (cut_percent q (ap (λ (d : ℕ). read_from packed (Whole q) (d ∷ [])) (sym (eqb-true c 37 form)) ∙ e))
-    | inr other ↦ let so = went_in (step packed) may_end (Whole q) c [] e in bare_read q c [] so.0 (λ p k. was_read p [] k) other so.1 so.2
+    | inr other ↦ let so = went_in (text_step packed) may_end (Whole q) c [] e in bare_read q c [] so.0 (λ p k. was_read p [] k) other so.1 so.2
   ]
   was_read q (c ∷ h ∷ []) e = elim (cases_Bool (eqb c 37)) [
     | inl form ↦ absurd (cut_half q h (ap (λ (d : ℕ). read_from packed (Whole q) (d ∷ h ∷ [])) (sym (eqb-true c 37 form)) ∙ e))
-    | inr other ↦ let so = went_in (step packed) may_end (Whole q) c (h ∷ []) e in bare_read q c (h ∷ []) so.0 (λ p k. was_read p (h ∷ []) k) other so.1 so.2
+    | inr other ↦ let so = went_in (text_step packed) may_end (Whole q) c (h ∷ []) e in bare_read q c (h ∷ []) so.0 (λ p k. was_read p (h ∷ []) k) other so.1 so.2
   ]
   was_read q (c ∷ h ∷ l ∷ s) e = elim (cases_Bool (eqb c 37)) [
     | inl form ↦ inl (subst (λ (d : ℕ). Read q (d ∷ h ∷ l ∷ s)) (sym (eqb-true c 37 form)) (form_read q h l s (λ p k. was_read p s k) (ap (λ (d : ℕ). read_from packed (Whole q) (d ∷ h ∷ l ∷ s)) (sym (eqb-true c 37 form)) ∙ e)))
-    | inr other ↦ let so = went_in (step packed) may_end (Whole q) c (h ∷ l ∷ s) e in bare_read q c (h ∷ l ∷ s) so.0 (λ p k. was_read p (h ∷ l ∷ s) k) other so.1 so.2
+    | inr other ↦ let so = went_in (text_step packed) may_end (Whole q) c (h ∷ l ∷ s) e in bare_read q c (h ∷ l ∷ s) so.0 (λ p k. was_read p (h ∷ l ∷ s) k) other so.1 so.2
   ]
 
--- ---- codes are read in each of their spellings
+-- ---- codes are read in each accepted spelling
 
 special_or_character : (q t : Stage) (c : ℕ) → next q c ≡ Some t → takes_character q || takes_special q ≡ true
 special_or_character q t c e = go q c t (next_case q t c e) where
@@ -363,12 +363,12 @@ digit_taken q t h l c hex hex2 is e = go q c t is (next_case q t c e) where
       character q (hex_value h) (omega (arith, is, small, first)) (omega (arith, is, last)) (takes q t c e)
 
 module _ (packed : Bool) where
-  -- no bare tilde stands in a packed field
+  -- in a packed field, the text has no bare tilde
   abbrev pub NoTilde : List ℕ → Type 0
   NoTilde s = packed ≡ true → list_all (λ c. not (eqb c 126)) s ≡ true
 
-  bare_stands : (b : ℕ) → is_bare style.Formatted b || eqb b 126 ≡ true → (packed ≡ true → eqb b 126 ≡ false) → stands_bare packed b ≡ true
-  bare_stands b h never = elim (or_cases (is_bare style.Formatted b) (eqb b 126) h) [
+  bare_is_spelled : (b : ℕ) → is_bare style.Formatted b || eqb b 126 ≡ true → (packed ≡ true → eqb b 126 ≡ false) → is_bare_here packed b ≡ true
+  bare_is_spelled b h never = elim (or_cases (is_bare style.Formatted b) (eqb b 126) h) [
     | inl bare ↦ or_left _ _ bare
     | inr tilde ↦ or_right _ _ (and_from _ _ tilde (elim (cases_Bool packed) [ inl is ↦ absurd (both_ways (eqb b 126) (never is) tilde) | inr is ↦ rw is refl ]))
   ]
@@ -382,16 +382,17 @@ module _ (packed : Bool) where
     | inr h ↦ h
   ]
 
-  -- after a percent form of a code
+  -- after the percent form of a code, the machine continues from the next stage
   form_unit : (q t : Stage) (c b h l : ℕ) (r : List ℕ) → eqb b 37 ≡ true → is_hex h ≡ true → is_hex l ≡ true → 16 * hex_value h + hex_value l ≡ c → has_percent_form c ≡ true → next q c ≡ Some t
       → read_from packed (Whole q) (b ∷ h ∷ l ∷ r) ≡ read_from packed (Whole t) r
   form_unit q t c b h l r sign hex hex2 code form e =
-      let percent : step packed (Whole q) b ≡ Some (Percent q) = rw (sign, special_or_character q t c e) refl in
-      let high : step packed (Percent q) h ≡ Some (Half q (hex_value h)) = rw (hex, digit_taken q t h l c hex hex2 code e) refl in
-      let low : step packed (Half q (hex_value h)) l ≡ Some (Whole t) = rw (hex2, code, form, e) refl in
+      let percent : text_step packed (Whole q) b ≡ Some (Percent q) = rw (sign, special_or_character q t c e) refl in
+      let high : text_step packed (Percent q) h ≡ Some (Half q (hex_value h)) = rw (hex, digit_taken q t h l c hex hex2 code e) refl in
+      let low : text_step packed (Half q (hex_value h)) l ≡ Some (Whole t) = rw (hex2, code, form, e) refl in
       went packed (Whole q) (Percent q) b (h ∷ l ∷ r) percent ∙ went packed (Percent q) (Half q (hex_value h)) h (l ∷ r) high ∙ went packed (Half q (hex_value h)) (Whole t) l r low
 
-  -- a code in one of its spellings leads to the stage after it, but for the hyphen at the start
+  -- After an accepted spelling of a code, the machine continues from the next stage. The bare hyphen at the beginning
+  -- is an exception.
   pub unit_read : (q t : Stage) (c : ℕ) (u r : List ℕ) → spells c u ≡ true → NoTilde u → next q c ≡ Some t → ((is_start q ≡ true) × (u ≡ 45 ∷ []) → ⊥) → read_from packed (Whole q) (u ++ r) ≡ read_from packed (Whole t) r
   unit_read q t c [] r good none e other = absurd cc
   unit_read q t c (b ∷ []) r good none e other =
@@ -403,8 +404,8 @@ module _ (packed : Bool) where
       ] in
       let there : next q b ≡ Some t = sym (next_lower q b) ∙ ap (next q) is ∙ e in
       went packed (Whole q) (Whole t) b r (
-      when_false (eqb b 37) (after_percent q) (cond (stands_bare packed b) (after_bare q b) no_state) (bare_is_other b p.0)
-      ∙ when_true (stands_bare packed b) (after_bare q b) no_state (bare_stands b p.0 (not_tilde b [] none))
+      when_false (eqb b 37) (after_percent q) (cond (is_bare_here packed b) (after_bare q b) no_state) (bare_is_other b p.0)
+      ∙ when_true (is_bare_here packed b) (after_bare q b) no_state (bare_is_spelled b p.0 (not_tilde b [] none))
       ∙ when_false (is_start q && eqb b 45) (some_state (Whole Na)) (option_map Whole (next q b)) first
       ∙ ap (option_map Whole) there)
   unit_read q t c (b ∷ d ∷ []) r good none e other = absurd cc
@@ -416,23 +417,23 @@ module _ (packed : Bool) where
       form_unit q t c b h l r m.0 m.1 n.1 (eqb-true _ c o.1) p.1 e
   unit_read q t c (b ∷ h ∷ l ∷ d ∷ u) r good none e other = absurd cc
 
--- ---- each state can be completed
+-- ---- the machine can reach an end from each state
 
--- a state that the machine comes to
-abbrev pub Good : State → Type 0
+-- a state that the machine can reach
+abbrev pub Good : TextState → Type 0
 Good (Whole q) = Unit {0}
 Good (Percent q) = takes_character q || takes_special q ≡ true
 Good (Half q h) = takes_digit q h ≡ true
 
 module _ (packed : Bool) where
-  pub stays_good : (q t : State) (c : ℕ) → Good q → step packed q c ≡ Some t → Good t
+  pub stays_good : (q t : TextState) (c : ℕ) → Good q → text_step packed q c ≡ Some t → Good t
   stays_good (Whole q) t c good e =
       elim (cases_Bool (eqb c 37)) [
         | inl h ↦
-            let so = chose (takes_character q || takes_special q) (Some (Percent q)) t (sym (when_true (eqb c 37) (after_percent q) (cond (stands_bare packed c) (after_bare q c) no_state) h) ∙ e) in
+            let so = chose (takes_character q || takes_special q) (Some (Percent q)) t (sym (when_true (eqb c 37) (after_percent q) (cond (is_bare_here packed c) (after_bare q c) no_state) h) ∙ e) in
             subst Good (state_is (Percent q) t so.1) so.0
         | inr h ↦
-            let so = chose (stands_bare packed c) (after_bare q c) t (sym (when_false (eqb c 37) (after_percent q) (cond (stands_bare packed c) (after_bare q c) no_state) h) ∙ e) in
+            let so = chose (is_bare_here packed c) (after_bare q c) t (sym (when_false (eqb c 37) (after_percent q) (cond (is_bare_here packed c) (after_bare q c) no_state) h) ∙ e) in
             elim (cases_Bool (is_start q && eqb c 45)) [
               | inl first ↦ subst Good (state_is (Whole Na) t (sym (when_true (is_start q && eqb c 45) (some_state (Whole Na)) (option_map Whole (next q c)) first) ∙ so.1)) tt
               | inr later ↦ let to = mapped (next q c) t (sym (when_false (is_start q && eqb c 45) (some_state (Whole Na)) (option_map Whole (next q c)) later) ∙ so.1) in subst Good (sym to.2) tt
@@ -448,7 +449,7 @@ module _ (packed : Bool) where
       let to = mapped (next q (16 * h + hex_value c)) t so.1 in
       subst Good (sym to.2) tt
 
-  abbrev Completes : State → Type 0
+  abbrev Completes : TextState → Type 0
   Completes q = (u : List ℕ) × (read_from packed q u ≡ Ok [])
 
   from_stage : (q : Stage) → Completes (Whole q)
@@ -461,11 +462,11 @@ module _ (packed : Bool) where
   from_stage (TrailMarks n) = ([], refl)
   from_stage TrailStar = ([], refl)
 
-  -- one byte more
-  before : (q t : State) (c : ℕ) → step packed q c ≡ Some t → Completes t → Completes q
+  -- if the machine can reach an end from the next state, it can from this state
+  before : (q t : TextState) (c : ℕ) → text_step packed q c ≡ Some t → Completes t → Completes q
   before q t c e more = (c ∷ more.0, went packed q t c more.0 e ∙ more.1)
 
-  -- the last digit of a special: that of the asterisk where no question mark may follow
+  -- after `%0`, the digit of a question mark may follow, or otherwise that of an asterisk
   from_special : (q : Stage) → takes_special q ≡ true → Completes (Half q 0)
   from_special q h = go (next q 1) refl (next q 2) refl where
     go : (o : Option Stage) → next q 1 ≡ o → (p : Option Stage) → next q 2 ≡ p → Completes (Half q 0)
@@ -473,7 +474,7 @@ module _ (packed : Bool) where
     go None e (Some t) f = before (Half q 0) (Whole t) 50 (ap (option_map Whole) f) (from_stage t)
     go None e None f = absurd (both_ways (takes_special q) (rw (e, f) refl) h)
 
-  -- the last digit of a character that has a percent form
+  -- after the first digit of a character, a second digit may follow
   from_character : (q : Stage) (h : ℕ) → takes_character q ≡ true → 2 ≤ h → h ≤ 7 → Completes (Half q h)
   from_character q h good low high =
       elim (cases_Bool (eqb h 4 || eqb h 6)) [
@@ -489,7 +490,7 @@ module _ (packed : Bool) where
           stage_there : no_stage ≡ some_stage (cond (is_start q && eqb c 45) Hyphen Body) → ⊥
           stage_there e = no_stage_is _ e
 
-  pub completed : (q : State) → Good q → Completes q
+  pub completed : (q : TextState) → Good q → Completes q
   completed (Whole q) good = from_stage q
   completed (Percent q) good = elim (or_cases (takes_character q) (takes_special q) good) [
     | inl character ↦ before (Percent q) (Half q 2) 50 (rw character refl) (from_character q 2 character (omega arith) (omega arith))

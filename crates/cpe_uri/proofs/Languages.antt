@@ -1,4 +1,4 @@
--- Parts and languages in a URI: what their scanners take, and that they take each of them.
+-- Lemmas: the scanners of parts and languages of a URI read exactly the components of parts and languages.
 use Rattle.std.proofs.Common.{◌≡◌, ℕ, Bool, true, false, ◌+◌, ◌*◌, ◌≤◌, ◌&&◌, ◌||◌, eqb, List, [], ◌∷◌, ◌++◌, codes, Ok, refl, sym, ap, subst, ◌∙◌, inl, inr, arith, append_assoc}
 use Rattle.std.specs.Char.{to_ascii_lowercase}
 use Rattle.std.specs.Str.{str_to_ascii_lowercase}
@@ -11,17 +11,17 @@ use Rattle.cpe_values.specs.declared.value.Value.TheVariants as value
 use Rattle.cpe_values.specs.declared.spelling.Style.TheVariants as style
 use Rattle.cpe_values.specs.Parts.{Parts}
 use Rattle.cpe_values.specs.Spelling.{is_letter, is_digit, is_word, is_bare}
-use Rattle.cpe_grammar.specs.Scanners.{both, nothing, one, literal}
-use Rattle.cpe_grammar.proofs.Scans.{Scans, wider, Empty, nothing_scans, OneOf, one_scans, Joined, both_scans, Either, choose_scans, Only, literal_scans}
+use Rattle.name_grammar.specs.Scanners.{scan_both, nothing, scan_one, literal}
+use Rattle.name_grammar.proofs.Scans.{Scans, wider, Empty, nothing_scans, OneOf, one_scans, Joined, both_scans, Either, choose_scans, Only, literal_scans}
 use Rattle.cpe_name.specs.declared.attribute.Attribute.TheVariants.{Part, Language}
 use Rattle.cpe_name.specs.Names.{Suits}
 use Rattle.cpe_name.specs.Shapes.{is_part_letter, is_part_body, is_language_body}
-use Rattle.cpe_name.specs.Tags.{tag_end, Hyphen, Region, Tag, Leads, IsHyphen, TagEnds}
+use Rattle.cpe_name.specs.Tags.{tag_end, Hyphen, Region, Tag, BeginsWithTag, IsHyphen, TagEnds}
 use Rattle.cpe_name.proofs.Shapes.{plain, plain_text, plain_parts}
 use Rattle.cpe_name.proofs.Tags.{all_bare, bare_characters, CodeCase, letters, digits, RegionCase, none, behind, TagCase, two, three, tag_case, tag_lawful, code_bare, tag_bare, code_case, tag_of, code_text, two_letters, tag_scans, tag_taken}
-use Rattle.cpe_uri.specs.Spelling.{is_hex, hex_value, has_percent_form, spells, Spelled, Stands}
-use Rattle.cpe_uri.specs.Spans.{IsComponent}
-use Rattle.cpe_uri.specs.Languages.{is_part_byte, is_hyphen, begins_hyphen, is_last_digit, part_end, percent_hyphen_end, hyphen_end, tag_or_nothing_end, language_end}
+use Rattle.cpe_uri.specs.Spelling.{is_hex, hex_value, has_percent_form, spells, Spelled, IsSpellingOf}
+use Rattle.cpe_uri.specs.Spans.{IsUriComponent}
+use Rattle.cpe_uri.specs.Languages.{is_language_byte, is_uri_hyphen, begins_hyphen, is_last_digit, part_end, percent_hyphen_end, hyphen_end, tag_or_nothing_end, language_end}
 use Rattle.cpe_uri.proofs.Ends.{Ends}
 
 -- ---- lower case
@@ -69,7 +69,7 @@ lower_tag _ (three a b c v ha hb hc region) =
 bare_spells : (b : ℕ) → is_bare style.Formatted b ≡ true → spells (to_ascii_lowercase b) (b ∷ []) ≡ true
 bare_spells b h = and_from _ _ (or_left _ _ h) (eq-eqb (to_ascii_lowercase b) (to_ascii_lowercase b) refl)
 
--- what stands bare spells itself in lower case
+-- bare bytes are a spelling of the same bytes in lower case
 bare_spelled : (s : List ℕ) → all_bare s ≡ true → Spelled (lowered s) s
 bare_spelled [] h = refl
 bare_spelled (b ∷ s) h = let p = and_parts (is_bare style.Formatted b) (all_bare s) h in (b ∷ [], s, refl, bare_spells b p.0, bare_spelled s p.1)
@@ -79,23 +79,23 @@ spelled_both [] u x y first second = subst (λ (w : List ℕ). Spelled u (w ++ y
 spelled_both (c ∷ t) u x y first second =
     (first.0, first.1 ++ y, ap (λ (w : List ℕ). w ++ y) first.2 ∙ append_assoc first.0 first.1 y, first.3, spelled_both t u first.1 y first.4 second)
 
--- the component of a body alone
-stands_alone : (t s : List ℕ) → Spelled t s → Stands (plain t) s
-stands_alone t s h = subst (λ (u : List ℕ). Spelled u s) (sym (append-nil t)) h
+-- a spelling of a body is the component of the text that has only this body
+spelled_alone : (t s : List ℕ) → Spelled t s → IsSpellingOf (plain t) s
+spelled_alone t s h = subst (λ (u : List ℕ). Spelled u s) (sym (append-nil t)) h
 
-alone_stands : (t s : List ℕ) → Stands (plain t) s → Spelled t s
-alone_stands t s h = subst (λ (u : List ℕ). Spelled u s) (append-nil t) h
+alone_spelled : (t s : List ℕ) → IsSpellingOf (plain t) s → Spelled t s
+alone_spelled t s h = subst (λ (u : List ℕ). Spelled u s) (append-nil t) h
 
 no_percent_form : (c : ℕ) → is_word c ≡ true → has_percent_form c ≡ true → ⊥
 no_percent_form c word form = grind (arith, nat_tests)
 
--- a spelling of one byte
+-- a spelling that is one byte
 record Bare (c : ℕ) (u : List ℕ) : Type 0 where
   byte : ℕ
   is : u ≡ byte ∷ []
   code : to_ascii_lowercase byte ≡ c
 
--- letters, digits and `_` have no other
+-- letters, digits and `_` have only spellings of one byte
 word_bare : (c : ℕ) (u : List ℕ) → is_word c ≡ true → spells c u ≡ true → Bare c u
 word_bare c [] word h = absurd cc
 word_bare c (b ∷ []) word h = let p = and_parts (is_bare style.Formatted b || eqb b 126) (eqb (to_ascii_lowercase b) c) h in record { byte = b; is = refl; code = eqb-true _ _ p.1 }
@@ -105,7 +105,7 @@ word_bare c (p ∷ h ∷ l ∷ []) word e =
     absurd (no_percent_form c word q.1)
 word_bare c (p ∷ h ∷ l ∷ d ∷ u) word e = absurd cc
 
--- a byte in either case, and the spellings of what follows
+-- the text is a byte that passes the test, and a spelling of the codes `t`
 record Head (passes : ℕ → Bool) (t s : List ℕ) : Type 0 where
   byte : ℕ
   rest : List ℕ
@@ -129,7 +129,7 @@ letter_head c t s h = head_spelled is_letter letter_from_lower c t s (or_left _ 
 digit_head : (c : ℕ) (t s : List ℕ) → is_digit c ≡ true → Spelled (c ∷ t) s → Head is_digit t s
 digit_head c t s h = head_spelled is_digit digit_from_lower c t s (or_left _ _ (or_right _ _ h)) h
 
--- the spellings of a code of a region are such codes
+-- each spelling of a region's code is a region's code
 code_spelled : (u s : List ℕ) → CodeCase u → Spelled u s → CodeCase s
 code_spelled _ s (letters x y hx hy) spelled =
     let a = letter_head x (y ∷ []) s hx spelled in
@@ -187,10 +187,10 @@ hyphen_case (p ∷ h ∷ l ∷ d ∷ u) e = absurd cc
 
 -- ---- parts
 
-a_part : (u : List ℕ) → Either (OneOf is_part_byte) Empty u → IsComponent Part u
+a_part : (u : List ℕ) → Either (OneOf is_language_byte) Empty u → IsUriComponent Part u
 a_part u h = elim h [
   | inl o ↦ elim (or_cases (eqb o.byte 45) (is_part_letter (to_ascii_lowercase o.byte)) o.passed) [
-    | inl na ↦ record { value = value.Na; suits = (tt, refl); lower = refl; stands = o.is ∙ ap (λ (d : ℕ). d ∷ []) (eqb-true o.byte 45 na) }
+    | inl na ↦ record { value = value.Na; suits = (tt, refl); lower = refl; present = o.is ∙ ap (λ (d : ℕ). d ∷ []) (eqb-true o.byte 45 na) }
     | inr letter ↦
         let bare_byte = part_letter_bare o.byte letter in
         let c : ℕ = to_ascii_lowercase o.byte in
@@ -199,20 +199,20 @@ a_part u h = elim h [
           value = plain (c ∷ []);
           suits = (plain_text is_part_body (c ∷ []) refl refl characters letter, letter);
           lower = ap plain (lowered_twice (o.byte ∷ []));
-          stands = subst (Spelled (c ∷ [])) (sym o.is) (bare_spelled (o.byte ∷ []) (and_from _ _ bare_byte refl));
+          present = subst (Spelled (c ∷ [])) (sym o.is) (bare_spelled (o.byte ∷ []) (and_from _ _ bare_byte refl));
         }
   ]
-  | inr empty ↦ record { value = value.Any; suits = (tt, refl); lower = refl; stands = empty }
+  | inr empty ↦ record { value = value.Any; suits = (tt, refl); lower = refl; present = empty }
 ]
 
--- the scanner of parts takes components that are parts
-pub part_scans : Scans (IsComponent Part) part_end
+-- the scanner of parts reads only components of parts
+pub part_scans : Scans (IsUriComponent Part) part_end
 unfolding part_end
 part_scans =
-    wider (Either (OneOf is_part_byte) Empty) (IsComponent Part) part_end a_part
-    (choose_scans is_part_byte (OneOf is_part_byte) Empty (one is_part_byte) nothing (one_scans is_part_byte 45 refl) nothing_scans)
+    wider (Either (OneOf is_language_byte) Empty) (IsUriComponent Part) part_end a_part
+    (choose_scans is_language_byte (OneOf is_language_byte) Empty (scan_one is_language_byte) nothing (one_scans is_language_byte 45 refl) nothing_scans)
 
-part_byte_taken : (c : ℕ) (r : List ℕ) → is_part_byte c ≡ true → part_end (c ∷ r) ≡ Ok r
+part_byte_taken : (c : ℕ) (r : List ℕ) → is_language_byte c ≡ true → part_end (c ∷ r) ≡ Ok r
 unfolding part_end
 part_byte_taken c r h = rw h refl
 
@@ -229,18 +229,18 @@ part_body_taken (c ∷ []) s r h spelled =
     ap (λ (u : List ℕ). part_end (u ++ r)) is ∙ part_byte_taken o.byte r (or_right _ _ (ap is_part_letter o.code ∙ h))
 part_body_taken (c ∷ d ∷ b) s r h spelled = absurd cc
 
--- it takes each of them, where the component ends
-pub part_taken : (v : Value) (s r : List ℕ) → Suits Part v → Stands v s → Ends r → part_end (s ++ r) ≡ Ok r
-part_taken value.Any s r suits stands e = ap (λ (u : List ℕ). part_end (u ++ r)) stands ∙ no_part_taken r e
-part_taken value.Na s r suits stands e = ap (λ (u : List ℕ). part_end (u ++ r)) stands ∙ part_byte_taken 45 r refl
-part_taken (value.Text t) s r suits stands e =
+-- the scanner of parts reads each component of a part, if the component ends there
+pub part_taken : (v : Value) (s r : List ℕ) → Suits Part v → IsSpellingOf v s → Ends r → part_end (s ++ r) ≡ Ok r
+part_taken value.Any s r suits present e = ap (λ (u : List ℕ). part_end (u ++ r)) present ∙ no_part_taken r e
+part_taken value.Na s r suits present e = ap (λ (u : List ℕ). part_end (u ++ r)) present ∙ part_byte_taken 45 r refl
+part_taken (value.Text t) s r suits present e =
     let p = plain_parts t (is_part_body t.body) suits.1 in
-    part_body_taken t.body s r p.1 (alone_stands t.body s (subst (λ (x : Parts). Stands (value.Text x) s) p.0 stands))
+    part_body_taken t.body s r p.1 (alone_spelled t.body s (subst (λ (x : Parts). IsSpellingOf (value.Text x) s) p.0 present))
 
--- ---- the hyphen of a tag, in each of its spellings
+-- ---- the hyphen of a tag, in each accepted spelling
 
 abbrev HyphenText : List ℕ → Type 0
-HyphenText = Either (OneOf is_hyphen) (Joined (Only (codes "%2")) (OneOf is_last_digit))
+HyphenText = Either (OneOf is_uri_hyphen) (Joined (Only (codes "%2")) (OneOf is_last_digit))
 
 last_spells : (d : ℕ) → is_last_digit d ≡ true → spells 45 (37 ∷ 50 ∷ d ∷ []) ≡ true
 last_spells d h = elim (or_cases (eqb d 68) (eqb d 100) h) [
@@ -260,27 +260,27 @@ hyphen_scans : Scans (Hyphen (spells 45)) hyphen_end
 unfolding hyphen_end percent_hyphen_end
 hyphen_scans =
     wider HyphenText (Hyphen (spells 45)) hyphen_end hyphen_spells
-    (choose_scans is_hyphen (OneOf is_hyphen) (Joined (Only (codes "%2")) (OneOf is_last_digit)) (one is_hyphen) (both (literal (codes "%2")) (one is_last_digit)) (one_scans is_hyphen 45 refl)
-    (both_scans (Only (codes "%2")) (OneOf is_last_digit) (literal (codes "%2")) (one is_last_digit) (literal_scans (codes "%2")) (one_scans is_last_digit 100 refl) (100 ∷ []) (record { byte = 100; is = refl; passed = refl })))
+    (choose_scans is_uri_hyphen (OneOf is_uri_hyphen) (Joined (Only (codes "%2")) (OneOf is_last_digit)) (scan_one is_uri_hyphen) (scan_both (literal (codes "%2")) (scan_one is_last_digit)) (one_scans is_uri_hyphen 45 refl)
+    (both_scans (Only (codes "%2")) (OneOf is_last_digit) (literal (codes "%2")) (scan_one is_last_digit) (literal_scans (codes "%2")) (one_scans is_last_digit 100 refl) (100 ∷ []) (record { byte = 100; is = refl; passed = refl })))
 
 case_taken : (u r : List ℕ) → HyphenCase u → hyphen_end (u ++ r) ≡ Ok r
 unfolding hyphen_end percent_hyphen_end literal
 case_taken _ r bare = refl
 case_taken _ r (percent d h) = rw h refl
 
-case_leads : (u r : List ℕ) → HyphenCase u → Leads begins_hyphen (u ++ r)
+case_leads : (u r : List ℕ) → HyphenCase u → BeginsWithTag begins_hyphen (u ++ r)
 case_leads _ r bare = record { first = 45; more = r; is = refl; leads = refl; no_letter = refl }
 case_leads _ r (percent d h) = record { first = 37; more = 50 ∷ d ∷ r; is = refl; leads = refl; no_letter = refl }
 
 hyphen_is : IsHyphen (spells 45) begins_hyphen hyphen_end
 hyphen_is = record { scans = hyphen_scans; taken = λ h r e. case_taken h r (hyphen_case h e); leads = λ h r e. case_leads h r (hyphen_case h e) }
 
--- ---- what is a tag, its hyphen spelled so
+-- ---- tags with a hyphen in any accepted spelling
 
 abbrev AnyTag : List ℕ → Type 0
 AnyTag = Tag (spells 45)
 
--- a region and how it is spelled
+-- the text is a spelling of a region
 record IsRegion (s : List ℕ) : Type 0 where
   region : List ℕ
   lawful : RegionCase region
@@ -294,7 +294,7 @@ a_region s h = elim h [
   | inr empty ↦ record { region = []; lawful = none; spelled = empty }
 ]
 
--- a tag and how it is spelled
+-- the text is a spelling of a tag
 record IsTag (s : List ℕ) : Type 0 where
   tag : List ℕ
   lawful : TagCase tag
@@ -313,7 +313,7 @@ a_tag s j =
       spelled = subst (Spelled (lowered (prefix ++ region.region))) (sym (j.is ∙ ap (λ (u : List ℕ). u ++ j.back) j.first.is)) codes_are;
     }
 
--- ---- each spelling of a tag is one
+-- ---- each spelling of a tag is a tag
 
 spelled_region : (v s : List ℕ) → RegionCase v → Spelled v s → Region (spells 45) s
 spelled_region _ s none spelled = inr spelled
@@ -325,7 +325,7 @@ spelled_region _ s (behind u code) spelled = inl (record {
   second = code_text spelled.1 (code_spelled u spelled.1 code spelled.4);
 })
 
--- a tag, which begins with a letter
+-- the text is a tag, and so begins with a letter
 record Begun (s : List ℕ) : Type 0 where
   first : ℕ
   more : List ℕ
@@ -374,7 +374,7 @@ spelled_tag _ s (three a b c v ha hb hc region) spelled =
       };
     }
 
--- where a component ends no tag goes on
+-- no tag continues at the end of a component
 tag_ends : (r : List ℕ) → Ends r → TagEnds begins_hyphen r
 tag_ends [] e = record { letter = tt; hyphen = tt }
 tag_ends (c ∷ r) e = record { letter = rw e refl; hyphen = rw e refl }
@@ -382,7 +382,7 @@ tag_ends (c ∷ r) e = record { letter = rw e refl; hyphen = rw e refl }
 begun_tag : (a : ℕ) (s : List ℕ) → is_letter a ≡ true → language_end (a ∷ s) ≡ tag_end begins_hyphen hyphen_end (a ∷ s)
 unfolding language_end tag_or_nothing_end
 begun_tag a s h = rw (letter_no_hyphen a h, h) refl where
-  letter_no_hyphen : (c : ℕ) → is_letter c ≡ true → is_hyphen c ≡ false
+  letter_no_hyphen : (c : ℕ) → is_letter c ≡ true → is_uri_hyphen c ≡ false
   letter_no_hyphen c h = grind (arith, nat_tests)
 
 spelled_tag_taken : (t s r : List ℕ) → TagCase t → Spelled t s → Ends r → language_end (s ++ r) ≡ Ok r
@@ -395,9 +395,9 @@ spelled_tag_taken t s r lawful spelled e =
 
 -- ---- languages
 
-a_language : (u : List ℕ) → Either (OneOf is_hyphen) (Either AnyTag Empty) u → IsComponent Language u
+a_language : (u : List ℕ) → Either (OneOf is_uri_hyphen) (Either AnyTag Empty) u → IsUriComponent Language u
 a_language u h = elim h [
-  | inl o ↦ record { value = value.Na; suits = (tt, refl); lower = refl; stands = o.is ∙ ap (λ (d : ℕ). d ∷ []) (eqb-true o.byte 45 o.passed) }
+  | inl o ↦ record { value = value.Na; suits = (tt, refl); lower = refl; present = o.is ∙ ap (λ (d : ℕ). d ∷ []) (eqb-true o.byte 45 o.passed) }
   | inr more ↦ elim more [
     | inl j ↦
         let t = a_tag u j in
@@ -408,18 +408,18 @@ a_language u h = elim h [
           value = plain body;
           suits = (plain_text is_language_body body refl refl (bare_characters body (tag_bare body small)) lawful, lawful);
           lower = ap plain (lowered_twice t.tag);
-          stands = stands_alone body u t.spelled;
+          present = spelled_alone body u t.spelled;
         }
-    | inr empty ↦ record { value = value.Any; suits = (tt, refl); lower = refl; stands = empty }
+    | inr empty ↦ record { value = value.Any; suits = (tt, refl); lower = refl; present = empty }
   ]
 ]
 
--- the scanner of languages takes components that are languages
-pub language_scans : Scans (IsComponent Language) language_end
+-- the scanner of languages reads only components of languages
+pub language_scans : Scans (IsUriComponent Language) language_end
 unfolding language_end tag_or_nothing_end
 language_scans =
-    wider (Either (OneOf is_hyphen) (Either AnyTag Empty)) (IsComponent Language) language_end a_language
-    (choose_scans is_hyphen (OneOf is_hyphen) (Either AnyTag Empty) (one is_hyphen) tag_or_nothing_end (one_scans is_hyphen 45 refl)
+    wider (Either (OneOf is_uri_hyphen) (Either AnyTag Empty)) (IsUriComponent Language) language_end a_language
+    (choose_scans is_uri_hyphen (OneOf is_uri_hyphen) (Either AnyTag Empty) (scan_one is_uri_hyphen) tag_or_nothing_end (one_scans is_uri_hyphen 45 refl)
     (choose_scans is_letter AnyTag Empty (tag_end begins_hyphen hyphen_end) nothing (tag_scans (spells 45) begins_hyphen hyphen_end hyphen_is) nothing_scans))
 
 no_language_taken : (r : List ℕ) → Ends r → language_end r ≡ Ok r
@@ -431,10 +431,10 @@ hyphen_taken : (r : List ℕ) → language_end (45 ∷ r) ≡ Ok r
 unfolding language_end
 hyphen_taken r = refl
 
--- it takes each of them, where the component ends
-pub language_taken : (v : Value) (s r : List ℕ) → Suits Language v → Stands v s → Ends r → language_end (s ++ r) ≡ Ok r
-language_taken value.Any s r suits stands e = ap (λ (u : List ℕ). language_end (u ++ r)) stands ∙ no_language_taken r e
-language_taken value.Na s r suits stands e = ap (λ (u : List ℕ). language_end (u ++ r)) stands ∙ hyphen_taken r
-language_taken (value.Text t) s r suits stands e =
+-- the scanner of languages reads each component of a language, if the component ends there
+pub language_taken : (v : Value) (s r : List ℕ) → Suits Language v → IsSpellingOf v s → Ends r → language_end (s ++ r) ≡ Ok r
+language_taken value.Any s r suits present e = ap (λ (u : List ℕ). language_end (u ++ r)) present ∙ no_language_taken r e
+language_taken value.Na s r suits present e = ap (λ (u : List ℕ). language_end (u ++ r)) present ∙ hyphen_taken r
+language_taken (value.Text t) s r suits present e =
     let p = plain_parts t (is_language_body t.body) suits.1 in
-    spelled_tag_taken t.body s r (tag_case t.body p.1) (alone_stands t.body s (subst (λ (x : Parts). Stands (value.Text x) s) p.0 stands)) e
+    spelled_tag_taken t.body s r (tag_case t.body p.1) (alone_spelled t.body s (subst (λ (x : Parts). IsSpellingOf (value.Text x) s) p.0 present)) e

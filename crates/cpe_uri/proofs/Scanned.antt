@@ -1,18 +1,18 @@
--- What the code finds of a URI are its pieces, and where it stops is the place.
+-- Lemmas: `scan_uri` finds the pieces of a URI, and stops at the place of any other text.
 use Rattle.std.proofs.Common.{◌≡◌, ℕ, ◌≤◌, false, eqb, List, [], length, Result, Ok, Err, refl, sym, ap, subst, ◌∙◌}
 use Rattle.std.specs.Prelude.{codes}
-use Rattle.cpe_grammar.specs.Place.{StopsAt}
-use Rattle.cpe_grammar.proofs.Places.{no_ending, taken_whole}
-use Rattle.cpe_grammar.proofs.Results.{left_over}
+use Rattle.name_grammar.specs.Place.{StopsAt}
+use Rattle.name_grammar.proofs.Places.{no_ending, taken_whole}
+use Rattle.name_grammar.proofs.Results.{left_over}
 use Rattle.cpe_name.specs.Eleven.{Written}
 use Rattle.cpe_name.specs.Names.{attributes}
 use Rattle.cpe_name.specs.Spans.{texts, total_length}
-use Rattle.cpe_uri.specs.Spans.{AreComponents}
+use Rattle.cpe_uri.specs.Spans.{AreUriComponents}
 use Rattle.cpe_uri.specs.Grammar.{IsUri}
 use Rattle.cpe_uri.specs.Scanning.{prefix_end, all_end, whole_end}
-use Rattle.cpe_uri.specs.Pieces.{rest_of, all_pieces, pieces}
-use Rattle.cpe_uri.proofs.ValueLemmas.{StandIn}
-use Rattle.cpe_uri.proofs.Pieces.{pieces_stand, pieces_within}
+use Rattle.cpe_uri.specs.Pieces.{rest_of_piece, all_pieces, pieces}
+use Rattle.cpe_uri.proofs.ValueLemmas.{AreSpelledIn}
+use Rattle.cpe_uri.proofs.Pieces.{pieces_spelled, pieces_within}
 use Rattle.cpe_uri.proofs.Whole.{whole_scans, leaves}
 
 -- ---- the pieces
@@ -23,21 +23,21 @@ whole_is text s start all = rw (start, all) refl
 
 pieces_from : (text s : List ℕ) → prefix_end (codes "cpe:/") text ≡ Ok s → pieces text ≡ all_pieces s
 unfolding pieces
-pieces_from text s start = ap (λ (x : Result (List ℕ) ℕ). all_pieces (rest_of x)) start
+pieces_from text s start = ap (λ (x : Result (List ℕ) ℕ). all_pieces (rest_of_piece x)) start
 
--- what was found are the components of a name that has the text
-pub found : (text s r : List ℕ) (w : Written) → prefix_end (codes "cpe:/") text ≡ Ok s → r ≡ [] → all_end s ≡ Ok r → texts w ≡ all_pieces s → AreComponents text w
-found text s r w start over told is =
-    let uri = taken_whole IsUri whole_end whole_scans text [] (whole_is text s start (told ∙ ap left_over over)) refl in
+-- `scan_uri` finds the pieces of a name that has the text
+pub found : (text s r : List ℕ) (w : Written) → prefix_end (codes "cpe:/") text ≡ Ok s → r ≡ [] → all_end s ≡ Ok r → texts w ≡ all_pieces s → AreUriComponents text w
+found text s r w start over scans is =
+    let uri = taken_whole IsUri whole_end whole_scans text [] (whole_is text s start (scans ∙ ap left_over over)) refl in
     let same : pieces text ≡ texts w = pieces_from text s start ∙ sym is in
     record {
       name = uri.0;
       uri = uri.1;
-      are = subst (λ (us : List (List ℕ)). StandIn uri.0 us attributes) same (pieces_stand uri.0 text uri.1);
+      are = subst (λ (us : List (List ℕ)). AreSpelledIn uri.0 us attributes) same (pieces_spelled uri.0 text uri.1);
       within = subst (λ (us : List (List ℕ)). total_length us ≤ length text) same (pieces_within uri.0 text uri.1);
     }
 
--- ---- where the code stops
+-- ---- where `scan_uri` stops
 
 pub start_leaves : (text : List ℕ) (left : ℕ) → prefix_end (codes "cpe:/") text ≡ Err left → StopsAt IsUri text left
 unfolding whole_end

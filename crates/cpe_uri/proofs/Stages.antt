@@ -1,4 +1,4 @@
--- Stages, code by code: from the first on they come to an end over the codes of the texts, and over no others.
+-- Lemmas: after the codes of a text, from the stage `Start` on, a component may end. After other codes it may not.
 use Rattle.std.proofs.Common.{◌≡◌, ◌≢◌, ℕ, zero, suc, ◌+◌, ◌<◌, ◌≤◌, ltb, true, false, eqb, cond, List, [], ◌∷◌, ◌++◌, replicate, Option, Some, None, refl, sym, ap, subst, ◌∙◌, inl, inr, append_assoc, arith}
 use Rattle.std.specs.Option.{option_and_then}
 use Rattle.std.specs.List.{list_all}
@@ -14,7 +14,7 @@ use Rattle.cpe_uri.specs.TextMachine.{after_mark, after_star, after_character, n
 
 -- ---- steps
 
--- typed, so that equations between them have one type
+-- `Some` with a fixed type, so that equations have one type
 abbrev pub some_stage : Stage → Option Stage
 some_stage q = Some q
 
@@ -27,12 +27,12 @@ stage_is p q e = cc
 pub no_stage_is : (q : Stage) → no_stage ≡ some_stage q → ⊥
 no_stage_is q e = cc
 
--- over these codes
+-- the stage after these codes, if there is one
 abbrev pub run : Stage → List ℕ → Option Stage
 run q [] = Some q
 run q (c ∷ cs) = option_and_then (λ t. run t cs) (next q c)
 
--- what the next code is
+-- the next code is that of a question mark, of an asterisk, or a character
 pub data NextCase : Stage → ℕ → Stage → Type 0 where
   mark : (q t : Stage) → after_mark q ≡ Some t → NextCase q 1 t
   star : (q t : Stage) → after_star q ≡ Some t → NextCase q 2 t
@@ -66,7 +66,7 @@ run_then q t c cs e = rw e refl
 
 -- ---- what may follow
 
--- a body, perhaps empty, and a trail
+-- the codes are a body, perhaps empty, and a trail
 record Rest (cs : List ℕ) : Type 0 where
   body : List ℕ
   trail : Edge
@@ -74,13 +74,13 @@ record Rest (cs : List ℕ) : Type 0 where
   characters : list_all is_character body ≡ true
   edge : IsEdge trail
 
--- question marks, of which so many came before
+-- the codes are question marks; with the `n` question marks before them they are within the limit
 record Marks (n : ℕ) (cs : List ℕ) : Type 0 where
   count : ℕ
   is : cs ≡ replicate count 1
   few : n + count ≤ 4294967295
 
--- question marks, and a body that is not empty, and a trail
+-- the codes are question marks, a body that isn't empty, and a trail
 record Led (n : ℕ) (cs : List ℕ) : Type 0 where
   count : ℕ
   rest : List ℕ
@@ -135,7 +135,7 @@ after_body (c ∷ cs) end e =
           let rest = again (subst (λ (p : Stage). run p cs ≡ Some end) (sym (stage_is Body t h)) r) in
           record { body = c ∷ rest.body; trail = rest.trail; is = ap (λ (u : List ℕ). c ∷ u) rest.is; characters = and_from _ _ good rest.characters; edge = rest.edge }
 
--- a character, and what may follow it
+-- a character and the codes that may follow it are a body and a trail
 led_body : (c : ℕ) (cs : List ℕ) (end : Stage) → is_character c ≡ true → run Body cs ≡ Some end → (r : Rest (c ∷ cs)) × (r.body ≢ [])
 led_body c cs end good e =
     let rest = after_body cs end e in
@@ -166,9 +166,9 @@ lead_marks n (c ∷ cs) end le e over =
           let rest = led_body c cs end good (subst (λ (p : Stage). run p cs ≡ Some end) (sym (stage_is Body t h)) r) in
           record { count = 0; rest = c ∷ cs; is = refl; few = omega (arith, le); text = rest.0; some = rest.1 }
 
--- ---- from the first on
+-- ---- from the first stage on
 
--- a text that has these codes
+-- the codes are those of a text
 pub record TextOf (cs : List ℕ) : Type 0 where
   pub text : Parts
   pub good : IsText text
@@ -181,7 +181,7 @@ text_of cs rest lead r good is some other = record {
   is = is ∙ ap (λ (u : List ℕ). edge_codes lead ++ u) r.is ∙ sym (append_assoc (edge_codes lead) r.body (edge_codes r.trail));
 }
 
--- a hyphen at the start, and something after it
+-- a hyphen at the beginning, and at least one code that may follow it, are the codes of a text
 hyphen_text : (cs : List ℕ) (end : Stage) → run Hyphen cs ≡ Some end → is_over end ≡ true → TextOf (45 ∷ cs)
 hyphen_text [] end e over = let is : Hyphen ≡ end = stage_is Hyphen end e in absurd (both_ways (is_over end) (ap is_over (sym is)) over)
 hyphen_text (c ∷ cs) end e over =
@@ -211,7 +211,7 @@ plain_text c cs end good other r =
     let all : Rest (c ∷ cs) = record { body = c ∷ rest.body; trail = rest.trail; is = ap (λ (u : List ℕ). c ∷ u) rest.is; characters = and_from _ _ good rest.characters; edge = rest.edge } in
     text_of (c ∷ cs) (c ∷ cs) edge.None all tt refl (λ e. absurd cc) (other_first c rest.body rest.trail other)
 
--- the codes over which they come to an end are those of a text
+-- if a component may end after codes, from the stage `Start` on, they are the codes of a text
 pub start_text : (cs : List ℕ) (end : Stage) → run Start cs ≡ Some end → is_over end ≡ true → cs ≢ [] → TextOf cs
 start_text [] end e over some = absurd (some refl)
 start_text (c ∷ cs) end e over some =
@@ -234,9 +234,9 @@ start_text (c ∷ cs) end e over some =
                 plain_text c cs end good other (subst (λ (p : Stage). run p cs ≡ Some end) (sym is) r)
           ]
 
--- ---- over the codes of a text
+-- ---- after the codes of a text a component may end
 
--- they come to an end
+-- after these codes, from the stage `q` on, a component may end
 pub record Over (q : Stage) (cs : List ℕ) : Type 0 where
   pub end : Stage
   pub runs : run q cs ≡ Some end
@@ -276,7 +276,7 @@ over_plain (c ∷ b) x some h good other =
       | inr first ↦ run_over Start Body c (b ++ edge_codes x) (character_next Start c p.0 ∙ rw first refl) (over_body b x p.1 good)
     ]
   where
-    -- from the hyphen on it is as from a body, but at once at the end
+    -- the stage `Hyphen` has the same next stages as `Body`, but no component may end at it
     more : (b : List ℕ) (x : Edge) → Over Body (b ++ edge_codes x) → (b ≡ [] → x ≡ edge.None → ⊥) → IsEdge x → Over Hyphen (b ++ edge_codes x)
     more [] edge.None o never good = absurd (never refl refl)
     more [] edge.Star o never good = record { end = o.end; runs = o.runs; over = o.over }
@@ -284,7 +284,7 @@ over_plain (c ∷ b) x some h good other =
     more [] (edge.Marks (suc k)) o never good = record { end = o.end; runs = o.runs; over = o.over }
     more (c ∷ b) x o never good = record { end = o.end; runs = o.runs; over = o.over }
 
--- over the codes of a text they come to an end
+-- after the codes of a text, from the stage `Start` on, a component may end
 pub text_over : (t : Parts) → IsText t → Over Start (text_codes t)
 text_over t good = go t.lead good.lead good.no_hyphen where
   regroup : (lead : Edge) → edge_codes lead ++ (t.body ++ edge_codes t.trail) ≡ (edge_codes lead ++ t.body) ++ edge_codes t.trail

@@ -1,4 +1,4 @@
--- What the tables of the code have, checked entry by entry.
+-- Lemmas: the entries of the tables in `src/` are right; each entry is checked.
 use Rattle.std.proofs.Common.{◌≡◌, ℕ, ◌/◌, ◌%◌, ◌<◌, get_or, true, nat_eq, eqb, refl}
 use Rattle.std.specs.Char.{to_ascii_lowercase}
 use Rattle.std.proofs.lemmas.Bool.{agree_below_at, eqb-true}

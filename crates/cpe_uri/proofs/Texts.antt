@@ -1,11 +1,12 @@
--- Components of ANY, NA and texts: the scanner takes them, each in each of its spellings, and stops where none goes on.
+-- Lemmas: the scanner of components reads those of ANY, NA and texts in each accepted spelling. It stops at the place
+-- of any other text.
 use Rattle.std.proofs.Common.{◌≡◌, ◌≢◌, ◌⊎◌, ℕ, zero, suc, replicate, not, Bool, true, false, eqb, List, [], ◌∷◌, ◌++◌, map, Option, Some, None, Ok, refl, sym, ap, subst, ◌∙◌, inl, inr, append_assoc}
 use Rattle.std.specs.List.{list_all}
 use Rattle.std.specs.Char.{to_ascii_lowercase}
 use Rattle.std.proofs.lemmas.Bool.{cases_Bool, eqb-true, eq-eqb, and_parts, and_from, both_ways}
 use Rattle.std.proofs.lemmas.List.{append_cancel_left, append_cancel_right}
-use Rattle.cpe_grammar.proofs.Reading.{went_in, ends_here, ends_there, Taken, machine_scans}
-use Rattle.cpe_grammar.proofs.Scans.{Scans, wider}
+use Rattle.name_grammar.proofs.Reading.{went_in, ends_here, ends_there, Taken, machine_scans}
+use Rattle.name_grammar.proofs.Scans.{Scans, wider}
 use Rattle.cpe_values.specs.declared.value.Edge.{Edge}
 use Rattle.cpe_values.specs.declared.value.Edge.TheVariants as edge
 use Rattle.cpe_values.specs.declared.value.Value.{Value}
@@ -13,34 +14,34 @@ use Rattle.cpe_values.specs.declared.value.Value.TheVariants as value
 use Rattle.cpe_values.specs.Lower.{lower_parts}
 use Rattle.cpe_values.specs.Parts.{Parts, parts, IsText}
 use Rattle.cpe_values.specs.Values.{IsValue}
-use Rattle.cpe_uri.specs.Spelling.{edge_codes, text_codes, spells, Spelled, Stands}
+use Rattle.cpe_uri.specs.Spelling.{edge_codes, text_codes, spells, Spelled, IsSpellingOf}
 use Rattle.cpe_uri.specs.declared.text.Stage.{Stage}
 use Rattle.cpe_uri.specs.declared.text.Stage.TheVariants.{Start, Na, Hyphen}
-use Rattle.cpe_uri.specs.declared.text.State.{State}
-use Rattle.cpe_uri.specs.declared.text.State.TheVariants.{Whole, Percent, Half}
-use Rattle.cpe_uri.specs.TextMachine.{is_start, next, is_over, step, may_end, read_from, text_end}
+use Rattle.cpe_uri.specs.declared.text.TextState.{TextState}
+use Rattle.cpe_uri.specs.declared.text.TextState.TheVariants.{Whole, Percent, Half}
+use Rattle.cpe_uri.specs.TextMachine.{is_start, next, is_over, text_step, may_end, read_from, text_end}
 use Rattle.cpe_uri.specs.Spans.{IsTextComponent}
 use Rattle.cpe_uri.proofs.Stages.{stage_is, no_stage_is, start_text, run, Over, text_over}
 use Rattle.cpe_uri.proofs.Components.{went, was_read, NoTilde, unit_read, Good, stays_good, completed, later_next}
 
 -- ---- where a component ends
 
--- at the end of the text, a colon, and in a packed field a tilde
+-- a component ends here: at the end of the text, at a colon, or, in a packed field, at a tilde
 abbrev pub EndsIn : Bool → List ℕ → Type 0
 EndsIn packed [] = Unit {0}
 EndsIn packed (c ∷ r) = (c ≡ 58) ⊎ ((c ≡ 126) × (packed ≡ true))
 
-no_step : (packed : Bool) (q : Stage) (c : ℕ) (r : List ℕ) → EndsIn packed (c ∷ r) → step packed (Whole q) c ≡ None
+no_step : (packed : Bool) (q : Stage) (c : ℕ) (r : List ℕ) → EndsIn packed (c ∷ r) → text_step packed (Whole q) c ≡ None
 no_step packed q c r ends = elim ends [
   | inl colon ↦ rw colon refl
   | inr tilde ↦ rw (tilde.0, tilde.1) refl
 ]
 
 ended : (packed : Bool) (q : Stage) (r : List ℕ) → is_over q ≡ true → EndsIn packed r → read_from packed (Whole q) r ≡ Ok r
-ended packed q [] over ends = ends_there (step packed) may_end (Whole q) over
-ended packed q (c ∷ r) over ends = ends_here (step packed) may_end (Whole q) c r (no_step packed q c r ends) over
+ended packed q [] over ends = ends_there (text_step packed) may_end (Whole q) over
+ended packed q (c ∷ r) over ends = ends_here (text_step packed) may_end (Whole q) c r (no_step packed q c r ends) over
 
--- ---- each spelling is taken
+-- ---- each accepted spelling is read
 
 module _ (packed : Bool) where
   abbrev no_tilde : List ℕ → Bool
@@ -59,7 +60,7 @@ module _ (packed : Bool) where
     go (Some t) is = (t, is, rw is at e)
     go None is = absurd (no_stage_is end (rw is at e))
 
-  -- a text, cut after the spelling of its first code
+  -- a text is cut after the spelling of its first code
   cut_behind : (c : ℕ) (cs s r : List ℕ) (h : Spelled (c ∷ cs) s) → NoTilde packed s → (s ++ r ≡ h.0 ++ (h.1 ++ r)) × NoTilde packed h.0 × NoTilde packed h.1
   cut_behind c cs s r h none =
       (ap (λ (w : List ℕ). w ++ r) h.2 ∙ append_assoc h.0 h.1 r, λ is. (all_parts h.0 h.1 (ap no_tilde (sym h.2) ∙ none is)).0, λ is. (all_parts h.0 h.1 (ap no_tilde (sym h.2) ∙ none is)).1)
@@ -75,7 +76,7 @@ module _ (packed : Bool) where
       ∙ unit_read packed q so.0 c u (v ++ r) spelled.3 cut.1 so.1 (λ lone. both_ways (is_start q) later lone.0)
       ∙ rest_read so.0 cs v r end (later_next q so.0 c so.1) spelled.4 cut.2 so.2
 
-  -- a hyphen that stands bare at the start, and something after it
+  -- a bare hyphen at the beginning, and codes after it, are read
   hyphen_read : (cs s r : List ℕ) (end : Stage) → Spelled cs s → NoTilde packed s → run Hyphen cs ≡ Some end → is_over end ≡ true → read_from packed (Whole Na) (s ++ r) ≡ read_from packed (Whole end) r
   hyphen_read [] s r end spelled none e over = let is : Hyphen ≡ end = stage_is Hyphen end e in absurd (both_ways (is_over end) (ap is_over (sym is)) over)
   hyphen_read (c ∷ cs) s r end spelled none e over = rest_read Na (c ∷ cs) s r end refl spelled none e
@@ -128,44 +129,44 @@ module _ (packed : Bool) where
   codes_read [] s r some spelled none over ends = absurd (some refl)
   codes_read (c ∷ cs) s r some spelled none over ends = start_read c cs s r over.end spelled none over.runs over.over ∙ ended packed over.end r over.over ends
 
-  -- the component of a value is taken in each of its spellings
-  pub text_taken : (v : Value) (s r : List ℕ) → IsValue v → Stands v s → NoTilde packed s → EndsIn packed r → text_end packed (s ++ r) ≡ Ok r
+  -- the component of a value is read in each accepted spelling
+  pub text_taken : (v : Value) (s r : List ℕ) → IsValue v → IsSpellingOf v s → NoTilde packed s → EndsIn packed r → text_end packed (s ++ r) ≡ Ok r
   unfolding text_end
-  text_taken value.Any s r good stands none ends = ap (λ (u : List ℕ). read_from packed (Whole Start) (u ++ r)) stands ∙ ended packed Start r refl ends
-  text_taken value.Na s r good stands none ends =
-      ap (λ (u : List ℕ). read_from packed (Whole Start) (u ++ r)) stands ∙ went packed (Whole Start) (Whole Na) 45 r refl ∙ ended packed Na r refl ends
-  text_taken (value.Text t) s r good stands none ends = codes_read (text_codes t) s r (some_codes t good) stands none (text_over t good) ends
+  text_taken value.Any s r good present none ends = ap (λ (u : List ℕ). read_from packed (Whole Start) (u ++ r)) present ∙ ended packed Start r refl ends
+  text_taken value.Na s r good present none ends =
+      ap (λ (u : List ℕ). read_from packed (Whole Start) (u ++ r)) present ∙ went packed (Whole Start) (Whole Na) 45 r refl ∙ ended packed Na r refl ends
+  text_taken (value.Text t) s r good present none ends = codes_read (text_codes t) s r (some_codes t good) present none (text_over t good) ends
 
--- ---- what is taken
+-- ---- what is read
 
-abbrev some_state : State → Option State
+abbrev some_state : TextState → Option TextState
 some_state t = Some t
 
-abbrev no_state : Option State
+abbrev no_state : Option TextState
 no_state = None
 
-no_tilde_step : (q : State) → step true q 126 ≡ None
+no_tilde_step : (q : TextState) → text_step true q 126 ≡ None
 no_tilde_step (Whole q) = refl
 no_tilde_step (Percent q) = refl
 no_tilde_step (Half q h) = refl
 
-taken_no_tilde : (q : State) (s : List ℕ) → read_from true q s ≡ Ok [] → list_all (λ c. not (eqb c 126)) s ≡ true
+taken_no_tilde : (q : TextState) (s : List ℕ) → read_from true q s ≡ Ok [] → list_all (λ c. not (eqb c 126)) s ≡ true
 taken_no_tilde q [] e = refl
 taken_no_tilde q (c ∷ s) e =
-    let so = went_in (step true) may_end q c s e in
+    let so = went_in (text_step true) may_end q c s e in
     elim (cases_Bool (eqb c 126)) [
-      | inl h ↦ absurd (no_way so.0 (sym (no_tilde_step q) ∙ ap (step true q) (sym (eqb-true c 126 h)) ∙ so.1))
+      | inl h ↦ absurd (no_way so.0 (sym (no_tilde_step q) ∙ ap (text_step true q) (sym (eqb-true c 126 h)) ∙ so.1))
       | inr h ↦ and_from _ _ (rw h refl) (taken_no_tilde so.0 s so.2)
     ]
   where
-    no_way : (t : State) → no_state ≡ some_state t → ⊥
+    no_way : (t : TextState) → no_state ≡ some_state t → ⊥
     no_way t e = cc
 
 none_taken : (packed : Bool) (s : List ℕ) → read_from packed (Whole Start) s ≡ Ok [] → NoTilde packed s
 none_taken true s e is = taken_no_tilde (Whole Start) s e
 none_taken false s e is = absurd cc
 
--- codes of small letters are those of a text in lower case
+-- lower case doesn't change the codes of specials
 pub edge_lower : (e : Edge) → map to_ascii_lowercase (edge_codes e) ≡ edge_codes e
 edge_lower edge.None = refl
 edge_lower edge.Star = refl
@@ -191,13 +192,13 @@ lower_text_is t h =
     ap (λ (b : List ℕ). parts t.lead b t.trail) (append_cancel_left (edge_codes t.lead) (map to_ascii_lowercase t.body) t.body prefix)
 
 read_text : (packed : Bool) (s : List ℕ) → NoTilde packed s → (codes : List ℕ) → Spelled codes s → map to_ascii_lowercase codes ≡ codes → (end : Stage) → run Start codes ≡ Some end → is_over end ≡ true → IsTextComponent packed s
-read_text packed s none [] spelled low end e over = record { value = value.Any; good = tt; lower = refl; stands = spelled; none = none }
+read_text packed s none [] spelled low end e over = record { value = value.Any; good = tt; lower = refl; present = spelled; none = none }
 read_text packed s none (c ∷ codes) spelled low end e over =
     let so = start_text (c ∷ codes) end e over (λ e. absurd cc) in record {
       value = value.Text so.text;
       good = so.good;
       lower = ap value.Text (lower_text_is so.text (ap (map to_ascii_lowercase) (sym so.is) ∙ low ∙ so.is));
-      stands = subst (λ (cs : List ℕ). Spelled cs s) so.is spelled;
+      present = subst (λ (cs : List ℕ). Spelled cs s) so.is spelled;
       none = none;
     }
 
@@ -206,10 +207,10 @@ a_text packed s e =
     let none = none_taken packed s e in
     elim (was_read packed Start s e) [
       | inl r ↦ read_text packed s none r.codes r.spelled r.lower r.end r.runs r.over
-      | inr lone ↦ record { value = value.Na; good = tt; lower = refl; stands = lone.1; none = none }
+      | inr lone ↦ record { value = value.Na; good = tt; lower = refl; present = lone.1; none = none }
     ]
 
--- the scanner of components takes those of values
+-- the scanner of components reads only components of values
 pub text_scans : (packed : Bool) → Scans (IsTextComponent packed) (text_end packed)
 unfolding text_end
-text_scans packed = wider (Taken (step packed) may_end (Whole Start)) (IsTextComponent packed) (text_end packed) (a_text packed) (machine_scans (step packed) may_end Good (stays_good packed) (completed packed) (Whole Start) tt)
+text_scans packed = wider (Taken (text_step packed) may_end (Whole Start)) (IsTextComponent packed) (text_end packed) (a_text packed) (machine_scans (text_step packed) may_end Good (stays_good packed) (completed packed) (Whole Start) tt)

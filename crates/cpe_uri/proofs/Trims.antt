@@ -1,4 +1,4 @@
--- Colons at the end go one by one.
+-- Lemmas: the colons at the end of a text are removed one by one.
 use Rattle.std.proofs.Common.{◌≡◌, ℕ, zero, suc, ◌-◌, ◌<◌, ◌≤◌, length, take, get_or, arith, Bool, true, false, ◌&&◌, nat_eq, List, [], ◌∷◌, ◌++◌, refl, sym, ap, ◌∙◌, inl, inr}
 use Rattle.std.specs.List.{list_all}
 use Rattle.std.proofs.lemmas.Bool.{cases_Bool, eqb-true, eqb-false, eq-eqb, ne_eqb, and_parts, and_from}
@@ -60,11 +60,11 @@ take_prefix (suc (suc n)) (c ∷ d ∷ s) h =
     let two : suc (suc n) - 1 ≡ suc (suc n - 1) = omega arith in
     rw (one, two) (ap (λ (u : List ℕ). c ∷ u) (take_prefix (suc n) (d ∷ s) (omega arith)))
 
--- a colon at the end is taken off
+-- removing one colon at the end doesn't change the trimmed text
 pub trimmed_one : (s : List ℕ) (n : ℕ) → n ≤ length s → ends_in_colon (take n s) ≡ true → trimmed 58 (take (n - 1) s) ≡ trimmed 58 (take n s)
 trimmed_one s n h e = ap (trimmed 58) (sym (take_prefix n s h)) ∙ trimmed_prefix (take n s) e
 
--- the last byte of a prefix is that before its end
+-- the last byte of a prefix is the byte before the prefix's end
 pub last_is : (s : List ℕ) (n : ℕ) → 0 < n → n ≤ length s → nat_eq (get_or s (n - 1) 0) 58 ≡ ends_in_colon (take n s)
 last_is s zero h k = absurd (omega arith)
 last_is [] (suc n) h k = absurd (omega arith)
@@ -74,13 +74,13 @@ last_is (c ∷ d ∷ s) (suc (suc n)) h k =
     let one : suc (suc n) - 1 ≡ suc (suc n - 1) = omega arith in
     rw one (last_is (d ∷ s) (suc n) (omega arith) (omega arith))
 
--- ---- after what stood before
+-- ---- bytes before a trimmed text
 
 some_behind : (c : ℕ) (p s : List ℕ) → list_all (nat_eq c) s ≡ false → list_all (nat_eq c) (p ++ s) ≡ false
 some_behind c [] s h = h
 some_behind c (b ∷ p) s h = rw (some_behind c p s h) (and_false (nat_eq c b))
 
--- what stood before stays, as not all after it is colons
+-- trimming keeps the bytes before a text that isn't all colons
 pub trimmed_behind : (p s : List ℕ) → list_all (nat_eq 58) s ≡ false → trimmed 58 (p ++ s) ≡ p ++ trimmed 58 s
 trimmed_behind [] s h = refl
 trimmed_behind (b ∷ p) s h = let more : list_all (nat_eq 58) (b ∷ (p ++ s)) ≡ false = some_behind 58 (b ∷ p) s h in rw more (ap (λ (u : List ℕ). b ∷ u) (trimmed_behind p s h))

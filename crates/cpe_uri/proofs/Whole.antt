@@ -1,14 +1,14 @@
--- The whole text: its scanner takes the URIs, and stops at the place of what is none.
+-- Lemmas: the scanner of whole texts reads the URIs, and stops at the place of any other text.
 use Rattle.std.proofs.Common.{◌≡◌, ℕ, suc, ◌≤◌, Bool, true, false, not, eqb, List, [], ◌∷◌, ◌++◌, length, map, get_or, Result, Ok, Err, refl, sym, ap, subst, ◌∙◌, inl, inr, arith}
 use Rattle.std.specs.Prelude.{codes}
 use Rattle.std.specs.Char.{to_ascii_lowercase}
 use Rattle.std.specs.List.{flat_map, join_with_byte, list_all}
 use Rattle.std.proofs.lemmas.List.{append-nil}
 use Rattle.std.proofs.lemmas.Bool.{eqb-true, eq-eqb}
-use Rattle.cpe_grammar.specs.Place.{StopsAt}
-use Rattle.cpe_grammar.specs.Scanners.{Scanner, ◌>>=◌, both, choose, nothing, ending, one}
-use Rattle.cpe_grammar.proofs.Places.{nothing_left, stops_at}
-use Rattle.cpe_grammar.proofs.Scans.{Scans, wider, renamed, Empty, nothing_scans, ending_scans, OneOf, one_scans, Joined, both_scans, Either, choose_scans}
+use Rattle.name_grammar.specs.Place.{StopsAt}
+use Rattle.name_grammar.specs.Scanners.{Scanner, ◌>>=◌, scan_both, choose, nothing, scan_ending, scan_one}
+use Rattle.name_grammar.proofs.Places.{nothing_left, stops_at}
+use Rattle.name_grammar.proofs.Scans.{Scans, wider, renamed, Empty, nothing_scans, ending_scans, OneOf, one_scans, Joined, both_scans, Either, choose_scans}
 use Rattle.cpe_values.specs.declared.value.Value.{Value}
 use Rattle.cpe_values.specs.declared.value.Value.TheVariants as value
 use Rattle.cpe_name.specs.Eleven.{Values}
@@ -16,11 +16,11 @@ use Rattle.cpe_name.specs.declared.attribute.Attribute.{Attribute}
 use Rattle.cpe_name.specs.declared.attribute.Attribute.TheVariants.{Part, Vendor, Product, Version, Update, Edition, Language, SwEdition, TargetSw, TargetHw, Other}
 use Rattle.cpe_name.specs.Names.{IsName}
 use Rattle.cpe_name.specs.Lower.{IsLower}
-use Rattle.cpe_uri.specs.Spelling.{Stands}
-use Rattle.cpe_uri.specs.Grammar.{is_colon, EditionStands, Uri, IsUri}
-use Rattle.cpe_uri.specs.Spans.{IsComponent, IsTextComponent, IsEdition}
+use Rattle.cpe_uri.specs.Spelling.{IsSpellingOf}
+use Rattle.cpe_uri.specs.Grammar.{is_uri_colon, IsEditionSpelling, Uri, IsUri}
+use Rattle.cpe_uri.specs.Spans.{IsUriComponent, IsTextComponent, IsEdition}
 use Rattle.cpe_uri.specs.Languages.{part_end}
-use Rattle.cpe_uri.specs.Scanning.{component_end, later, later_end, components_end, prefix_end, all_end, whole_end}
+use Rattle.cpe_uri.specs.Scanning.{uri_component_end, later, later_end, components_end, prefix_end, all_end, whole_end}
 use Rattle.cpe_uri.proofs.Ends.{Ends}
 use Rattle.cpe_uri.proofs.Texts.{text_taken, text_scans}
 use Rattle.cpe_uri.proofs.Languages.{part_scans, part_taken, language_scans, language_taken}
@@ -30,19 +30,19 @@ use Rattle.cpe_uri.proofs.Editions.{AreGood, edition_scans, edition_taken, empty
 -- ---- the component of an attribute
 
 abbrev pub IsSlot : Attribute → List ℕ → Type 0
-IsSlot Part = IsComponent Part
+IsSlot Part = IsUriComponent Part
 IsSlot Vendor = IsTextComponent false
 IsSlot Product = IsTextComponent false
 IsSlot Version = IsTextComponent false
 IsSlot Update = IsTextComponent false
 IsSlot Edition = IsEdition
-IsSlot Language = IsComponent Language
+IsSlot Language = IsUriComponent Language
 IsSlot SwEdition = IsTextComponent true
 IsSlot TargetSw = IsTextComponent true
 IsSlot TargetHw = IsTextComponent true
 IsSlot Other = IsTextComponent true
 
-slot_scans : (a : Attribute) → Scans (IsSlot a) (component_end a)
+slot_scans : (a : Attribute) → Scans (IsSlot a) (uri_component_end a)
 slot_scans Part = part_scans
 slot_scans Vendor = text_scans false
 slot_scans Product = text_scans false
@@ -56,21 +56,21 @@ slot_scans TargetHw = text_scans true
 slot_scans Other = text_scans true
 
 empty_slot : (a : Attribute) → IsSlot a []
-empty_slot Part = record { value = value.Any; suits = (tt, refl); lower = refl; stands = refl }
+empty_slot Part = record { value = value.Any; suits = (tt, refl); lower = refl; present = refl }
 empty_slot Vendor = empty_text false [] refl
 empty_slot Product = empty_text false [] refl
 empty_slot Version = empty_text false [] refl
 empty_slot Update = empty_text false [] refl
 empty_slot Edition = empty_edition
-empty_slot Language = record { value = value.Any; suits = (tt, refl); lower = refl; stands = refl }
+empty_slot Language = record { value = value.Any; suits = (tt, refl); lower = refl; present = refl }
 empty_slot SwEdition = empty_text true [] refl
 empty_slot TargetSw = empty_text true [] refl
 empty_slot TargetHw = empty_text true [] refl
 empty_slot Other = empty_text true [] refl
 
--- ---- components one after the other: one of an attribute only where those before it stand there
+-- ---- components one after the other: a component is there only if those before it are there
 
--- as many of these components as there are, each after a colon
+-- the text has the components `cs`, each after a colon; components of the last attributes may be missing
 abbrev pub Tail : List Attribute → List (List ℕ) → List ℕ → Type 0
 Tail which [] s = s ≡ []
 Tail [] (c ∷ cs) s = ⊥
@@ -79,12 +79,12 @@ Tail (a ∷ rest) (c ∷ cs) s = (more : List ℕ) × (s ≡ 58 ∷ c ++ more) �
 abbrev IsTail : List Attribute → List ℕ → Type 0
 IsTail which s = (cs : List (List ℕ)) × Tail which cs s
 
--- the scanner that asks for a colon once
+-- a scanner of these components that ends at the first missing colon
 abbrev rest_end : List Attribute → Scanner
 rest_end [] s = Ok s
-rest_end (a ∷ rest) s = choose is_colon (both (one is_colon) (both (component_end a) (rest_end rest))) nothing s
+rest_end (a ∷ rest) s = choose is_uri_colon (scan_both (scan_one is_uri_colon) (scan_both (uri_component_end a) (rest_end rest))) nothing s
 
-more_tail : (a : Attribute) (rest : List Attribute) (s : List ℕ) → Joined (OneOf is_colon) (Joined (IsSlot a) (IsTail rest)) s → IsTail (a ∷ rest) s
+more_tail : (a : Attribute) (rest : List Attribute) (s : List ℕ) → Joined (OneOf is_uri_colon) (Joined (IsSlot a) (IsTail rest)) s → IsTail (a ∷ rest) s
 more_tail a rest s j =
     let text : s ≡ 58 ∷ j.second.prefix ++ j.second.back = j.is ∙ ap (λ (v : List ℕ). v ++ j.back) (j.first.is ∙ ap (λ (d : ℕ). d ∷ []) (eqb-true j.first.byte 58 j.first.passed)) ∙ ap (λ (v : List ℕ). 58 ∷ v) j.second.is in
     (j.second.prefix ∷ j.second.second.0, (j.second.back, text, j.second.first, j.second.second.1))
@@ -92,40 +92,41 @@ more_tail a rest s j =
 rest_scans : (which : List Attribute) → Scans (IsTail which) (rest_end which)
 rest_scans [] = wider Empty (IsTail []) (rest_end []) (λ s is. ([], is)) nothing_scans
 rest_scans (a ∷ rest) =
-    wider (Either (Joined (OneOf is_colon) (Joined (IsSlot a) (IsTail rest))) Empty) (IsTail (a ∷ rest)) (rest_end (a ∷ rest)) (λ s h. elim h [ inl j ↦ more_tail a rest s j | inr is ↦ ([], is) ])
-    (choose_scans is_colon (Joined (OneOf is_colon) (Joined (IsSlot a) (IsTail rest))) Empty (both (one is_colon) (both (component_end a) (rest_end rest))) nothing
-    (both_scans (OneOf is_colon) (Joined (IsSlot a) (IsTail rest)) (one is_colon) (both (component_end a) (rest_end rest)) (one_scans is_colon 58 refl)
-    (both_scans (IsSlot a) (IsTail rest) (component_end a) (rest_end rest) (slot_scans a) (rest_scans rest) [] ([], refl))
+    wider (Either (Joined (OneOf is_uri_colon) (Joined (IsSlot a) (IsTail rest))) Empty) (IsTail (a ∷ rest)) (rest_end (a ∷ rest)) (λ s h. elim h [ inl j ↦ more_tail a rest s j | inr is ↦ ([], is) ])
+    (choose_scans is_uri_colon (Joined (OneOf is_uri_colon) (Joined (IsSlot a) (IsTail rest))) Empty (scan_both (scan_one is_uri_colon) (scan_both (uri_component_end a) (rest_end rest))) nothing
+    (both_scans (OneOf is_uri_colon) (Joined (IsSlot a) (IsTail rest)) (scan_one is_uri_colon) (scan_both (uri_component_end a) (rest_end rest)) (one_scans is_uri_colon 58 refl)
+    (both_scans (IsSlot a) (IsTail rest) (uri_component_end a) (rest_end rest) (slot_scans a) (rest_scans rest) [] ([], refl))
     [] (record { prefix = []; back = []; is = refl; first = empty_slot a; second = ([], refl) })) nothing_scans)
 
--- the code asks for it before each component, which comes to the same
+-- The text doesn't begin with a colon. `components_end` tests for a colon before each component, with the same result
+-- as `rest_end`.
 abbrev NoColon : List ℕ → Type 0
 NoColon [] = Unit {0}
-NoColon (c ∷ s) = is_colon c ≡ false
+NoColon (c ∷ s) = is_uri_colon c ≡ false
 
 nothing_more : (which : List Attribute) (s : List ℕ) → NoColon s → rest_end which s ≡ Ok s
 nothing_more [] s h = refl
 nothing_more (a ∷ rest) [] h = refl
 nothing_more (a ∷ rest) (c ∷ s) h = rw h refl
 
-once : (a : Attribute) (rest : List Attribute) (s : List ℕ) → (later_end (component_end a) s >>= rest_end rest) ≡ rest_end (a ∷ rest) s
+once : (a : Attribute) (rest : List Attribute) (s : List ℕ) → (later_end (uri_component_end a) s >>= rest_end rest) ≡ rest_end (a ∷ rest) s
 unfolding later_end
 once a rest [] = nothing_more rest [] tt
-once a rest (c ∷ s) = go (is_colon c) refl where
-  go : (b : Bool) → is_colon c ≡ b → (later_end (component_end a) (c ∷ s) >>= rest_end rest) ≡ rest_end (a ∷ rest) (c ∷ s)
+once a rest (c ∷ s) = go (is_uri_colon c) refl where
+  go : (b : Bool) → is_uri_colon c ≡ b → (later_end (uri_component_end a) (c ∷ s) >>= rest_end rest) ≡ rest_end (a ∷ rest) (c ∷ s)
   go true h = rw h refl
   go false h = rw h (nothing_more rest (c ∷ s) h)
 
 at_once : (which : List Attribute) (s : List ℕ) → components_end which s ≡ rest_end which s
 at_once [] s = refl
-at_once (a ∷ rest) s = go (later_end (component_end a) s) (λ r. at_once rest r) ∙ once a rest s where
+at_once (a ∷ rest) s = go (later_end (uri_component_end a) s) (λ r. at_once rest r) ∙ once a rest s where
   go : (x : Result (List ℕ) ℕ) → ((r : List ℕ) → components_end rest r ≡ rest_end rest r) → (x >>= components_end rest) ≡ (x >>= rest_end rest)
   go (Ok r) same = same r
   go (Err left) same = refl
 
--- ---- what stands there
+-- ---- the components that are there
 
--- the first, and those after it; what is missing is empty
+-- the first component, or an empty one if there is none
 abbrev pub first_of : List (List ℕ) → List ℕ
 first_of [] = []
 first_of (c ∷ cs) = c
@@ -142,7 +143,7 @@ pub at_behind : (cs : List (List ℕ)) (n : ℕ) → get_or cs (suc n) [] ≡ ge
 at_behind [] n = refl
 at_behind (c ∷ cs) n = refl
 
--- the components of these attributes, of which those at the end may be missing
+-- the components suit these attributes; a missing component counts as empty
 abbrev AllSlots : List Attribute → List (List ℕ) → Type 0
 AllSlots [] cs = Unit {0}
 AllSlots (a ∷ rest) cs = IsSlot a (first_of cs) × AllSlots rest (behind_first cs)
@@ -175,15 +176,15 @@ components_joined u (c ∷ cs) = ap (λ (v : List ℕ). u ++ 58 ∷ v) (componen
 
 -- ---- names
 
--- what the name of a URI is made of
+-- the components from which the name of a URI is made
 pub record Made (part : List ℕ) (cs : List (List ℕ)) : Type 0 where
-  pub p : IsComponent Part part
+  pub p : IsUriComponent Part part
   pub v : IsTextComponent false (get_or cs 0 [])
   pub d : IsTextComponent false (get_or cs 1 [])
   pub n : IsTextComponent false (get_or cs 2 [])
   pub u : IsTextComponent false (get_or cs 3 [])
   pub e : IsEdition (get_or cs 4 [])
-  pub l : IsComponent Language (get_or cs 5 [])
+  pub l : IsUriComponent Language (get_or cs 5 [])
 
 abbrev pub name_made : (part : List ℕ) (cs : List (List ℕ)) → Made part cs → Values
 name_made part cs m = record {
@@ -213,13 +214,13 @@ made_lower part cs m =
     values_alike _ _ _ _ _ _ _ _ _ _ _ m.p.value m.v.value m.d.value m.n.value m.u.value m.e.of.edition m.l.value m.e.of.sw_edition m.e.of.target_sw m.e.of.target_hw m.e.of.other
     m.p.lower m.v.lower m.d.lower m.n.lower m.u.lower (ap (λ (w : Values). w.edition) m.e.lower) m.l.lower (ap (λ (w : Values). w.sw_edition) m.e.lower) (ap (λ (w : Values). w.target_sw) m.e.lower) (ap (λ (w : Values). w.target_hw) m.e.lower) (ap (λ (w : Values). w.other) m.e.lower)
 
-made_edition : (part : List ℕ) (cs : List (List ℕ)) (m : Made part cs) → EditionStands (name_made part cs m) (get_or cs 4 [])
-made_edition part cs m = elim m.e.stands [
+made_edition : (part : List ℕ) (cs : List (List ℕ)) (m : Made part cs) → IsEditionSpelling (name_made part cs m) (get_or cs 4 [])
+made_edition part cs m = elim m.e.present [
   | inl a ↦ inl (record { bare = a.bare; edition = a.edition; others = a.others })
   | inr f ↦ inr f
 ]
 
--- a name of these pieces has this URI
+-- the name that is made from these components has this URI
 pub made_uri : (s prefix part : List ℕ) (cs : List (List ℕ)) (m : Made part cs) → map to_ascii_lowercase prefix ≡ codes "cpe:/" → length cs ≤ 6 → s ≡ prefix ++ (part ++ tail_of cs) → Uri (name_made part cs m) s
 made_uri s prefix part cs m begins few text = record {
   name = (m.p.suits, (m.v.good, (m.d.good, (m.n.good, (m.u.good, (m.e.name.1.1.1.1.1.0, (m.l.suits, (m.e.name.1.1.1.1.1.1.1.0, (m.e.name.1.1.1.1.1.1.1.1.0, (m.e.name.1.1.1.1.1.1.1.1.1.0, (m.e.name.1.1.1.1.1.1.1.1.1.1.0, tt)))))))))));
@@ -230,24 +231,24 @@ made_uri s prefix part cs m begins few text = record {
   begins = begins;
   some = omega arith;
   few = omega (arith, few);
-  part = m.p.stands;
-  vendor = m.v.stands;
-  product = m.d.stands;
-  version = m.n.stands;
-  update = m.u.stands;
+  part = m.p.present;
+  vendor = m.v.present;
+  product = m.d.present;
+  version = m.n.present;
+  update = m.u.present;
   edition = made_edition part cs m;
-  language = m.l.stands;
+  language = m.l.present;
 }
 
--- the same component under another name of it
+-- an equal component spells the same value
 abbrev moved_text : (packed : Bool) (u v : List ℕ) → u ≡ v → IsTextComponent packed u → IsTextComponent packed v
-moved_text packed u v e t = record { value = t.value; good = t.good; lower = t.lower; stands = subst (Stands t.value) e t.stands; none = λ p. subst (λ (x : List ℕ). list_all (λ c. not (eqb c 126)) x ≡ true) e (t.none p) }
+moved_text packed u v e t = record { value = t.value; good = t.good; lower = t.lower; present = subst (IsSpellingOf t.value) e t.present; none = λ p. subst (λ (x : List ℕ). list_all (λ c. not (eqb c 126)) x ≡ true) e (t.none p) }
 
-abbrev moved_component : (a : Attribute) (u v : List ℕ) → u ≡ v → IsComponent a u → IsComponent a v
-moved_component a u v e t = record { value = t.value; suits = t.suits; lower = t.lower; stands = subst (Stands t.value) e t.stands }
+abbrev moved_component : (a : Attribute) (u v : List ℕ) → u ≡ v → IsUriComponent a u → IsUriComponent a v
+moved_component a u v e t = record { value = t.value; suits = t.suits; lower = t.lower; present = subst (IsSpellingOf t.value) e t.present }
 
 abbrev moved_edition : (u v : List ℕ) → u ≡ v → IsEdition u → IsEdition v
-moved_edition u v is x = record { of = x.of; name = x.name; lower = x.lower; stands = subst (EditionStands x.of) is x.stands }
+moved_edition u v is x = record { of = x.of; name = x.name; lower = x.lower; present = subst (IsEditionSpelling x.of) is x.present }
 
 pub second : (cs : List (List ℕ)) → get_or cs 1 [] ≡ first_of (behind_first cs)
 second cs = at_behind cs 0 ∙ at_first (behind_first cs)
@@ -264,7 +265,7 @@ fifth cs = at_behind cs 3 ∙ fourth (behind_first cs)
 pub sixth : (cs : List (List ℕ)) → get_or cs 5 [] ≡ first_of (behind_first (behind_first (behind_first (behind_first (behind_first cs)))))
 sixth cs = at_behind cs 4 ∙ fifth (behind_first cs)
 
-tail_made : (part : List ℕ) (cs : List (List ℕ)) (s : List ℕ) → IsComponent Part part → Tail later cs s → Made part cs
+tail_made : (part : List ℕ) (cs : List (List ℕ)) (s : List ℕ) → IsUriComponent Part part → Tail later cs s → Made part cs
 tail_made part cs s p t =
     let all = tail_slots later cs s t in
     record {
@@ -277,7 +278,7 @@ tail_made part cs s p t =
       l = moved_component Language _ _ (sym (sixth cs)) all.1.1.1.1.1.0;
     }
 
--- ---- the prefix
+-- ---- the prefix of a URI
 
 abbrev IsPrefix : List ℕ → List ℕ → Type 0
 IsPrefix cs u = map to_ascii_lowercase u ≡ cs
@@ -291,14 +292,14 @@ more_prefix c cs u j =
     ∙ ap (λ (d : ℕ). d ∷ map to_ascii_lowercase j.back) (eqb-true (to_ascii_lowercase j.first.byte) c j.first.passed)
     ∙ ap (λ (v : List ℕ). c ∷ v) j.second
 
--- expected bytes have no capital letters
+-- letters of the prefix are read in either case, if the expected bytes have no capital letters
 pub prefix_scans : (cs : List ℕ) → map to_ascii_lowercase cs ≡ cs → Scans (IsPrefix cs) (prefix_end cs)
 prefix_scans [] low = wider Empty (IsPrefix []) (prefix_end []) (λ u is. ap (map to_ascii_lowercase) is) nothing_scans
 prefix_scans (c ∷ cs) low =
     let first : to_ascii_lowercase c ≡ c = cc in
     let rest : map to_ascii_lowercase cs ≡ cs = cc in
     wider (Joined (OneOf (is_lower_of c)) (IsPrefix cs)) (IsPrefix (c ∷ cs)) (prefix_end (c ∷ cs)) (more_prefix c cs)
-    (both_scans (OneOf (is_lower_of c)) (IsPrefix cs) (one (is_lower_of c)) (prefix_end cs) (one_scans (is_lower_of c) c (eq-eqb (to_ascii_lowercase c) c first)) (prefix_scans cs rest) cs rest)
+    (both_scans (OneOf (is_lower_of c)) (IsPrefix cs) (scan_one (is_lower_of c)) (prefix_end cs) (one_scans (is_lower_of c) c (eq-eqb (to_ascii_lowercase c) c first)) (prefix_scans cs rest) cs rest)
 
 pub prefix_taken : (cs u r : List ℕ) → map to_ascii_lowercase u ≡ cs → prefix_end cs (u ++ r) ≡ Ok r
 prefix_taken [] [] r is = refl
@@ -310,16 +311,16 @@ prefix_taken (c ∷ cs) (d ∷ u) r is =
     let same : is_lower_of c d ≡ true = eq-eqb (to_ascii_lowercase d) c first in
     rw same (prefix_taken cs u r rest)
 
--- ---- the whole text
+-- ---- the whole URI
 
 abbrev All : List ℕ → Type 0
-All = Joined (IsComponent Part) (IsTail later)
+All = Joined (IsUriComponent Part) (IsTail later)
 
 all_scans : Scans All all_end
 unfolding all_end
 all_scans =
-    renamed All (both part_end (rest_end later)) (λ s. part_end s >>= components_end later) (λ s. go (part_end s))
-    (both_scans (IsComponent Part) (IsTail later) part_end (rest_end later) part_scans (rest_scans later) [] ([], refl)) where
+    renamed All (scan_both part_end (rest_end later)) (λ s. part_end s >>= components_end later) (λ s. go (part_end s))
+    (both_scans (IsUriComponent Part) (IsTail later) part_end (rest_end later) part_scans (rest_scans later) [] ([], refl)) where
       go : (x : Result (List ℕ) ℕ) → (x >>= components_end later) ≡ (x >>= rest_end later)
       go (Ok r) = at_once later r
       go (Err left) = refl
@@ -333,72 +334,72 @@ a_uri u j =
     let back : j.back ≡ all.prefix ++ tail_of cs = j.second.is ∙ ap (λ (v : List ℕ). j.second.prefix ++ v) j.second.second ∙ append-nil j.second.prefix ∙ all.is ∙ ap (λ (v : List ℕ). all.prefix ++ v) (tail_text later cs all.back t) in
     (name_made all.prefix cs m, made_uri u j.prefix all.prefix cs m j.first (tail_few later cs all.back t) (j.is ∙ ap (λ (v : List ℕ). j.prefix ++ v) back))
 
--- the scanner of whole texts takes URIs
+-- the scanner of whole texts reads only URIs
 pub whole_scans : Scans IsUri whole_end
 unfolding whole_end
 whole_scans =
     wider (Joined (IsPrefix (codes "cpe:/")) (Joined All Empty)) IsUri whole_end a_uri
-    (both_scans (IsPrefix (codes "cpe:/")) (Joined All Empty) (prefix_end (codes "cpe:/")) (both all_end ending) (prefix_scans (codes "cpe:/") refl)
-    (both_scans All Empty all_end ending all_scans ending_scans [] refl)
+    (both_scans (IsPrefix (codes "cpe:/")) (Joined All Empty) (prefix_end (codes "cpe:/")) (scan_both all_end scan_ending) (prefix_scans (codes "cpe:/") refl)
+    (both_scans All Empty all_end scan_ending all_scans ending_scans [] refl)
     [] (record { prefix = []; back = []; is = refl; first = record { prefix = []; back = []; is = refl; first = empty_slot Part; second = ([], refl) }; second = refl }))
 
--- it leaves nothing
+-- the scanner of whole texts leaves nothing
 pub whole_ends : (s rest : List ℕ) → whole_end s ≡ Ok rest → rest ≡ []
 unfolding whole_end
 whole_ends s rest e = nothing_left (prefix_end (codes "cpe:/") s) all_end rest e
 
--- ---- each is taken
+-- ---- each URI is read
 
--- what a name has for an attribute stands so
-abbrev pub StandsAs : Values → Attribute → List ℕ → Type 0
-StandsAs w Part c = Stands w.part c
-StandsAs w Vendor c = Stands w.vendor c
-StandsAs w Product c = Stands w.product c
-StandsAs w Version c = Stands w.version c
-StandsAs w Update c = Stands w.update c
-StandsAs w Edition c = EditionStands w c
-StandsAs w Language c = Stands w.language c
-StandsAs w SwEdition c = ⊥
-StandsAs w TargetSw c = ⊥
-StandsAs w TargetHw c = ⊥
-StandsAs w Other c = ⊥
+-- the component spells the name's value of the attribute
+abbrev pub IsSpelledAs : Values → Attribute → List ℕ → Type 0
+IsSpelledAs w Part c = IsSpellingOf w.part c
+IsSpelledAs w Vendor c = IsSpellingOf w.vendor c
+IsSpelledAs w Product c = IsSpellingOf w.product c
+IsSpelledAs w Version c = IsSpellingOf w.version c
+IsSpelledAs w Update c = IsSpellingOf w.update c
+IsSpelledAs w Edition c = IsEditionSpelling w c
+IsSpelledAs w Language c = IsSpellingOf w.language c
+IsSpelledAs w SwEdition c = ⊥
+IsSpelledAs w TargetSw c = ⊥
+IsSpelledAs w TargetHw c = ⊥
+IsSpelledAs w Other c = ⊥
 
 pub good_five : (w : Values) → IsName w → AreGood w (Edition ∷ extended)
 good_five w good = (good.1.1.1.1.1.0, (good.1.1.1.1.1.1.1.0, (good.1.1.1.1.1.1.1.1.0, (good.1.1.1.1.1.1.1.1.1.0, (good.1.1.1.1.1.1.1.1.1.1.0, tt)))))
 
-pub slot_taken : (w : Values) (a : Attribute) (c r : List ℕ) → IsName w → StandsAs w a c → Ends r → component_end a (c ++ r) ≡ Ok r
-slot_taken w Part c r good stands ends = part_taken w.part c r good.0 stands ends
-slot_taken w Vendor c r good stands ends = text_taken false w.vendor c r good.1.0 stands (λ e. absurd cc) (ends_in false r ends)
-slot_taken w Product c r good stands ends = text_taken false w.product c r good.1.1.0 stands (λ e. absurd cc) (ends_in false r ends)
-slot_taken w Version c r good stands ends = text_taken false w.version c r good.1.1.1.0 stands (λ e. absurd cc) (ends_in false r ends)
-slot_taken w Update c r good stands ends = text_taken false w.update c r good.1.1.1.1.0 stands (λ e. absurd cc) (ends_in false r ends)
-slot_taken w Edition c r good stands ends = edition_taken w c r (good_five w good) stands ends
-slot_taken w Language c r good stands ends = language_taken w.language c r good.1.1.1.1.1.1.0 stands ends
-slot_taken w SwEdition c r good stands ends = absurd stands
-slot_taken w TargetSw c r good stands ends = absurd stands
-slot_taken w TargetHw c r good stands ends = absurd stands
-slot_taken w Other c r good stands ends = absurd stands
+pub slot_taken : (w : Values) (a : Attribute) (c r : List ℕ) → IsName w → IsSpelledAs w a c → Ends r → uri_component_end a (c ++ r) ≡ Ok r
+slot_taken w Part c r good present ends = part_taken w.part c r good.0 present ends
+slot_taken w Vendor c r good present ends = text_taken false w.vendor c r good.1.0 present (λ e. absurd cc) (ends_in false r ends)
+slot_taken w Product c r good present ends = text_taken false w.product c r good.1.1.0 present (λ e. absurd cc) (ends_in false r ends)
+slot_taken w Version c r good present ends = text_taken false w.version c r good.1.1.1.0 present (λ e. absurd cc) (ends_in false r ends)
+slot_taken w Update c r good present ends = text_taken false w.update c r good.1.1.1.1.0 present (λ e. absurd cc) (ends_in false r ends)
+slot_taken w Edition c r good present ends = edition_taken w c r (good_five w good) present ends
+slot_taken w Language c r good present ends = language_taken w.language c r good.1.1.1.1.1.1.0 present ends
+slot_taken w SwEdition c r good present ends = absurd present
+slot_taken w TargetSw c r good present ends = absurd present
+slot_taken w TargetHw c r good present ends = absurd present
+slot_taken w Other c r good present ends = absurd present
 
-abbrev pub AllStand : Values → List Attribute → List (List ℕ) → Type 0
-AllStand w [] cs = Unit {0}
-AllStand w (a ∷ rest) cs = StandsAs w a (first_of cs) × AllStand w rest (behind_first cs)
+abbrev pub AllSpelled : Values → List Attribute → List (List ℕ) → Type 0
+AllSpelled w [] cs = Unit {0}
+AllSpelled w (a ∷ rest) cs = IsSpelledAs w a (first_of cs) × AllSpelled w rest (behind_first cs)
 
 pub tail_ends : (cs : List (List ℕ)) → Ends (tail_of cs)
 tail_ends [] = tt
 tail_ends (c ∷ cs) = refl
 
-rest_taken : (w : Values) (which : List Attribute) (cs : List (List ℕ)) → IsName w → AllStand w which cs → length cs ≤ length which → rest_end which (tail_of cs) ≡ Ok []
-rest_taken w [] [] good stand few = refl
-rest_taken w [] (c ∷ cs) good stand few = absurd (omega (arith, few))
-rest_taken w (a ∷ rest) [] good stand few = refl
-rest_taken w (a ∷ rest) (c ∷ cs) good stand few =
-    ap (λ (x : Result (List ℕ) ℕ). x >>= rest_end rest) (slot_taken w a c (tail_of cs) good stand.0 (tail_ends cs)) ∙ rest_taken w rest cs good stand.1 (omega (arith, few))
+rest_taken : (w : Values) (which : List Attribute) (cs : List (List ℕ)) → IsName w → AllSpelled w which cs → length cs ≤ length which → rest_end which (tail_of cs) ≡ Ok []
+rest_taken w [] [] good are_present few = refl
+rest_taken w [] (c ∷ cs) good are_present few = absurd (omega (arith, few))
+rest_taken w (a ∷ rest) [] good are_present few = refl
+rest_taken w (a ∷ rest) (c ∷ cs) good are_present few =
+    ap (λ (x : Result (List ℕ) ℕ). x >>= rest_end rest) (slot_taken w a c (tail_of cs) good are_present.0 (tail_ends cs)) ∙ rest_taken w rest cs good are_present.1 (omega (arith, few))
 
-pub uri_stand : (w : Values) (s part : List ℕ) (cs : List (List ℕ)) (uri : Uri w s) → uri.components ≡ part ∷ cs → AllStand w later cs
-uri_stand w s part cs uri is =
-    (subst (Stands w.vendor) (ap (λ (us : List (List ℕ)). get_or us 1 []) is ∙ at_first cs) uri.vendor, (subst (Stands w.product) (ap (λ (us : List (List ℕ)). get_or us 2 []) is ∙ second cs) uri.product, (subst (Stands w.version) (ap (λ (us : List (List ℕ)). get_or us 3 []) is ∙ third cs) uri.version, (subst (Stands w.update) (ap (λ (us : List (List ℕ)). get_or us 4 []) is ∙ fourth cs) uri.update, (subst (EditionStands w) (ap (λ (us : List (List ℕ)). get_or us 5 []) is ∙ fifth cs) uri.edition, (subst (Stands w.language) (ap (λ (us : List (List ℕ)). get_or us 6 []) is ∙ sixth cs) uri.language, tt))))))
+pub uri_spelled : (w : Values) (s part : List ℕ) (cs : List (List ℕ)) (uri : Uri w s) → uri.components ≡ part ∷ cs → AllSpelled w later cs
+uri_spelled w s part cs uri is =
+    (subst (IsSpellingOf w.vendor) (ap (λ (us : List (List ℕ)). get_or us 1 []) is ∙ at_first cs) uri.vendor, (subst (IsSpellingOf w.product) (ap (λ (us : List (List ℕ)). get_or us 2 []) is ∙ second cs) uri.product, (subst (IsSpellingOf w.version) (ap (λ (us : List (List ℕ)). get_or us 3 []) is ∙ third cs) uri.version, (subst (IsSpellingOf w.update) (ap (λ (us : List (List ℕ)). get_or us 4 []) is ∙ fourth cs) uri.update, (subst (IsEditionSpelling w) (ap (λ (us : List (List ℕ)). get_or us 5 []) is ∙ fifth cs) uri.edition, (subst (IsSpellingOf w.language) (ap (λ (us : List (List ℕ)). get_or us 6 []) is ∙ sixth cs) uri.language, tt))))))
 
--- it takes each of them
+-- the scanner of whole texts reads each URI to its end
 pub whole_taken : (s : List ℕ) → IsUri s → whole_end s ≡ Ok []
 unfolding whole_end all_end
 whole_taken s h = go h.1.components refl where
@@ -408,13 +409,13 @@ whole_taken s h = go h.1.components refl where
       let w = h.0 in
       let uri = h.1 in
       let text : s ≡ uri.prefix ++ (part ++ tail_of cs) = uri.text ∙ ap (λ (us : List (List ℕ)). uri.prefix ++ join_with_byte 58 us) is ∙ ap (λ (v : List ℕ). uri.prefix ++ v) (components_joined part cs) in
-      let stands : Stands w.part part = subst (Stands w.part) (ap (λ (us : List (List ℕ)). get_or us 0 []) is) uri.part in
+      let present : IsSpellingOf w.part part = subst (IsSpellingOf w.part) (ap (λ (us : List (List ℕ)). get_or us 0 []) is) uri.part in
       let few : length cs ≤ 6 = omega (arith, uri.few, ap length is) in
-      ap (λ (v : List ℕ). prefix_end (codes "cpe:/") v >>= both (λ u. part_end u >>= components_end later) ending) text
-      ∙ ap (λ (x : Result (List ℕ) ℕ). x >>= both (λ u. part_end u >>= components_end later) ending) (prefix_taken (codes "cpe:/") uri.prefix (part ++ tail_of cs) uri.begins)
-      ∙ ap (λ (x : Result (List ℕ) ℕ). (x >>= components_end later) >>= ending) (part_taken w.part part (tail_of cs) uri.name.0 stands (tail_ends cs))
-      ∙ ap (λ (x : Result (List ℕ) ℕ). x >>= ending) (at_once later (tail_of cs) ∙ rest_taken w later cs uri.name (uri_stand w s part cs uri is) few)
+      ap (λ (v : List ℕ). prefix_end (codes "cpe:/") v >>= scan_both (λ u. part_end u >>= components_end later) scan_ending) text
+      ∙ ap (λ (x : Result (List ℕ) ℕ). x >>= scan_both (λ u. part_end u >>= components_end later) scan_ending) (prefix_taken (codes "cpe:/") uri.prefix (part ++ tail_of cs) uri.begins)
+      ∙ ap (λ (x : Result (List ℕ) ℕ). (x >>= components_end later) >>= scan_ending) (part_taken w.part part (tail_of cs) uri.name.0 present (tail_ends cs))
+      ∙ ap (λ (x : Result (List ℕ) ℕ). x >>= scan_ending) (at_once later (tail_of cs) ∙ rest_taken w later cs uri.name (uri_spelled w s part cs uri is) few)
 
--- where it stops is the place
+-- the scanner of whole texts stops at the place of the text
 pub leaves : (s : List ℕ) (left : ℕ) → whole_end s ≡ Err left → StopsAt IsUri s left
 leaves s left e = stops_at IsUri whole_end whole_scans whole_taken s left e

@@ -1,4 +1,4 @@
--- What the code found in the component of the edition. No public clause rests on it.
+-- The pieces that `scan_uri` finds in the component of the edition. No public contract uses this definition.
 use Rattle.std.specs.Prelude.{ℕ, List, [], ◌∷◌}
 use Rattle.cpe_uri.specs.declared.scan.Editions.{Editions}
 

@@ -1,47 +1,47 @@
--- The scanners of the parts and the languages of a URI, as the code goes over them. Of the public words `read_uri` alone rests on
--- them, and what stands on it; `read_uri_is` fixes it by the grammar.
+-- The scanners of the part and the language of a URI, in the same form as in `src/`. Of the public definitions, only
+-- `read_uri` uses them directly. The law `read_uri_is` says what `read_uri` returns, by the grammar alone.
 use Rattle.std.specs.Prelude.{ℕ, Bool, ◌||◌, ◌==◌, codes}
 use Rattle.std.specs.Char.{to_ascii_lowercase}
-use Rattle.cpe_grammar.specs.Scanners.{Scanner, ◌>>=◌, choose, nothing, one, literal}
+use Rattle.name_grammar.specs.Scanners.{Scanner, ◌>>=◌, choose, nothing, scan_one, literal}
 use Rattle.cpe_values.specs.Spelling.{is_letter}
 use Rattle.cpe_name.specs.Shapes.{is_part_letter}
 use Rattle.cpe_name.specs.Tags.{tag_end}
 
 -- ---- parts
 
--- not applicable, or a part, in either case
-abbrev pub is_part_byte : ℕ → Bool
-is_part_byte c = c == 45 || is_part_letter (to_ascii_lowercase c)
+-- `-` for NA, or the letter of a part in either case
+abbrev pub is_language_byte : ℕ → Bool
+is_language_byte c = c == 45 || is_part_letter (to_ascii_lowercase c)
 
--- nothing, `-`, or one of three letters
+-- the part: nothing, `-`, or one of three letters
 unfoldable pub part_end : Scanner
-part_end s = choose is_part_byte (one is_part_byte) nothing s
+part_end s = choose is_language_byte (scan_one is_language_byte) nothing s
 
 -- ---- languages
 
-abbrev pub is_hyphen : ℕ → Bool
-is_hyphen c = c == 45
+abbrev pub is_uri_hyphen : ℕ → Bool
+is_uri_hyphen c = c == 45
 
--- a hyphen begins with it, in one of its spellings
+-- a byte with which a hyphen begins: `-`, or the `%` of a percent form
 abbrev pub begins_hyphen : ℕ → Bool
 begins_hyphen c = c == 45 || c == 37
 
--- the last digit of the code of a hyphen
+-- the last digit of a hyphen's percent form: `D` or `d`
 abbrev pub is_last_digit : ℕ → Bool
 is_last_digit c = c == 68 || c == 100
 
 -- the percent form of a hyphen
 unfoldable pub percent_hyphen_end : Scanner
-percent_hyphen_end s = literal (codes "%2") s >>= one is_last_digit
+percent_hyphen_end s = literal (codes "%2") s >>= scan_one is_last_digit
 
--- a hyphen, in one of its spellings
+-- a hyphen, bare or as a percent form
 unfoldable pub hyphen_end : Scanner
-hyphen_end s = choose is_hyphen (one is_hyphen) percent_hyphen_end s
+hyphen_end s = choose is_uri_hyphen (scan_one is_uri_hyphen) percent_hyphen_end s
 
 -- a language tag, or nothing
 unfoldable pub tag_or_nothing_end : Scanner
 tag_or_nothing_end s = choose is_letter (tag_end begins_hyphen hyphen_end) nothing s
 
--- nothing, `-`, or a language tag
+-- the language: nothing, `-`, or a language tag
 unfoldable pub language_end : Scanner
-language_end s = choose is_hyphen (one is_hyphen) tag_or_nothing_end s
+language_end s = choose is_uri_hyphen (scan_one is_uri_hyphen) tag_or_nothing_end s

@@ -1,9 +1,9 @@
-// From names to canonical URIs (NIST IR 7695, 6.1.2).
+// Writes the canonical URIs of names (NIST IR 7695, 6.1.2).
 ghost use Rattle.std.specs.Prelude.{◌≡◌, ◌++◌, ◌∷◌, IfOk, OnOk, replicate, codes};
 ghost use Rattle.std.specs.List.{flat_map, list_all, join_with_byte};
 ghost use Rattle.cpe_name.specs.Names.{value_of};
-ghost use Rattle.cpe_uri.specs.Spelling.{edge_codes, character, component};
-ghost use Rattle.cpe_uri.specs.Canon.{is_any, extended, edition_component, components, trimmed, canon};
+ghost use Rattle.cpe_uri.specs.Spelling.{edge_codes, uri_character, uri_component};
+ghost use Rattle.cpe_uri.specs.Canon.{is_any_component, extended, edition_component, components, trimmed, canon};
 
 use crate::spelling::percent_form;
 use crate::trim::without_colons;
@@ -11,7 +11,7 @@ use cpe_name::{Attribute, Wfn};
 use cpe_values::{Edge, Memory, Style, Value, is_bare_byte};
 use std::alloc::Global;
 
-// These have components of their own, between those of the part and of the edition.
+// The attributes that have a component of their own, between those of the part and of the edition.
 const MIDDLE: [Attribute; 4] = [
     Attribute::Vendor,
     Attribute::Product,
@@ -19,7 +19,7 @@ const MIDDLE: [Attribute; 4] = [
     Attribute::Update,
 ];
 
-// Names of CPE 2.2 don't have these: they are packed with the edition.
+// The attributes that names of CPE 2.2 don't have. They are packed into the component of the edition.
 const EXTENDED: [Attribute; 4] = [
     Attribute::SwEdition,
     Attribute::TargetSw,
@@ -28,7 +28,7 @@ const EXTENDED: [Attribute; 4] = [
 ];
 
 fn push_character(out: &mut Vec<u8>, code: u8) -> Result<(), Memory>
-    ensures { OnOk result (out.new.items ≡ out.old.items ++ character code) }
+    ensures { OnOk result (out.new.items ≡ out.old.items ++ uri_character code) }
 {
     if is_bare_byte(Style::Formatted, code) {
         out.push(code)?;
@@ -39,7 +39,7 @@ fn push_character(out: &mut Vec<u8>, code: u8) -> Result<(), Memory>
 }
 
 fn push_body(out: &mut Vec<u8>, body: &[u8]) -> Result<(), Memory>
-    ensures { OnOk result (out.new.items ≡ out.old.items ++ flat_map character body.now) }
+    ensures { OnOk result (out.new.items ≡ out.old.items ++ flat_map uri_character body.now) }
 {
     for byte in body {
         push_character(out, *byte)?;
@@ -48,7 +48,7 @@ fn push_body(out: &mut Vec<u8>, body: &[u8]) -> Result<(), Memory>
 }
 
 fn push_marks(out: &mut Vec<u8>, marks: u32) -> Result<(), Memory>
-    ensures { OnOk result (out.new.items ≡ out.old.items ++ flat_map character (replicate marks 1)) }
+    ensures { OnOk result (out.new.items ≡ out.old.items ++ flat_map uri_character (replicate marks 1)) }
 {
     for _ in 0..marks {
         push_character(out, 1)?;
@@ -57,7 +57,7 @@ fn push_marks(out: &mut Vec<u8>, marks: u32) -> Result<(), Memory>
 }
 
 fn push_edge(out: &mut Vec<u8>, edge: Edge) -> Result<(), Memory>
-    ensures { OnOk result (out.new.items ≡ out.old.items ++ flat_map character (edge_codes edge)) }
+    ensures { OnOk result (out.new.items ≡ out.old.items ++ flat_map uri_character (edge_codes edge)) }
 {
     match edge {
         Edge::None => Ok(()),
@@ -67,7 +67,7 @@ fn push_edge(out: &mut Vec<u8>, edge: Edge) -> Result<(), Memory>
 }
 
 fn push_component(out: &mut Vec<u8>, value: &Value) -> Result<(), Memory>
-    ensures { OnOk result (out.new.items ≡ out.old.items ++ component value.now) }
+    ensures { OnOk result (out.new.items ≡ out.old.items ++ uri_component value.now) }
 {
     match value {
         Value::Any => Ok(()),
@@ -84,7 +84,7 @@ fn push_component(out: &mut Vec<u8>, value: &Value) -> Result<(), Memory>
 }
 
 fn push_each(out: &mut Vec<u8>, before: u8, name: &Wfn, which: &[Attribute]) -> Result<(), Memory>
-    ensures { OnOk result (out.new.items ≡ out.old.items ++ flat_map (λ a. before ∷ component (value_of name.now a)) which.now) }
+    ensures { OnOk result (out.new.items ≡ out.old.items ++ flat_map (λ a. before ∷ uri_component (value_of name.now a)) which.now) }
 {
     for attribute in which {
         out.push(before)?;
@@ -94,13 +94,13 @@ fn push_each(out: &mut Vec<u8>, before: u8, name: &Wfn, which: &[Attribute]) -> 
 }
 
 fn is_any_value(value: &Value) -> bool
-    ensures { result ≡ is_any value.now }
+    ensures { result ≡ is_any_component value.now }
 {
     matches!(value, Value::Any)
 }
 
 fn is_edition_alone(name: &Wfn) -> bool
-    ensures { result ≡ list_all (λ a. is_any (value_of name.now a)) extended }
+    ensures { result ≡ list_all (λ a. is_any_component (value_of name.now a)) extended }
 {
     EXTENDED.iter().all(|which| is_any_value(name.get(*which)))
 }
@@ -117,7 +117,7 @@ fn push_edition(out: &mut Vec<u8>, name: &Wfn) -> Result<(), Memory>
     push_each(out, b'~', name, &EXTENDED)
 }
 
-// Leaves the colons at the end, which the canonical URI doesn't have.
+// Writes all components. The caller removes the colons at the end, which a canonical URI doesn't have.
 fn push_components(out: &mut Vec<u8>, name: &Wfn) -> Result<(), Memory>
     ensures { OnOk result (out.new.items ≡ out.old.items ++ codes "cpe:/" ++ join_with_byte 58 (components name.now)) }
 {
@@ -131,10 +131,10 @@ fn push_components(out: &mut Vec<u8>, name: &Wfn) -> Result<(), Memory>
     Ok(())
 }
 
-/// The canonical URI of a name (NIST IR 7695, 6.1.2). Each name has exactly one; letters stand as they are.
+/// The canonical URI of a name (NIST IR 7695, 6.1.2). Each name has exactly one. Letters keep their case.
 ///
 /// # Errors
-/// Only that memory ran out.
+/// Only if memory runs out.
 pub fn bind_uri(alloc: Global, name: &Wfn) -> Result<Vec<u8>, Memory>
     ensures { IfOk result (λ text. text.items ≡ canon name.now) }
 {

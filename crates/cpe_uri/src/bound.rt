@@ -1,16 +1,16 @@
-// The canonical URI of a name, written from where its values lie in one of its texts (NIST IR 7695, 6.1.2).
-// The room is the caller's: nothing here takes memory.
+// Writes the canonical URI of a name from the name's text, in which the values were found before (NIST IR 7695, 6.1.2).
+// The caller gives the room; nothing here allocates.
 ghost use Rattle.std.specs.Prelude.{◌≡◌, ◌≤◌, ◌+◌, ◌*◌, ◌-◌, ◌++◌, ◌∷◌, [], length, take, false, if◌then◌else◌};
 ghost use Rattle.std.specs.List.{list_all};
 ghost use Rattle.cpe_name.specs.Spans.{texts, total_length};
-ghost use Rattle.cpe_uri.specs.Requoting.{quotes, code_from, spelled, is_coded, requoted, component_from, says_any, first_from, behind, extended_texts, packed_from, edition_from, untrimmed_from, uri_from};
+ghost use Rattle.cpe_uri.specs.Requoting.{quotes, code_from, spelled_byte, is_coded, requoted, component_from, says_any, first_from, behind, extended_texts, packed_from, edition_from, untrimmed_from, uri_from};
 
 use crate::spelling::{LONG_TEXT, percent_form, unquoted_length};
 use crate::trim::without_colons;
-use cpe_grammar::{but_last, prefix_of};
+use byte_room::{put, put_byte};
 use cpe_name::Written;
-use cpe_room::{put, put_byte};
 use cpe_values::skip_word;
+use name_grammar::{but_last, prefix_of};
 
 fn code_from(quoted: bool, byte: u8) -> u8
     ensures { result ≡ code_from quoted byte }
@@ -22,14 +22,16 @@ fn code_from(quoted: bool, byte: u8) -> u8
     }
 }
 
-// Takes the count in place of the byte, which is looked up once; a quoted backslash has the count of a dropped one.
+// Whether a byte gets a percent form. `count` is the byte's `unquoted_length`, which the caller looks up only once. A
+// quoted backslash has count 0, and gets a percent form too.
 fn is_coded(quoted: bool, count: u8) -> bool
     ensures { result ≡ is_coded quoted count }
 {
     count < u8::from(quoted) || count > 1
 }
 
-// The byte is always written, and a dropped backslash is written over by the next: no branch depends on which it is.
+// Always writes the byte, and keeps it if `count` is 1. If `count` is 0, the next write overwrites the byte. So no
+// branch depends on the byte.
 fn put_kept(room: &mut [u8], at: usize, byte: u8, count: u8) -> usize
     requires room { at + 1 ≤ length room.old }
     requires most { count ≤ 1 }
@@ -41,12 +43,12 @@ fn put_kept(room: &mut [u8], at: usize, byte: u8, count: u8) -> usize
     at + usize::from(count)
 }
 
-// Tells beside the place whether the byte quotes the next one.
+// Returns the place after the written bytes, and whether this byte quotes the next byte.
 fn put_spelled(room: &mut [u8], at: usize, quoted: bool, byte: u8) -> (usize, bool)
     requires { at + 3 ≤ length room.old }
     ensures at { result.0 ≤ at + 3 }
     ensures room { length room.new ≡ length room.old }
-    ensures written { take result.0 room.new ≡ take at room.old ++ spelled quoted byte }
+    ensures written { take result.0 room.new ≡ take at room.old ++ spelled_byte quoted byte }
     ensures quotes { result.1 ≡ quotes quoted byte }
 {
     let count = unquoted_length(byte);
@@ -57,7 +59,8 @@ fn put_spelled(room: &mut [u8], at: usize, quoted: bool, byte: u8) -> (usize, bo
     (put_kept(room, at, byte, count), count == 0)
 }
 
-// Letters, digits and `_` at the start, many at a time.
+// Copies the letters, digits and `_` at the beginning, many at a time. Returns the place after them, and the bytes
+// left.
 fn put_word<'a>(room: &mut [u8], at: usize, bytes: &'a [u8]) -> (usize, &'a [u8])
     requires { at + 3 * length bytes.now ≤ length room.old }
     ensures at { result.0 + 3 * length result.1.now ≤ at + 3 * length bytes.now }
@@ -69,7 +72,8 @@ fn put_word<'a>(room: &mut [u8], at: usize, bytes: &'a [u8]) -> (usize, &'a [u8]
     (put(room, at, prefix_of(bytes, behind)), behind)
 }
 
-// One byte, and the word after it. Tells beside the place whether the byte quotes the next one, and what is left.
+// Writes one byte, and the word after it, unless the byte quotes the next byte. Returns the place after the written
+// bytes, whether the byte quotes the next byte, and the bytes left.
 fn put_next<'a>(
     room: &mut [u8],
     at: usize,
@@ -91,7 +95,7 @@ fn put_next<'a>(
     (at, false, left)
 }
 
-// A long text up to its last bytes: words are copied, and only what stands between them goes byte by byte.
+// Writes a long text, except its last bytes. Words are copied at once. The bytes between words are written one by one.
 #[inline(never)]
 fn put_long<'a>(room: &mut [u8], start: usize, bytes: &'a [u8]) -> (usize, bool, &'a [u8])
     requires { start + 3 * length bytes.now ≤ length room.old }
@@ -138,7 +142,8 @@ fn put_requoted(room: &mut [u8], at: usize, bytes: &[u8]) -> usize
     put_each(room, end, quoted, rest)
 }
 
-// The first byte tells: a text begins with a double quote, NA with its N, and what is empty or begins otherwise is ANY.
+// The first byte decides the value: `"` begins a text, and `N` begins NA. Anything else is ANY, and so is an empty
+// value.
 #[tactic(auto, unfolding(crate::specs::Requoting::component_from))]
 fn put_component(room: &mut [u8], at: usize, text: &[u8]) -> usize
     requires { at + 3 * length text.now ≤ length room.old }
@@ -217,7 +222,7 @@ fn put_edition(room: &mut [u8], at: usize, written: &Written) -> usize
     put_packed(room, at, written)
 }
 
-// Sixteen bytes at most stand beside the values: `cpe:/`, six colons and five tildes.
+// At most 16 bytes are written that aren't in values: `cpe:/`, six colons and five tildes.
 fn put_components(room: &mut [u8], at: usize, written: &Written) -> usize
     requires { at + 3 * total_length (texts written.now) + 16 ≤ length room.old }
     ensures at { result ≤ at + 3 * total_length (texts written.now) + 16 }

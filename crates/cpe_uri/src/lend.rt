@@ -1,5 +1,6 @@
-// From URIs, and from texts in either binding, to names that borrow their texts from them (NIST IR 7695, 6.1.3). Nothing here takes
-// memory: a name of which a text is spelled by other bytes than its own is made by `unbind_uri` and `unbind_any`.
+// Reads URIs, and texts in either binding, as names that borrow the bytes of their texts (NIST IR 7695, 6.1.3). Nothing
+// here allocates. If the spelling of a text differs from the text, the name can't borrow it. `unbind_uri` and
+// `unbind_any` make such names.
 ghost use Rattle.std.specs.Prelude.{◌≡◌, map, true, Ok, Err, IfOk, IfErr, OnOk, IfSome, MatchResult};
 ghost use Rattle.std.specs.List.{AllByRecursion};
 ghost use Rattle.cpe_values.specs.declared.value.Edge.TheVariants as edge;
@@ -9,7 +10,7 @@ ghost use Rattle.cpe_name.specs.Prelude.{name_lent, named, texts};
 ghost use Rattle.cpe_uri.specs.EitherBinding.{UriOrFs, IsUriOrFs, LeavesUriOrFs, read_any};
 ghost use Rattle.cpe_uri.specs.Grammar.{Uri, IsUri, LeavesUri};
 ghost use Rattle.cpe_uri.specs.Lending.{spells_itself, spell_themselves, all_spell_themselves};
-ghost use Rattle.cpe_uri.specs.SpanValues.{value_at};
+ghost use Rattle.cpe_uri.specs.SpanValues.{uri_value_at};
 ghost use Rattle.cpe_uri.specs.Unbound.{read_uri};
 
 use crate::scan::scan_uri;
@@ -19,7 +20,8 @@ use cpe_fs::lend_fs;
 use cpe_name::{NameRef, Written};
 use cpe_values::{Edge, TextRef, ValueRef};
 
-// 1 for a small letter, a digit, `_`, `.`, `-` and `~`. A table, since letters and digits alternate in no order that a branch could foretell.
+// 1 for a byte that spells itself: a small letter, a digit, `_`, `.`, `-` or `~`. It is a table, because no processor
+// could predict a branch on these bytes.
 #[rattlefmt::skip]
 const ITSELF: [u8; 256] = [
     0, 0, 0, 0, 0, 0, 0, 0, 0, 0, 0, 0, 0, 0, 0, 0, 0, 0, 0, 0, 0, 0, 0, 0, 0, 0, 0, 0, 0, 0, 0, 0,
@@ -39,7 +41,7 @@ fn spells_itself(byte: u8) -> bool
     ITSELF[usize::from(byte)] == 1
 }
 
-// Whether the piece has no percent form and no capital letter, so that the body that it spells stands there as it is.
+// Whether the piece has no percent form and no capital letter. Then the body that it spells has the same bytes.
 fn spell_themselves(span: &[u8]) -> bool
     ensures { result ≡ spell_themselves span.now }
 {
@@ -74,7 +76,7 @@ fn text_alone(body: &[u8]) -> TextRef
 
 fn lend_value(span: &[u8]) -> ValueRef
     requires { spell_themselves span.now ≡ true }
-    ensures { value_lent result ≡ value_at span.now }
+    ensures { value_lent result ≡ uri_value_at span.now }
 {
     if span.is_empty() {
         ValueRef::Any
@@ -87,7 +89,7 @@ fn lend_value(span: &[u8]) -> ValueRef
 
 fn lend_values<'a>(spans: &Written<'a>) -> NameRef<'a>
     requires { AllByRecursion (λ u. spell_themselves u ≡ true) (texts spans.now) }
-    ensures { name_lent result ≡ named (map value_at (texts spans.now)) }
+    ensures { name_lent result ≡ named (map uri_value_at (texts spans.now)) }
 {
     NameRef {
         part: lend_value(spans.part),
@@ -106,7 +108,7 @@ fn lend_values<'a>(spans: &Written<'a>) -> NameRef<'a>
 
 #[tactic(auto, using(crate::proofs::Lent::each_themselves))]
 fn lend_pieces<'a>(spans: &Written<'a>) -> Option<NameRef<'a>>
-    ensures { IfSome result (λ name. name_lent name ≡ named (map value_at (texts spans.now))) }
+    ensures { IfSome result (λ name. name_lent name ≡ named (map uri_value_at (texts spans.now))) }
 {
     if !all_spell_themselves(spans) {
         return None;
@@ -114,21 +116,21 @@ fn lend_pieces<'a>(spans: &Written<'a>) -> Option<NameRef<'a>>
     Some(lend_values(spans))
 }
 
-/// The name that has this URI, borrowed from it where each of its texts stands there as it is (NIST IR 7695, 6.1.3): without a percent form
-/// and without a capital letter. `None` where one doesn't: [`unbind_uri`](crate::unbind_uri) makes that name. It takes no memory.
+/// The name that has this URI, borrowed from its bytes (NIST IR 7695, 6.1.3). `None` if a value is spelled with a
+/// percent form or a capital letter; [`unbind_uri`](crate::unbind_uri) makes such a name. Allocates: no.
 ///
 /// # Errors
 ///
-/// The place of the text as in [`UriFault::At`](crate::UriFault::At), exactly where no name has it.
+/// The place of the text as in [`UriFault::At`](crate::UriFault::At), exactly if no name has it.
 pub fn lend_uri(text: &[u8]) -> Result<Option<NameRef<'_>>, usize>
-    // What is lent has this text.
+    // A lent name has this text.
     ensures lent { IfOk result (λ lent. IfSome lent (λ name. Uri (name_lent name) text.now)) }
-    // Where there is no error some name has it.
+    // If there is no error, some name has this text.
     ensures had { OnOk result (IsUri text.now) }
-    // A text that no name has is refused with its place.
+    // An error is the place of the text, which no name has.
     ensures refused { IfErr result (LeavesUri text.now) }
 
-    // The same by a function.
+    // The result equals that of the function `read_uri`, if a name is lent or there is an error.
     ensures read { MatchResult result (λ lent. IfSome lent (λ name. read_uri text.now ≡ Ok (name_lent name))) (λ place. read_uri text.now ≡ Err place) }
 {
     match scan_uri(text) {
@@ -137,22 +139,23 @@ pub fn lend_uri(text: &[u8]) -> Result<Option<NameRef<'_>>, usize>
     }
 }
 
-/// The name that has this text in one binding or the other, borrowed from it: as [`lend_uri`] where the text begins with `cpe:/` in any
-/// letter case, and as [`lend_fs`] where it doesn't (NIST IR 7695, 6.1.3 and 6.2.3). `None` where the name can't be lent:
-/// [`unbind_any`](crate::unbind_any) makes it. It takes no memory.
+/// The name that has this text in one of the two bindings, borrowed from its bytes (NIST IR 7695, 6.1.3 and 6.2.3). A
+/// text that begins with `cpe:/`, in any letter case, is read as by [`lend_uri`]. Any other text is read as by
+/// [`lend_fs`]. `None` if the name can't be borrowed; [`unbind_any`](crate::unbind_any) makes such a name. Allocates:
+/// no.
 ///
 /// # Errors
 ///
-/// The place of the text as in [`UriFault::At`](crate::UriFault::At), exactly where no name has it.
+/// The place of the text as in [`UriFault::At`](crate::UriFault::At), exactly if no name has it.
 pub fn lend_any(text: &[u8]) -> Result<Option<NameRef<'_>>, usize>
-    // What is lent has this text.
+    // A lent name has this text.
     ensures lent { IfOk result (λ lent. IfSome lent (λ name. UriOrFs (name_lent name) text.now)) }
-    // Where there is no error some name has it.
+    // If there is no error, some name has this text.
     ensures had { OnOk result (IsUriOrFs text.now) }
-    // A text that no name has is refused with its place.
+    // An error is the place of the text, which no name has.
     ensures refused { IfErr result (LeavesUriOrFs text.now) }
 
-    // The same by a function.
+    // The result equals that of the function `read_any`, if a name is lent or there is an error.
     ensures read { MatchResult result (λ lent. IfSome lent (λ name. read_any text.now ≡ Ok (name_lent name))) (λ place. read_any text.now ≡ Err place) }
 {
     if begins_as_uri(text) {

@@ -59,16 +59,16 @@ pub use unbind::{
     write_unbound_any, write_unbound_uri,
 };
 
-/// The bytes that an output text has beside its values: the names of the attributes, the brackets, the commas,
-/// and `ANY` where nothing stands in the URI.
+/// A bound on the bytes of an output text that aren't in its values: names of attributes, brackets, commas, quotes, and
+/// `ANY` for each empty component of the URI.
 pub const UNBOUND_FRAME: usize = 138;
 
-/// Why a text has no name.
+/// Why no name was read from a text.
 #[derive(Clone, Copy, Debug, PartialEq, Eq, Error)]
 pub enum UriFault {
-    /// No name has this text. The place is the length of its longest prefix with which some text of its binding begins, a URI, or in
-    /// [`unbind_any`] a formatted string where the text doesn't begin as a URI: at the byte after it the text goes wrong, or it
-    /// is cut off there.
+    /// No name has this text. The number is the place of the text: the length of its longest beginning that is also the
+    /// beginning of a URI. In [`unbind_any`], a text that doesn't begin as a URI is compared with formatted strings
+    /// instead. The text has an error at the byte after that beginning, or ends there too early.
     #[error("no name has this text: it goes wrong at byte {0}")]
     At(usize),
     /// Memory ran out.
@@ -84,12 +84,12 @@ impl From<Memory> for UriFault {
     }
 }
 
-/// Writes the canonical URI of the name that has this text (NIST IR 7695, 5 and 6.1.2) into `room`, from `at` on,
-/// and makes no name. It answers the place after what was written; what stands from there on is not told.
-/// It takes no memory. There is no answer exactly where no name has the text; the room is then as it was.
+/// Writes a canonical URI into `room`, from `at` on, and returns the place after it. It is the canonical URI of the
+/// name that has this text (NIST IR 7695, 5 and 6.1.2). The bytes of `room` from the returned place on are unspecified.
+/// Returns `None` exactly if no name has the text; `room` is then unchanged. Allocates: no.
 ///
-/// A byte of the text gives three bytes of the URI at most, and what stands beside the values in the text is enough for
-/// what stands beside them in the URI.
+/// Three bytes for each byte of the text are enough room, also for `cpe:/`, the colons and the tildes. For these, the
+/// text has more than enough bytes that aren't in its values.
 pub fn write_bound_uri(room: &mut [u8], at: usize, text: &[u8]) -> Option<usize>
     requires { at + 3 * length text.now ≤ length room.old }
     ensures { WritesBound canon bound_uri text.now at (at + 3 * length text.now) room.old room.new result }
@@ -100,15 +100,15 @@ pub fn write_bound_uri(room: &mut [u8], at: usize, text: &[u8]) -> Option<usize>
     Some(put_uri(room, at, &written))
 }
 
-/// What `bound_uri` says of a text: the canonical URI of the name that has it, and nothing exactly where no name has it.
+/// Law: `bound_uri` returns the canonical URI of the name that has a text. If no name has the text, it returns nothing.
 pub fn bound_uri_is()
     ensures named { (name : Values) (s : List ℕ) → WfnText name s → bound_uri s ≡ Some (canon name) }
     ensures found { (s text : List ℕ) → bound_uri s ≡ Some text → BindsUri s text }
     ensures none { (s : List ℕ) → bound_uri s ≡ None → ¬ (IsWfnText s) }
 {}
 
-/// The canonical URI of a name is a URI of the name in lower case, and no text is the URI of two names. So
-/// [`unbind_uri`] gives the name in lower case of what [`bind_uri`] wrote.
+/// Law: the canonical URI of a name is a URI of the name in lower case, and no text is the URI of two names. So, from
+/// what [`bind_uri`] writes for a name, [`unbind_uri`] reads the name in lower case.
 pub fn one_name()
     ensures canonical { (name : Values) → IsName name → Uri (lower_name name) (canon name) }
     ensures back { (name : Values) → IsName name → read_uri (canon name) ≡ Ok (lower_name name) }

@@ -1,23 +1,24 @@
-// Where the values of a name lie in its URI (NIST IR 7695, 6.1). Nothing here takes memory.
+// Finds the pieces of a URI that spell the values of its name (NIST IR 7695, 6.1). Nothing here allocates.
 ghost use Rattle.std.specs.Prelude.{◌≡◌, ◌-◌, ◌==◌, List, ℕ, false, true, length, take, drop, [], ◌∷◌, codes, Ok, Err, IfOk, IfErr};
 ghost use Rattle.std.specs.Char.{to_ascii_lowercase};
-ghost use Rattle.cpe_grammar.specs.Place.{StopsAt};
-ghost use Rattle.cpe_grammar.specs.Scanners.{Tells, one};
+ghost use Rattle.name_grammar.specs.Place.{StopsAt};
+ghost use Rattle.name_grammar.specs.Scanners.{IsScan, scan_one};
 ghost use Rattle.cpe_name.specs.Spans.{texts};
 ghost use Rattle.cpe_uri.specs.Grammar.{begins_with_tilde, IsUri};
 ghost use Rattle.cpe_uri.specs.Languages.{part_end, language_end};
 ghost use Rattle.cpe_uri.specs.TextMachine.{text_end};
 ghost use Rattle.cpe_uri.specs.Editions.{edition_texts};
 ghost use Rattle.cpe_uri.specs.Scanning.{field_end, packed_end, edition_end, later_end, prefix_end, all_end, whole_end};
-ghost use Rattle.cpe_uri.specs.Spans.{AreComponents};
+ghost use Rattle.cpe_uri.specs.Spans.{AreUriComponents};
 ghost use Rattle.cpe_uri.specs.Pieces.{prefix_before, piece, begins_with_colon, behind_colon, field_pieces, edition_pieces, all_pieces};
 
 use crate::language::{scan_language, scan_part};
 use crate::text::scan_text;
-use cpe_grammar::{prefix_of, scan_byte};
 use cpe_name::Written;
+use name_grammar::{prefix_of, scan_byte};
 
-// Where the values lie in the component of the edition: five in a packed one, else the edition and nothing for the others.
+// The pieces in the component of the edition. A packed component has five pieces. Otherwise the edition has a piece,
+// and the four other pieces are empty.
 #[derive(Clone, Copy)]
 pub(crate) struct Editions<'a> {
     pub edition: &'a [u8],
@@ -40,7 +41,7 @@ fn is_at_tilde(bytes: &[u8]) -> bool
 }
 
 fn part_piece(bytes: &[u8]) -> Result<(&[u8], &[u8]), usize>
-    ensures told { Tells (λ x. x.1.now) result (part_end bytes.now) }
+    ensures scans { IsScan (λ x. x.1.now) result (part_end bytes.now) }
     ensures found { IfOk result (λ x. x.0.now ≡ prefix_before bytes.now x.1.now) }
 {
     let rest = scan_part(bytes)?;
@@ -49,7 +50,7 @@ fn part_piece(bytes: &[u8]) -> Result<(&[u8], &[u8]), usize>
 
 #[inline(always)]
 fn text_piece(packed: bool, bytes: &[u8]) -> Result<(&[u8], &[u8]), usize>
-    ensures told { Tells (λ x. x.1.now) result (text_end packed bytes.now) }
+    ensures scans { IsScan (λ x. x.1.now) result (text_end packed bytes.now) }
     ensures found { IfOk result (λ x. x.0.now ≡ prefix_before bytes.now x.1.now) }
 {
     let rest = scan_text(packed, bytes)?;
@@ -57,7 +58,7 @@ fn text_piece(packed: bool, bytes: &[u8]) -> Result<(&[u8], &[u8]), usize>
 }
 
 fn language_piece(bytes: &[u8]) -> Result<(&[u8], &[u8]), usize>
-    ensures told { Tells (λ x. x.1.now) result (language_end bytes.now) }
+    ensures scans { IsScan (λ x. x.1.now) result (language_end bytes.now) }
     ensures found { IfOk result (λ x. x.0.now ≡ prefix_before bytes.now x.1.now) }
 {
     let rest = scan_language(bytes)?;
@@ -66,7 +67,7 @@ fn language_piece(bytes: &[u8]) -> Result<(&[u8], &[u8]), usize>
 
 #[tactic(auto, unfolding(crate::specs::Scanning::field_end))]
 fn field_piece(bytes: &[u8]) -> Result<(&[u8], &[u8]), usize>
-    ensures told { Tells (λ x. x.1.now) result (field_end bytes.now) }
+    ensures scans { IsScan (λ x. x.1.now) result (field_end bytes.now) }
     ensures found { IfOk result (λ x. x.0.now ≡ piece (text_end true) (drop 1 bytes.now)) }
 {
     let start = scan_byte(b'~', bytes)?;
@@ -75,7 +76,7 @@ fn field_piece(bytes: &[u8]) -> Result<(&[u8], &[u8]), usize>
 
 #[tactic(auto, unfolding(crate::specs::Scanning::packed_end))]
 fn packed_pieces(bytes: &[u8]) -> Result<(Editions, &[u8]), usize>
-    ensures told { Tells (λ x. x.1.now) result (packed_end bytes.now) }
+    ensures scans { IsScan (λ x. x.1.now) result (packed_end bytes.now) }
     ensures found { IfOk result (λ x. edition_texts x.0 ≡ field_pieces 5 bytes.now) }
 {
     let (edition, rest) = field_piece(bytes)?;
@@ -107,17 +108,17 @@ fn alone(edition: &[u8]) -> Editions
 
 fn lone_edition(bytes: &[u8]) -> Result<(Editions, &[u8]), usize>
     requires { begins_with_tilde bytes.now ≡ false }
-    ensures told { Tells (λ x. x.1.now) result (text_end false bytes.now) }
+    ensures scans { IsScan (λ x. x.1.now) result (text_end false bytes.now) }
     ensures found { IfOk result (λ x. edition_texts x.0 ≡ edition_pieces bytes.now) }
 {
     let (edition, rest) = text_piece(false, bytes)?;
     Ok((alone(edition), rest))
 }
 
-// The first byte decides: the component is packed exactly where it is a tilde.
+// The first byte decides: the component is packed exactly if this byte is a tilde.
 #[tactic(auto, unfolding(crate::specs::Scanning::edition_end))]
 fn edition_pieces(bytes: &[u8]) -> Result<(Editions, &[u8]), usize>
-    ensures told { Tells (λ x. x.1.now) result (edition_end bytes.now) }
+    ensures scans { IsScan (λ x. x.1.now) result (edition_end bytes.now) }
     ensures found { IfOk result (λ x. edition_texts x.0 ≡ edition_pieces bytes.now) }
 {
     if is_at_tilde(bytes) {
@@ -127,10 +128,11 @@ fn edition_pieces(bytes: &[u8]) -> Result<(Editions, &[u8]), usize>
     }
 }
 
-// A URI may end before any component but the first, so a missing one is empty, and what is left stays.
+// Reads a colon and a component. If there is no colon, the component is missing: its piece is empty, and all bytes are
+// left.
 #[tactic(auto, unfolding(crate::specs::Scanning::later_end))]
 fn later_text(bytes: &[u8]) -> Result<(&[u8], &[u8]), usize>
-    ensures told { Tells (λ x. x.1.now) result (later_end (text_end false) bytes.now) }
+    ensures scans { IsScan (λ x. x.1.now) result (later_end (text_end false) bytes.now) }
     ensures found { IfOk result (λ x. x.0.now ≡ piece (text_end false) (behind_colon bytes.now)) }
 {
     if !is_at_colon(bytes) {
@@ -142,7 +144,7 @@ fn later_text(bytes: &[u8]) -> Result<(&[u8], &[u8]), usize>
 
 #[tactic(auto, unfolding(crate::specs::Scanning::later_end))]
 fn later_edition(bytes: &[u8]) -> Result<(Editions, &[u8]), usize>
-    ensures told { Tells (λ x. x.1.now) result (later_end edition_end bytes.now) }
+    ensures scans { IsScan (λ x. x.1.now) result (later_end edition_end bytes.now) }
     ensures found { IfOk result (λ x. edition_texts x.0 ≡ edition_pieces (behind_colon bytes.now)) }
 {
     if !is_at_colon(bytes) {
@@ -154,7 +156,7 @@ fn later_edition(bytes: &[u8]) -> Result<(Editions, &[u8]), usize>
 
 #[tactic(auto, unfolding(crate::specs::Scanning::later_end))]
 fn later_language(bytes: &[u8]) -> Result<(&[u8], &[u8]), usize>
-    ensures told { Tells (λ x. x.1.now) result (later_end language_end bytes.now) }
+    ensures scans { IsScan (λ x. x.1.now) result (later_end language_end bytes.now) }
     ensures found { IfOk result (λ x. x.0.now ≡ piece language_end (behind_colon bytes.now)) }
 {
     if !is_at_colon(bytes) {
@@ -166,7 +168,7 @@ fn later_language(bytes: &[u8]) -> Result<(&[u8], &[u8]), usize>
 
 #[tactic(auto, unfolding(crate::specs::Scanning::all_end))]
 fn all_pieces(bytes: &[u8]) -> Result<(Written, &[u8]), usize>
-    ensures told { Tells (λ x. x.1.now) result (all_end bytes.now) }
+    ensures scans { IsScan (λ x. x.1.now) result (all_end bytes.now) }
     ensures found { IfOk result (λ x. texts x.0 ≡ all_pieces bytes.now) }
 {
     let (part, rest) = part_piece(bytes)?;
@@ -193,7 +195,7 @@ fn all_pieces(bytes: &[u8]) -> Result<(Written, &[u8]), usize>
 }
 
 fn scan_in_either_case(expected: u8, bytes: &[u8]) -> Result<&[u8], usize>
-    ensures { Tells (λ rest. rest.now) result (one (λ d. to_ascii_lowercase d == expected) bytes.now) }
+    ensures { IsScan (λ rest. rest.now) result (scan_one (λ d. to_ascii_lowercase d == expected) bytes.now) }
 {
     match bytes {
         [byte, rest @ ..] if byte.to_ascii_lowercase() == expected => Ok(rest),
@@ -202,7 +204,7 @@ fn scan_in_either_case(expected: u8, bytes: &[u8]) -> Result<&[u8], usize>
 }
 
 fn scan_prefix<'a>(expected: &[u8], bytes: &'a [u8]) -> Result<&'a [u8], usize>
-    ensures { Tells (λ rest. rest.now) result (prefix_end expected.now bytes.now) }
+    ensures { IsScan (λ rest. rest.now) result (prefix_end expected.now bytes.now) }
 {
     let mut rest = bytes;
     for byte in expected {
@@ -211,10 +213,10 @@ fn scan_prefix<'a>(expected: &[u8], bytes: &'a [u8]) -> Result<&'a [u8], usize>
     Ok(rest)
 }
 
-// An error is the number of bytes that are left: no scanner knows where in the text it began.
+// An error is the number of bytes left, because a scanner doesn't know how long the whole text is.
 #[tactic(auto, using(crate::proofs::Scanned::start_leaves, crate::proofs::Scanned::pieces_leave))]
 pub(crate) fn scan_uri(text: &[u8]) -> Result<Written, usize>
-    ensures found { IfOk result (AreComponents text.now) }
+    ensures found { IfOk result (AreUriComponents text.now) }
     ensures refused { IfErr result (StopsAt IsUri text.now) }
 {
     let rest = scan_prefix(b"cpe:/", text)?;

@@ -1,12 +1,12 @@
-// How the codes of a text are spelled in a URI (NIST IR 7695, 6.1).
+// How characters and specials are spelled in a URI: bare, or as percent forms (NIST IR 7695, 6.1).
 ghost use Rattle.std.specs.Prelude.{◌≡◌, ◌<◌};
 ghost use Rattle.cpe_uri.specs.Spelling.{hex_digit, hex_value, percent};
 ghost use Rattle.cpe_uri.specs.Requoting.{unquoted_length};
 
-// From so many bytes on, what stands bare in a text is looked for and written many bytes at a time.
+// In a text of at least this many bytes, bare bytes are found and copied many at a time.
 pub(crate) const LONG_TEXT: usize = 32;
 
-// How many bytes an unquoted byte gives: none for a backslash, one where it stands bare, three of a percent form.
+// The number of bytes that an unquoted byte has in a URI: 0 for a backslash, 1 for a bare byte, 3 for a percent form.
 #[rattlefmt::skip]
 const LENGTHS: [u8; 256] = [
     3, 3, 3, 3, 3, 3, 3, 3, 3, 3, 3, 3, 3, 3, 3, 3, 3, 3, 3, 3, 3, 3, 3, 3, 3, 3, 3, 3, 3, 3, 3, 3,
@@ -41,7 +41,7 @@ pub(crate) fn percent_form(code: u8) -> [u8; 3]
     [b'%', hex_digit(code / 16), hex_digit(code % 16)]
 }
 
-// Of another byte it is any number: the caller knows that it is a digit, or doesn't care.
+// The number that a hexadecimal digit represents. For any other byte it is some number without meaning.
 pub(crate) fn hex_value(byte: u8) -> u8
     ensures { result ≡ hex_value byte }
 {

@@ -1,44 +1,44 @@
-// Where a component of a URI ends (NIST IR 7695, 6.1). Nothing here takes memory.
+// Finds the end of a component of a URI (NIST IR 7695, 6.1). Nothing here allocates.
 ghost use Rattle.std.specs.Prelude.{◌≡◌, ◌≤◌, Bool, length};
-ghost use Rattle.cpe_grammar.specs.Scanners.{Tells};
+ghost use Rattle.name_grammar.specs.Scanners.{IsScan};
 ghost use Rattle.cpe_values.specs.Parts.{is_character};
 ghost use Rattle.cpe_uri.specs.Spelling.{is_hex, hex_value, has_percent_form};
 ghost use Rattle.cpe_uri.specs.declared.text.Stage.TheVariants.{Start};
-ghost use Rattle.cpe_uri.specs.declared.text.State.TheVariants.{Whole};
-ghost use Rattle.cpe_uri.specs.TextMachine.{after_mark, after_star, takes_character, is_start, after_character, next, is_over, stands_bare, takes_special, takes_digit, after_bare, after_percent, after_digit, after_code, step, may_end, is_in_body, begins_body, ends_component, finished, read_from, text_end};
+ghost use Rattle.cpe_uri.specs.declared.text.TextState.TheVariants.{Whole};
+ghost use Rattle.cpe_uri.specs.TextMachine.{after_mark, after_star, takes_character, is_start, after_character, next, is_over, is_bare_here, takes_special, takes_digit, after_bare, after_percent, after_digit, after_code, text_step, may_end, is_in_body, begins_body, ends_component, finished, read_from, text_end};
 
 use crate::spelling::hex_value;
 use cpe_values::{Style, is_bare_byte, skip_bare};
 
-// How much of a component was read, as far as it decides what may follow.
+// What was read of a component so far. It decides what may follow.
 #[derive(Clone, Copy)]
 pub(crate) enum Stage {
-    // nothing
+    // nothing yet
     Start,
-    // a bare hyphen, which is NA where the component ends
+    // a bare hyphen, which is NA if the component ends after it
     Na,
-    // a hyphen in its percent form, which is no component alone
+    // a hyphen as a percent form, which may not be the whole component
     Hyphen,
     // an asterisk before the body
     LeadStar,
-    // so many question marks before the body
+    // this number of question marks before the body
     LeadMarks(u32),
-    // some of the body
+    // at least one character of the body, and nothing after it yet
     Body,
-    // so many question marks after the body
+    // this number of question marks after the body
     TrailMarks(u32),
     // an asterisk after the body
     TrailStar,
 }
 
-// The same, and how much of a percent form.
+// A stage, and how much of a percent form was read after it.
 #[derive(Clone, Copy)]
-pub(crate) enum State {
-    // nothing of one
+pub(crate) enum TextState {
+    // nothing of a percent form
     Whole(Stage),
-    // the percent sign
+    // a percent sign
     Percent(Stage),
-    // the percent sign and a digit of this number
+    // a percent sign, and the number that the first digit represents
     Half(Stage, u8),
 }
 
@@ -112,8 +112,8 @@ fn is_over(stage: Stage) -> bool
     !matches!(stage, Stage::Hyphen | Stage::LeadStar | Stage::LeadMarks(_))
 }
 
-fn stands_bare(packed: bool, byte: u8) -> bool
-    ensures { result ≡ stands_bare packed byte }
+fn is_bare_here(packed: bool, byte: u8) -> bool
+    ensures { result ≡ is_bare_here packed byte }
 {
     is_bare_byte(Style::Formatted, byte) || byte == b'~' && !packed
 }
@@ -134,30 +134,30 @@ fn takes_digit(stage: Stage, digit: u8) -> bool
     }
 }
 
-fn after_bare(stage: Stage, byte: u8) -> Option<State>
+fn after_bare(stage: Stage, byte: u8) -> Option<TextState>
     ensures { result ≡ after_bare stage byte }
 {
     if is_start(stage) && byte == b'-' {
-        return Some(State::Whole(Stage::Na));
+        return Some(TextState::Whole(Stage::Na));
     }
-    next(stage, u16::from(byte)).map(State::Whole)
+    next(stage, u16::from(byte)).map(TextState::Whole)
 }
 
-fn after_percent(stage: Stage) -> Option<State>
+fn after_percent(stage: Stage) -> Option<TextState>
     ensures { result ≡ after_percent stage }
 {
     if takes_character(stage) || takes_special(stage) {
-        Some(State::Percent(stage))
+        Some(TextState::Percent(stage))
     } else {
         None
     }
 }
 
-fn after_digit(stage: Stage, digit: u8) -> Option<State>
+fn after_digit(stage: Stage, digit: u8) -> Option<TextState>
     ensures { result ≡ after_digit stage digit }
 {
     if takes_digit(stage, digit) {
-        Some(State::Half(stage, digit))
+        Some(TextState::Half(stage, digit))
     } else {
         None
     }
@@ -173,11 +173,11 @@ fn has_percent_form(code: u16) -> bool
     }
 }
 
-fn after_code(stage: Stage, code: u16) -> Option<State>
+fn after_code(stage: Stage, code: u16) -> Option<TextState>
     ensures { result ≡ after_code stage code }
 {
     if has_percent_form(code) {
-        next(stage, code).map(State::Whole)
+        next(stage, code).map(TextState::Whole)
     } else {
         None
     }
@@ -189,34 +189,34 @@ fn is_hex_byte(byte: u8) -> bool
     matches!(byte, b'0'..=b'9' | b'A'..=b'F' | b'a'..=b'f')
 }
 
-fn step(packed: bool, state: State, byte: u8) -> Option<State>
-    ensures { result ≡ step packed state byte }
+fn step(packed: bool, state: TextState, byte: u8) -> Option<TextState>
+    ensures { result ≡ text_step packed state byte }
 {
     match state {
-        State::Whole(stage) => match byte {
+        TextState::Whole(stage) => match byte {
             b'%' => after_percent(stage),
-            _ if stands_bare(packed, byte) => after_bare(stage, byte),
+            _ if is_bare_here(packed, byte) => after_bare(stage, byte),
             _ => None,
         },
-        State::Percent(stage) if is_hex_byte(byte) => after_digit(stage, hex_value(byte)),
-        State::Half(stage, high) if is_hex_byte(byte) => {
+        TextState::Percent(stage) if is_hex_byte(byte) => after_digit(stage, hex_value(byte)),
+        TextState::Half(stage, high) if is_hex_byte(byte) => {
             after_code(stage, 16 * u16::from(high) + u16::from(hex_value(byte)))
         }
         _ => None,
     }
 }
 
-fn may_end(state: State) -> bool
+fn may_end(state: TextState) -> bool
     ensures { result ≡ may_end state }
 {
     match state {
-        State::Whole(stage) => is_over(stage),
+        TextState::Whole(stage) => is_over(stage),
         _ => false,
     }
 }
 
-fn finish(state: State, rest: &[u8]) -> Result<&[u8], usize>
-    ensures { Tells (λ rest. rest.now) result (finished state rest.now) }
+fn finish(state: TextState, rest: &[u8]) -> Result<&[u8], usize>
+    ensures { IsScan (λ rest. rest.now) result (finished state rest.now) }
 {
     if may_end(state) {
         Ok(rest)
@@ -231,10 +231,10 @@ fn begins_body(byte: u8) -> bool
     is_bare_byte(Style::Formatted, byte) && byte != b'-'
 }
 
-fn is_in_body(state: State) -> bool
+fn is_in_body(state: TextState) -> bool
     ensures { result ≡ is_in_body state }
 {
-    matches!(state, State::Whole(Stage::Body))
+    matches!(state, TextState::Whole(Stage::Body))
 }
 
 fn ends_component(bytes: &[u8]) -> bool
@@ -243,10 +243,10 @@ fn ends_component(bytes: &[u8]) -> bool
     matches!(bytes, [] | [b':', ..])
 }
 
-// Bare characters lead from a body to a body, and are passed over many at a time.
+// Skips bare characters inside a body, many at a time. They don't change the state.
 #[inline(always)]
 #[tactic(auto, using(crate::proofs::Components::skip_in_body, crate::proofs::Components::skip_within))]
-fn skip_from(state: State, bytes: &[u8]) -> &[u8]
+fn skip_from(state: TextState, bytes: &[u8]) -> &[u8]
     ensures same { (packed : Bool) → read_from packed state result.now ≡ read_from packed state bytes.now }
     ensures within { length result.now ≤ length bytes.now }
 {
@@ -257,20 +257,20 @@ fn skip_from(state: State, bytes: &[u8]) -> &[u8]
     }
 }
 
-// Most components begin with a character that stands bare: the machine then begins after all of these.
+// Most components begin with bare characters. The machine then begins after all of them, inside the body.
 #[inline(always)]
-fn begin(bytes: &[u8]) -> (State, &[u8])
+fn begin(bytes: &[u8]) -> (TextState, &[u8])
     ensures same { (packed : Bool) → read_from packed result.0 result.1.now ≡ read_from packed (Whole Start) bytes.now }
 {
     match bytes {
-        [byte, tail @ ..] if begins_body(*byte) => (State::Whole(Stage::Body), skip_bare(tail)),
-        _ => (State::Whole(Stage::Start), bytes),
+        [byte, tail @ ..] if begins_body(*byte) => (TextState::Whole(Stage::Body), skip_bare(tail)),
+        _ => (TextState::Whole(Stage::Start), bytes),
     }
 }
 
 #[inline(never)]
-fn scan_from(packed: bool, start: State, bytes: &[u8]) -> Result<&[u8], usize>
-    ensures { Tells (λ rest. rest.now) result (read_from packed start bytes.now) }
+fn scan_from(packed: bool, start: TextState, bytes: &[u8]) -> Result<&[u8], usize>
+    ensures { IsScan (λ rest. rest.now) result (read_from packed start bytes.now) }
 {
     let mut state = start;
     let mut rest = bytes;
@@ -284,11 +284,11 @@ fn scan_from(packed: bool, start: State, bytes: &[u8]) -> Result<&[u8], usize>
     finish(state, rest)
 }
 
-// After its bare characters most often a colon ends a component, or the text.
+// In most components a colon, or the end of the text, follows the bare characters. Such a component needs no machine.
 #[inline(always)]
 #[tactic(auto, unfolding(crate::specs::TextMachine::text_end))]
 pub(crate) fn scan_text(packed: bool, bytes: &[u8]) -> Result<&[u8], usize>
-    ensures { Tells (λ rest. rest.now) result (text_end packed bytes.now) }
+    ensures { IsScan (λ rest. rest.now) result (text_end packed bytes.now) }
 {
     let (state, rest) = begin(bytes);
     if is_in_body(state) && ends_component(rest) {

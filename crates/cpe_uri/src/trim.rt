@@ -1,4 +1,4 @@
-// The colons at the end of a text.
+// Removes the colons at the end of a text: returns where the text ends without them.
 ghost use Rattle.std.specs.Prelude.{◌≡◌, ◌≤◌, length, take};
 ghost use Rattle.cpe_uri.specs.Canon.{trimmed};
 ghost use Rattle.cpe_uri.specs.Requoting.{ends_in_colon};

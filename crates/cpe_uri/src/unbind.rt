@@ -1,4 +1,5 @@
-// From URIs, and from texts in either binding, to names and to their texts (NIST IR 7695, 6.1.3 and 6.2.3).
+// Reads URIs, and texts in either binding: returns their names, or writes the output texts of these names (NIST IR
+// 7695, 6.1.3 and 6.2.3).
 ghost use Rattle.std.specs.Prelude.{◌≡◌, ℕ, List, ◌+◌, ◌*◌, ◌≤◌, length, Ok, Err, IfOk, IfErr, MatchResult};
 ghost use Rattle.cpe_name.specs.Eleven.{Values};
 ghost use Rattle.cpe_name.specs.Text.{output_text};
@@ -15,17 +16,18 @@ use cpe_fs::{FsFault, unbind_fs, write_unbound};
 use cpe_name::{Wfn, put_output};
 use std::alloc::Global;
 
-/// The name that has this URI, in each accepted spelling of it (NIST IR 7695, 6.1.3). The name is in lower case.
+/// The name that has this URI, in any accepted spelling (NIST IR 7695, 6.1.3). The name is in lower case.
 ///
 /// # Errors
 ///
-/// `At` the place exactly where no name has this text, whatever the memory; else `Memory` where memory runs out.
+/// `At` with the place, exactly if no name has this text. `Memory` if a name has this text, but memory runs out.
 pub fn unbind_uri(alloc: Global, text: &[u8]) -> Result<Wfn, UriFault>
-    // What is found has this text.
+    // The returned name has this text.
     ensures found { IfOk result (λ name. Uri name text.now) }
-    // A name that has this text is found, unless memory runs out.
+    // If a name has this text, it is returned, unless memory runs out.
     ensures only { (name : Values) → Uri name text.now → MatchResult result (λ found. found ≡ name) (λ fault. fault ≡ UriFault.Memory) }
-    // A text that no name has is refused as such and with its place, whatever the memory.
+    // The error `At` has the place of the text, which no name has. The error `Memory` means that some name has the
+    // text.
     ensures refused { IfErr result (λ fault. RefusesUri fault text.now) }
 {
     let spans = match scan_uri(text) {
@@ -35,12 +37,12 @@ pub fn unbind_uri(alloc: Global, text: &[u8]) -> Result<Wfn, UriFault>
     Ok(name_at(alloc, &spans)?)
 }
 
-/// Writes the output text of the name that has this URI into `room`, from `at` on, and makes no name. It answers the
-/// place after what was written; what stands from there on is not told. It takes no memory.
+/// Writes an output text into `room`, from `at` on, and returns the place after it. It is the output text of the name
+/// that has this URI. The bytes of `room` from the returned place on are unspecified. Allocates: no.
 ///
 /// # Errors
 ///
-/// The place of the text as in [`UriFault::At`], exactly where no name has it; the room is then as it was.
+/// The place of the text as in [`UriFault::At`], exactly if no name has it. `room` is then unchanged.
 pub fn write_unbound_uri(room: &mut [u8], at: usize, text: &[u8]) -> Result<usize, usize>
     requires { at + 2 * length text.now + UNBOUND_FRAME ≤ length room.old }
     ensures { WritesOutput Uri LeavesUri unbound_uri text.now at (at + 2 * length text.now + UNBOUND_FRAME) room.old room.new result }
@@ -51,15 +53,15 @@ pub fn write_unbound_uri(room: &mut [u8], at: usize, text: &[u8]) -> Result<usiz
     }
 }
 
-/// What `read_uri` says of a text: the name that has it as its URI, and its place exactly where no name has it.
+/// Law: `read_uri` returns the name that has a text as its URI. If no name has the text, it returns the text's place.
 pub fn read_uri_is()
     ensures named { (name : Values) (s : List ℕ) → Uri name s → read_uri s ≡ Ok name }
     ensures found { (name : Values) (s : List ℕ) → read_uri s ≡ Ok name → Uri name s }
     ensures refused { (s : List ℕ) (place : ℕ) → read_uri s ≡ Err place → LeavesUri s place }
 {}
 
-/// What `unbound_uri` says of a text: the output text of the name that has it as its URI, and its place exactly where
-/// no name has it.
+/// Law: `unbound_uri` returns the output text of the name that has a text as its URI. If no name has the text, it
+/// returns the text's place.
 pub fn unbound_uri_is()
     ensures named { (name : Values) (s : List ℕ) → Uri name s → unbound_uri s ≡ Ok (output_text name) }
     ensures found { (s text : List ℕ) → unbound_uri s ≡ Ok text → SaysUri s text }
@@ -89,24 +91,25 @@ impl From<FsFault> for UriFault {
     }
 }
 
-/// The name that has this text in one binding or the other: as [`unbind_uri`] where the text begins with `cpe:/` in any
-/// letter case, and as [`unbind_fs`] where it doesn't (NIST IR 7695, 6.1.3 and 6.2.3).
+/// The name that has this text in one of the two bindings (NIST IR 7695, 6.1.3 and 6.2.3). A text that begins with
+/// `cpe:/`, in any letter case, is read as by [`unbind_uri`]. Any other text is read as by [`unbind_fs`].
 ///
 /// # Errors
 ///
-/// `At` the place exactly where no name has this text, whatever the memory; else `Memory` where memory runs out.
+/// `At` with the place, exactly if no name has this text. `Memory` if a name has this text, but memory runs out.
 pub fn unbind_any(alloc: Global, text: &[u8]) -> Result<Wfn, UriFault>
     ensures found { IfOk result (λ name. UriOrFs name text.now) }
     ensures only { (name : Values) → UriOrFs name text.now → MatchResult result (λ found. found ≡ name) (λ fault. fault ≡ UriFault.Memory) }
     ensures refused { IfErr result (λ fault. RefusesUriOrFs fault text.now) }
 
-    // The same by a function.
+    // The result equals that of the function `read_any`.
     ensures read { MatchResult result (λ name. read_any text.now ≡ Ok name) (λ fault. SaysFault fault (read_any text.now)) }
 {
     read_either(alloc, text)
 }
 
-// Apart from its only caller, so that the clause by a function is proved from these and not from the two ways to read.
+// This function is apart from its only caller, `unbind_any`. So the prover derives the caller's clause `read` from
+// these three clauses alone.
 fn read_either(alloc: Global, text: &[u8]) -> Result<Wfn, UriFault>
     ensures found { IfOk result (λ name. UriOrFs name text.now) }
     ensures only { (name : Values) → UriOrFs name text.now → MatchResult result (λ found. found ≡ name) (λ fault. fault ≡ UriFault.Memory) }
@@ -118,13 +121,13 @@ fn read_either(alloc: Global, text: &[u8]) -> Result<Wfn, UriFault>
     Ok(unbind_fs(alloc, text)?)
 }
 
-/// Writes the output text of the name that has this text in one binding or the other, as [`unbind_any`] reads it, into
-/// `room`, from `at` on, and makes no name. It answers the place after what was written; what stands from there on
-/// is not told. It takes no memory.
+/// Writes an output text into `room`, from `at` on, and returns the place after it. It is the output text of the name
+/// that [`unbind_any`] reads from this text. The bytes of `room` from the returned place on are unspecified. Allocates:
+/// no.
 ///
 /// # Errors
 ///
-/// The place of the text as in [`UriFault::At`], exactly where no name has it; the room is then as it was.
+/// The place of the text as in [`UriFault::At`], exactly if no name has it. `room` is then unchanged.
 pub fn write_unbound_any(room: &mut [u8], at: usize, text: &[u8]) -> Result<usize, usize>
     requires { at + 2 * length text.now + UNBOUND_FRAME ≤ length room.old }
     ensures { WritesOutput UriOrFs LeavesUriOrFs unbound_any text.now at (at + 2 * length text.now + UNBOUND_FRAME) room.old room.new result }
@@ -136,16 +139,16 @@ pub fn write_unbound_any(room: &mut [u8], at: usize, text: &[u8]) -> Result<usiz
     }
 }
 
-/// What `read_any` says of a text: the name that has it in one binding or the other, and its place exactly where no name
-/// has it.
+/// Law: `read_any` returns the name that has a text in one of the two bindings. If no name has the text, it returns the
+/// text's place.
 pub fn read_any_is()
     ensures named { (name : Values) (s : List ℕ) → UriOrFs name s → read_any s ≡ Ok name }
     ensures found { (name : Values) (s : List ℕ) → read_any s ≡ Ok name → UriOrFs name s }
     ensures refused { (s : List ℕ) (place : ℕ) → read_any s ≡ Err place → LeavesUriOrFs s place }
 {}
 
-/// What `unbound_any` says of a text: the output text of the name that has it in one binding or the other, and its place
-/// exactly where no name has it.
+/// Law: `unbound_any` returns the output text of the name that has a text in one of the two bindings. If no name has
+/// the text, it returns the text's place.
 pub fn unbound_any_is()
     ensures named { (name : Values) (s : List ℕ) → UriOrFs name s → unbound_any s ≡ Ok (output_text name) }
     ensures found { (s text : List ℕ) → unbound_any s ≡ Ok text → SaysAny s text }

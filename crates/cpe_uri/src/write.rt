@@ -1,19 +1,20 @@
-// The text of a well-formed name, written from where its values lie in its URI (NIST IR 7695, 6.1.3).
-// The room is the caller's: nothing here takes memory.
+// Writes the text of a well-formed name from the pieces of its URI that spell the values (NIST IR 7695, 6.1.3). The
+// caller gives the room; nothing here allocates.
 ghost use Rattle.std.specs.Prelude.{◌≡◌, ◌≤◌, ◌+◌, ◌*◌, ◌++◌, ◌∷◌, [], length, take, codes};
 ghost use Rattle.std.specs.Char.{to_ascii_lowercase};
 ghost use Rattle.cpe_uri.specs.Spelling.{hex_value};
-ghost use Rattle.cpe_uri.specs.Rewriting.{code_of, code_text, backslashes, bare_text, rewritten, in_quotes, span_text};
+ghost use Rattle.cpe_uri.specs.Rewriting.{code_spelled, code_text, backslashes, bare_text, rewritten, uri_in_quotes, span_text};
 
 use crate::spelling::{LONG_TEXT, hex_value};
-use cpe_grammar::prefix_of;
+use byte_room::{put, put_byte};
 use cpe_name::PutValue;
-use cpe_room::{put, put_byte};
 use cpe_values::skip_lower_word;
+use name_grammar::prefix_of;
 
-// Wraps where the bytes are no digits; of a lawful span they are.
+// The code of a character or special that two hexadecimal digits spell. For other bytes the result wraps around; a
+// scanned piece has no such bytes.
 fn code_of(high: u8, low: u8) -> u8
-    ensures { result ≡ code_of high low }
+    ensures { result ≡ code_spelled high low }
 {
     hex_value(high)
         .wrapping_mul(16)
@@ -33,8 +34,8 @@ fn put_code(room: &mut [u8], at: usize, code: u8) -> usize
     }
 }
 
-// A byte that stands bare in a URI in lower case, and 256 more where it gets a backslash, since it is `.`, `-` or `~`. A table, since
-// no branch is to depend on the byte.
+// For each byte: its lower case, plus 256 if it gets a backslash, as `.`, `-` and `~` do. It is a table, so that no
+// branch depends on the byte.
 #[rattlefmt::skip]
 const LOWERED: [u16; 256] = [
     0, 1, 2, 3, 4, 5, 6, 7, 8, 9, 10, 11, 12, 13, 14, 15,
@@ -55,7 +56,7 @@ const LOWERED: [u16; 256] = [
     240, 241, 242, 243, 244, 245, 246, 247, 248, 249, 250, 251, 252, 253, 254, 255,
 ];
 
-// How many backslashes a byte gets that stands bare in a URI, and the byte in lower case.
+// The number of backslashes before a bare byte of a URI, 0 or 1, and the byte in lower case.
 #[inline(always)]
 fn lowered(byte: u8) -> (u8, u8)
     ensures backslashes { result.0 ≡ backslashes byte }
@@ -65,7 +66,7 @@ fn lowered(byte: u8) -> (u8, u8)
     ((entry / 256) as u8, (entry % 256) as u8)
 }
 
-// The backslash is always written, and written over where the byte needs none: no branch depends on the byte.
+// Always writes the backslash, and overwrites it if the byte needs none. So no branch depends on the byte.
 fn put_bare(room: &mut [u8], at: usize, byte: u8) -> usize
     requires { at + 2 ≤ length room.old }
     ensures at { result ≤ at + 2 }
@@ -79,7 +80,8 @@ fn put_bare(room: &mut [u8], at: usize, byte: u8) -> usize
     place + 1
 }
 
-// Tells beside the place what is left. A percent sign that is cut off is written as a bare byte; a lawful span has none.
+// Writes what a percent form spells. Returns the place after it, and the bytes left. A percent sign without two bytes
+// after it is written as a bare byte; a scanned piece has none.
 fn put_percent<'a>(room: &mut [u8], at: usize, behind: &'a [u8]) -> (usize, &'a [u8])
     requires { at + 2 ≤ length room.old }
     ensures at { result.0 ≤ at + 2 }
@@ -107,7 +109,8 @@ fn put_next<'a>(room: &mut [u8], at: usize, byte: u8, behind: &'a [u8]) -> (usiz
     (put_bare(room, at, byte), behind)
 }
 
-// Small letters, digits and `_` at the start, many at a time.
+// Copies the small letters, digits and `_` at the beginning, many at a time. Returns the place after them, and the
+// bytes left.
 fn put_word<'a>(room: &mut [u8], at: usize, bytes: &'a [u8]) -> (usize, &'a [u8])
     requires { at + 2 * length bytes.now ≤ length room.old }
     ensures at { result.0 + 2 * length result.1.now ≤ at + 2 * length bytes.now }
@@ -119,7 +122,8 @@ fn put_word<'a>(room: &mut [u8], at: usize, bytes: &'a [u8]) -> (usize, &'a [u8]
     (put(room, at, prefix_of(bytes, behind)), behind)
 }
 
-// A long text up to its last bytes: words are copied, and only what stands between them goes form by form.
+// Writes a long text, except its last bytes. Words are copied at once. Percent forms and other bytes between words are
+// written one by one.
 fn put_words<'a>(room: &mut [u8], start: usize, span: &'a [u8]) -> (usize, &'a [u8])
     requires { start + 2 * length span.now ≤ length room.old }
     ensures at { result.0 + 2 * length result.1.now ≤ start + 2 * length span.now }
@@ -138,7 +142,7 @@ fn put_words<'a>(room: &mut [u8], start: usize, span: &'a [u8]) -> (usize, &'a [
     (at, rest)
 }
 
-// Up to a percent sign, byte by byte.
+// Writes the bytes before the first percent sign, one by one. Returns the place after them, and the bytes left.
 #[inline(always)]
 fn put_run<'a>(room: &mut [u8], start: usize, bytes: &'a [u8]) -> (usize, &'a [u8])
     requires { start + 2 * length bytes.now ≤ length room.old }
@@ -203,7 +207,7 @@ fn put_in_quotes(room: &mut [u8], at: usize, span: &[u8]) -> usize
     requires { at + 2 * length span.now + 2 ≤ length room.old }
     ensures at { result ≤ at + 2 * length span.now + 2 }
     ensures room { length room.new ≡ length room.old }
-    ensures written { take result room.new ≡ take at room.old ++ in_quotes span.now }
+    ensures written { take result room.new ≡ take at room.old ++ uri_in_quotes span.now }
 {
     let at = put_byte(room, at, b'"');
     let at = put_rewritten(room, at, span);
@@ -225,7 +229,7 @@ fn put_span(room: &mut [u8], at: usize, span: &[u8]) -> usize
     }
 }
 
-// The texts of values from the pieces of a URI.
+// Writes the texts of values from the pieces of a URI that spell them.
 pub(crate) struct FromPieces;
 
 impl PutValue for FromPieces {

@@ -1,4 +1,4 @@
--- What the table of the bytes that stand bare has, checked entry by entry.
+-- Lemmas: the table `BARE` agrees with `is_bare` for each of the 256 bytes. A bare byte is spelled without a backslash.
 use Rattle.std.proofs.Common.{◌≡◌, ℕ, ◌<◌, get_or, not, nat_eq, refl}
 use Rattle.std.proofs.lemmas.Bool.{agree_below_at}
 use Rattle.cpe_values.specs.declared.spelling.TheConstants.{BARE}

@@ -1,4 +1,4 @@
--- Leads and trails: what their scanner takes, and that it takes each of them.
+-- Lemmas: the scanner of leads and trails takes only their spellings, and takes each of these.
 use Rattle.std.proofs.Common.{◌≡◌, ℕ, zero, suc, ◌≤◌, true, List, [], ◌∷◌, ◌++◌, length, replicate, Ok, refl, ap, ◌∙◌, inl, inr, arith}
 use Rattle.std.specs.List.{list_all}
 use Rattle.std.proofs.lemmas.Bool.{eqb-true, and_parts}
@@ -6,8 +6,8 @@ use Rattle.cpe_values.specs.declared.value.Edge.{Edge}
 use Rattle.cpe_values.specs.declared.value.Edge.TheVariants as edge
 use Rattle.cpe_values.specs.Parts.{IsEdge}
 use Rattle.cpe_values.specs.Spelling.{edge_text}
-use Rattle.cpe_grammar.specs.Scanners.{one}
-use Rattle.cpe_grammar.proofs.Scans.{Scans, wider, OneOf, one_scans, Either, choose_scans, FewOf, up_to_scans, HeadFails, up_to_taken}
+use Rattle.name_grammar.specs.Scanners.{scan_one}
+use Rattle.name_grammar.proofs.Scans.{Scans, wider, OneOf, one_scans, Either, choose_scans, FewOf, up_to_scans, HeadFails, up_to_taken}
 use Rattle.cpe_values.specs.Scanning.{is_star, is_mark, marks_end, edge_end}
 use Rattle.cpe_values.specs.Stems.{IsEdgeText}
 
@@ -26,18 +26,18 @@ marks_scans : Scans (FewOf 4294967295 is_mark) marks_end
 unfolding marks_end
 marks_scans = up_to_scans 4294967295 is_mark 63 refl
 
--- edges are taken
+-- the scanner takes exactly the spellings of leads and trails
 pub edge_scans : Scans IsEdgeText edge_end
 unfolding edge_end
 edge_scans =
     wider (Either (OneOf is_star) (FewOf 4294967295 is_mark)) IsEdgeText edge_end (λ u h. elim h [ inl o ↦ star_edge u o | inr few ↦ marks_edge u few ])
-    (choose_scans is_star (OneOf is_star) (FewOf 4294967295 is_mark) (one is_star) marks_end (one_scans is_star 42 refl) marks_scans)
+    (choose_scans is_star (OneOf is_star) (FewOf 4294967295 is_mark) (scan_one is_star) marks_end (one_scans is_star 42 refl) marks_scans)
 
--- nothing is an edge
+-- the empty text is the spelling of an empty lead or trail
 pub no_edge : IsEdgeText []
 no_edge = record { edge = edge.None; good = tt; is = refl }
 
--- ---- each of them is taken
+-- ---- each lead or trail is taken
 
 marks_taken : (k : ℕ) (r : List ℕ) → k ≤ 4294967295 → HeadFails is_mark r → marks_end (replicate k 63 ++ r) ≡ Ok r
 unfolding marks_end
@@ -48,7 +48,7 @@ unfolding edge_end
 edge_other [] h = refl
 edge_other (c ∷ s) h = rw h refl
 
--- an edge is taken before what is no special
+-- a lead or trail is taken if no special follows it
 pub edge_taken : (e : Edge) (r : List ℕ) → IsEdge e → HeadFails is_star r → HeadFails is_mark r → edge_end (edge_text e ++ r) ≡ Ok r
 unfolding edge_end
 edge_taken edge.None r good star mark = edge_other r star ∙ marks_taken 0 r (omega arith) mark
@@ -56,6 +56,6 @@ edge_taken edge.Star r good star mark = refl
 edge_taken (edge.Marks zero) r good star mark = absurd (omega (arith, good.0))
 edge_taken (edge.Marks (suc k)) r good star mark = edge_other (replicate (suc k) 63 ++ r) refl ∙ marks_taken (suc k) r (omega (arith, good.1)) mark
 
--- each text of one
+-- the same for the spelling of a lead or trail
 pub edge_text_taken : (u r : List ℕ) → IsEdgeText u → HeadFails is_star r → HeadFails is_mark r → edge_end (u ++ r) ≡ Ok r
 edge_text_taken u r e star mark = ap (λ (w : List ℕ). edge_end (w ++ r)) e.is ∙ edge_taken e.edge r e.good star mark

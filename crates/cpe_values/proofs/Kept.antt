@@ -1,4 +1,4 @@
--- What stands there is kept where more is put after it.
+-- Lemmas: the earlier bytes of a list are unchanged if bytes are appended.
 use Rattle.std.proofs.Common.{◌≡◌, ℕ, List, [], ◌∷◌, ◌++◌, length, take, refl, ap, ◌∙◌, append_assoc}
 use Rattle.std.proofs.Math.Seq.{take-append_seam}
 
@@ -15,7 +15,7 @@ kept_along (x ∷ a) (y ∷ b) (z ∷ c) h k =
     let head : z ≡ x = cc in
     ap (λ (d : ℕ). d ∷ take (length a) c) head ∙ ap (λ (u : List ℕ). x ∷ u) (kept_along a b c prefix whole)
 
--- one part put after the other
+-- appending two lists one after the other equals appending the joined list
 pub put_both : (x y z start tail whole : List ℕ) → y ≡ x ++ start → z ≡ y ++ tail → start ++ tail ≡ whole → z ≡ x ++ whole
 put_both x y z start tail whole first second all = second ∙ ap (λ (u : List ℕ). u ++ tail) first ∙ append_assoc x start tail ∙ ap (λ (u : List ℕ). x ++ u) all
 

@@ -1,4 +1,4 @@
--- A text has no fault.
+-- Lemmas: the parts of a text have no fault.
 use Rattle.std.proofs.Common.{◌≡◌, ℕ, Bool, true, false, not, eqb, ltb, List, [], ◌∷◌, length, position, Some, None, refl, ap, arith}
 use Rattle.std.specs.List.{list_all, position_or_len}
 use Rattle.std.proofs.lemmas.Bool.{and_parts, le-ltb, eqb-true}

@@ -1,10 +1,10 @@
--- What a prefix of a list says of the elements that are skipped.
+-- Lemmas: skipping the elements at the start of a list that pass a test.
 use Rattle.std.proofs.Common.{◌≡◌, ℕ, zero, suc, ◌-◌, ◌<◌, ◌≤◌, Bool, true, false, List, [], ◌∷◌, ◌++◌, length, take, drop, refl, ap, sym, ◌∙◌, one-add, inl, inr, arith}
 use Rattle.std.specs.List.{prefix_len}
 use Rattle.std.proofs.lemmas.Bool.{cases_Bool}
 use Rattle.cpe_values.specs.Skipping.{skip_while}
 
--- what passes in a prefix of the list is skipped, and the rest alike
+-- skipping within the first k elements, and then in the rest, equals skipping in the whole list
 pub skip_while-prefix : (p : ℕ → Bool) (k : ℕ) (s : List ℕ) → skip_while p (drop (prefix_len p (take k s)) s) ≡ skip_while p s
 skip_while-prefix p zero s = refl
 skip_while-prefix p (suc k) [] = refl
@@ -14,7 +14,7 @@ skip_while-prefix p (suc k) (c ∷ s) =
       | inr fails ↦ simp fails refl
     ]
 
--- where a prefix has an element that fails, nothing after it is skipped
+-- skipping ends in a prefix of the list if this prefix has an element that fails
 pub skip_while_within : (p : ℕ → Bool) (k : ℕ) (s : List ℕ) → prefix_len p (take k s) < k → k ≤ length s → skip_while p s ≡ drop (prefix_len p (take k s)) s
 skip_while_within p zero s lt le = absurd (omega arith)
 skip_while_within p (suc k) [] lt le = absurd (omega arith)
@@ -26,17 +26,17 @@ skip_while_within p (suc k) (c ∷ s) lt le =
       | inr fails ↦ simp fails refl
     ]
 
--- what was skipped is not there again
+-- after skipping, nothing more is skipped
 pub skip_again : (p : ℕ → Bool) (s : List ℕ) → skip_while p (skip_while p s) ≡ skip_while p s
 skip_again p [] = refl
 skip_again p (c ∷ s) = elim (cases_Bool (p c)) [ inl h ↦ rw h (skip_again p s) | inr h ↦ rw (h, h) refl ]
 
--- what is left is no longer
+-- the rest after skipping is not longer than the list
 pub length-skip_while : (p : ℕ → Bool) (s : List ℕ) → length (skip_while p s) ≤ length s
 length-skip_while p [] = omega arith
 length-skip_while p (c ∷ s) = elim (cases_Bool (p c)) [ inl h ↦ rw h (omega (arith, length-skip_while p s)) | inr h ↦ rw h (omega arith) ]
 
--- where nothing is skipped, the first element fails
+-- if nothing is skipped, the first element fails the test
 pub skip_stops : (p : ℕ → Bool) (c : ℕ) (s : List ℕ) → skip_while p (c ∷ s) ≡ c ∷ s → p c ≡ false
 skip_stops p c s e =
     elim (cases_Bool (p c)) [
@@ -49,7 +49,7 @@ skip_stops p c s e =
 one_more : (n k : ℕ) → k ≤ n → suc n - k ≡ suc (n - k)
 one_more n k h = omega (arith, h)
 
--- what copies each element that passes copies all that are skipped
+-- a function that copies each element that passes copies all skipped elements
 pub skipped_copied : (f : List ℕ → List ℕ) (p : ℕ → Bool) → ((c : ℕ) (s : List ℕ) → p c ≡ true → f (c ∷ s) ≡ c ∷ f s) → (s : List ℕ) → f s ≡ take (length s - length (skip_while p s)) s ++ f (skip_while p s)
 skipped_copied f p copies [] = refl
 skipped_copied f p copies (c ∷ s) =

@@ -1,38 +1,39 @@
--- Bodies and their trails: what their scanner takes, and that it takes each of them.
+-- Lemmas: the scanner of bodies with trails takes only their spellings, and takes each of these. A bare character is
+-- spelled without a backslash.
 use Rattle.std.proofs.Common.{◌≡◌, ◌≢◌, ℕ, zero, suc, Bool, true, false, eqb, List, [], ◌∷◌, ◌++◌, Ok, refl, sym, ap, subst, ◌∙◌, inl, inr, append_assoc}
 use Rattle.std.proofs.lemmas.Bool.{cases_Bool, eqb-true, and_parts, and_from, or_left, not-true, not_from_false}
 use Rattle.cpe_values.specs.declared.value.Edge.{Edge}
 use Rattle.cpe_values.specs.declared.value.Edge.TheVariants as edge
 use Rattle.cpe_values.specs.declared.spelling.Style.{Style}
 use Rattle.cpe_values.specs.Parts.{IsEdge, is_character}
-use Rattle.cpe_values.specs.Spelling.{is_bare, edge_text, character}
-use Rattle.cpe_grammar.specs.Scanners.{◌>>=◌, both, nothing, one}
-use Rattle.cpe_grammar.proofs.Scans.{Scans, wider, OneOf, one_scans, Joined, both_scans, Either, choose_scans, chosen_no, HeadFails}
-use Rattle.cpe_grammar.proofs.Several.{several_scans}
+use Rattle.cpe_values.specs.Spelling.{is_bare, edge_text, style_character}
+use Rattle.name_grammar.specs.Scanners.{◌>>=◌, scan_both, nothing, scan_one}
+use Rattle.name_grammar.proofs.Scans.{Scans, wider, OneOf, one_scans, Joined, both_scans, Either, choose_scans, chosen_no, HeadFails}
+use Rattle.name_grammar.proofs.Several.{several_scans}
 use Rattle.cpe_values.specs.Scanning.{is_star, is_mark, is_backslash, is_quoted, starts_body, edge_end, character_end, body_end, stem_end}
-use Rattle.cpe_values.specs.Stems.{AreCharacters, body_text, IsEdgeText, IsStem, Ends}
+use Rattle.cpe_values.specs.Stems.{AreCharacters, body_text, IsEdgeText, IsStem, EndsStem}
 use Rattle.cpe_values.proofs.Bytes.{letter_bare, bang_not_bare, star_not_bare, mark_not_bare, slash_not_bare, bare_character, bare_no_slash, bare_no_star, bare_no_mark}
 use Rattle.cpe_values.proofs.Bodies.{body_is, body_bare, body_quoted, body_empty}
 use Rattle.cpe_values.proofs.Edges.{edge_scans, edge_taken, no_edge}
 
 module _ (here : Style) where
-  -- a bare character stands as itself
-  pub bare_text : (c : ℕ) → is_bare here c ≡ true → character here c ≡ c ∷ []
+  -- a bare character is spelled as itself
+  pub bare_text : (c : ℕ) → is_bare here c ≡ true → style_character here c ≡ c ∷ []
   bare_text c h = rw h refl
 
-  -- any other stands after a backslash
-  pub quoted_text : (c : ℕ) → is_bare here c ≡ false → character here c ≡ 92 ∷ c ∷ []
+  -- a character that is not bare is spelled after a backslash
+  pub quoted_text : (c : ℕ) → is_bare here c ≡ false → style_character here c ≡ 92 ∷ c ∷ []
   quoted_text c h = rw h refl
 
   -- ---- characters and bodies
 
-  -- the text of a character
+  -- the bytes are the spelling of one character
   record IsCharacter (u : List ℕ) : Type 0 where
     byte : ℕ
     printable : is_character byte ≡ true
-    is : u ≡ character here byte
+    is : u ≡ style_character here byte
 
-  -- the text of characters, or of none
+  -- the bytes spell the characters of a body, or are empty
   record IsBody (u : List ℕ) : Type 0 where
     bytes : List ℕ
     printable : AreCharacters bytes
@@ -54,8 +55,8 @@ module _ (here : Style) where
   unfolding character_end
   character_scans =
       wider (Either (Joined (OneOf is_backslash) (OneOf (is_quoted here))) (OneOf (is_bare here))) IsCharacter (character_end here) (λ u h. elim h [ inl j ↦ a_quoted u j | inr o ↦ a_bare u o ])
-      (choose_scans is_backslash (Joined (OneOf is_backslash) (OneOf (is_quoted here))) (OneOf (is_bare here)) (both (one is_backslash) (one (is_quoted here))) (one (is_bare here))
-      (both_scans (OneOf is_backslash) (OneOf (is_quoted here)) (one is_backslash) (one (is_quoted here)) (one_scans is_backslash 92 refl) (one_scans (is_quoted here) 33 bang_quoted) (33 ∷ []) (record { byte = 33; is = refl; passed = bang_quoted }))
+      (choose_scans is_backslash (Joined (OneOf is_backslash) (OneOf (is_quoted here))) (OneOf (is_bare here)) (scan_both (scan_one is_backslash) (scan_one (is_quoted here))) (scan_one (is_bare here))
+      (both_scans (OneOf is_backslash) (OneOf (is_quoted here)) (scan_one is_backslash) (scan_one (is_quoted here)) (one_scans is_backslash 92 refl) (one_scans (is_quoted here) 33 bang_quoted) (33 ∷ []) (record { byte = 33; is = refl; passed = bang_quoted }))
       (one_scans (is_bare here) 97 (letter_bare here)))
 
   no_body : IsBody []
@@ -65,7 +66,7 @@ module _ (here : Style) where
   more_body u v c b = record {
     bytes = c.byte ∷ b.bytes;
     printable = and_from _ _ c.printable b.printable;
-    is = ap (λ (w : List ℕ). w ++ v) c.is ∙ ap (λ (w : List ℕ). character here c.byte ++ w) b.is;
+    is = ap (λ (w : List ℕ). w ++ v) c.is ∙ ap (λ (w : List ℕ). style_character here c.byte ++ w) b.is;
   }
 
   some_character : (u : List ℕ) → IsCharacter u → u ≢ []
@@ -78,7 +79,7 @@ module _ (here : Style) where
   body_scans : Scans IsBody (body_end here)
   body_scans = several_scans IsCharacter IsBody no_body more_body some_character (starts_body here) (character_end here) (body_end here) (body_is here) character_scans
 
-  -- ---- stems
+  -- ---- bodies with trails
 
   a_stem : (u : List ℕ) → Joined (Joined IsCharacter IsBody) IsEdgeText u → IsStem here u
   a_stem u j = record {
@@ -89,24 +90,24 @@ module _ (here : Style) where
     good = j.second.good;
     is =
         j.is
-        ∙ ap (λ (v : List ℕ). v ++ j.back) (j.first.is ∙ ap (λ (w : List ℕ). w ++ j.first.back) j.first.first.is ∙ ap (λ (w : List ℕ). character here j.first.first.byte ++ w) j.first.second.is)
+        ∙ ap (λ (v : List ℕ). v ++ j.back) (j.first.is ∙ ap (λ (w : List ℕ). w ++ j.first.back) j.first.first.is ∙ ap (λ (w : List ℕ). style_character here j.first.first.byte ++ w) j.first.second.is)
         ∙ ap (λ (v : List ℕ). body_text here (j.first.first.byte ∷ j.first.second.bytes) ++ v) j.second.is;
   }
 
-  -- stems are taken
+  -- the scanner takes exactly the spellings of bodies with trails
   pub stem_scans : Scans (IsStem here) (stem_end here)
   unfolding stem_end
   stem_scans =
       wider (Joined (Joined IsCharacter IsBody) IsEdgeText) (IsStem here) (stem_end here) a_stem
-      (both_scans (Joined IsCharacter IsBody) IsEdgeText (both (character_end here) (body_end here)) edge_end
+      (both_scans (Joined IsCharacter IsBody) IsEdgeText (scan_both (character_end here) (body_end here)) edge_end
       (both_scans IsCharacter IsBody (character_end here) (body_end here) character_scans body_scans [] no_body)
       edge_scans [] no_edge)
 
-  -- the letter `a` is one
+  -- the letter `a` is the spelling of a body with an empty trail
   pub a_letter : IsStem here (97 ∷ [])
   a_letter = record { first = 97; bytes = []; printable = refl; trail = edge.None; good = tt; is = rw (letter_bare here) refl }
 
-  -- ---- each of them is taken
+  -- ---- each body with its trail is taken
 
   star_fails : starts_body here 42 ≡ false
   star_fails = rw (star_not_bare here) refl
@@ -114,7 +115,7 @@ module _ (here : Style) where
   mark_fails : starts_body here 63 ≡ false
   mark_fails = rw (mark_not_bare here) refl
 
-  -- no body begins where a trail stands
+  -- no body begins at a trail
   trail_fails : (e : Edge) (r : List ℕ) → HeadFails (starts_body here) r → HeadFails (starts_body here) (edge_text e ++ r)
   trail_fails edge.None r h = h
   trail_fails edge.Star r h = star_fails
@@ -123,9 +124,9 @@ module _ (here : Style) where
 
   body_over : (r : List ℕ) → HeadFails (starts_body here) r → body_end here r ≡ Ok r
   body_over [] h = body_empty here
-  body_over (c ∷ r) h = body_is here (c ∷ r) ∙ chosen_no (starts_body here) (both (character_end here) (body_end here)) nothing c r h
+  body_over (c ∷ r) h = body_is here (c ∷ r) ∙ chosen_no (starts_body here) (scan_both (character_end here) (body_end here)) nothing c r h
 
-  -- a body is taken before what begins none
+  -- a body is taken if no further character follows it
   body_taken : (b r : List ℕ) → AreCharacters b → HeadFails (starts_body here) r → body_end here (body_text here b ++ r) ≡ Ok r
   body_taken [] r printable h = body_over r h
   body_taken (c ∷ b) r printable h =
@@ -135,7 +136,7 @@ module _ (here : Style) where
         | inr other ↦ rw (quoted_text c other) (body_quoted here c (body_text here b ++ r) (and_from _ _ p.0 (not_from_false _ other)) ∙ body_taken b r p.1 h)
       ]
 
-  character_taken : (c : ℕ) (s : List ℕ) → is_character c ≡ true → character_end here (character here c ++ s) ≡ Ok s
+  character_taken : (c : ℕ) (s : List ℕ) → is_character c ≡ true → character_end here (style_character here c ++ s) ≡ Ok s
   unfolding character_end
   character_taken c s printable =
       elim (cases_Bool (is_bare here c)) [
@@ -143,24 +144,24 @@ module _ (here : Style) where
         | inr other ↦ rw (quoted_text c other, and_from _ _ printable (not_from_false _ other)) refl
       ]
 
-  -- a stem is taken before what goes on none
-  pub stem_taken : (c : ℕ) (b : List ℕ) (e : Edge) (r : List ℕ) → AreCharacters (c ∷ b) → IsEdge e → Ends here r → stem_end here (body_text here (c ∷ b) ++ (edge_text e ++ r)) ≡ Ok r
+  -- a body with its trail is taken if the bytes after it don't extend it
+  pub stem_taken : (c : ℕ) (b : List ℕ) (e : Edge) (r : List ℕ) → AreCharacters (c ∷ b) → IsEdge e → EndsStem here r → stem_end here (body_text here (c ∷ b) ++ (edge_text e ++ r)) ≡ Ok r
   unfolding stem_end
   stem_taken c b e r printable good h =
       let p = and_parts _ _ printable in
-      ap (λ (s : List ℕ). character_end here s >>= body_end here >>= edge_end) (append_assoc (character here c) (body_text here b) (edge_text e ++ r))
+      ap (λ (s : List ℕ). character_end here s >>= body_end here >>= edge_end) (append_assoc (style_character here c) (body_text here b) (edge_text e ++ r))
       ∙ rw (character_taken c (body_text here b ++ (edge_text e ++ r)) p.0, body_taken b (edge_text e ++ r) p.1 (trail_fails e r h.body)) (edge_taken e r good h.star h.mark)
 
-  -- each of them
-  pub stem_text_taken : (u r : List ℕ) → IsStem here u → Ends here r → stem_end here (u ++ r) ≡ Ok r
+  -- the same for the spelling of a body with its trail
+  pub stem_text_taken : (u r : List ℕ) → IsStem here u → EndsStem here r → stem_end here (u ++ r) ≡ Ok r
   stem_text_taken u r stem h =
       ap (λ (w : List ℕ). stem_end here (w ++ r)) stem.is
       ∙ ap (stem_end here) (append_assoc (body_text here (stem.first ∷ stem.bytes)) (edge_text stem.trail) r)
       ∙ stem_taken stem.first stem.bytes stem.trail r stem.printable stem.good h
 
-  -- ---- how a stem begins
+  -- ---- how the spelling of a body begins
 
-  -- with the first byte of a character, which is no special
+  -- the bytes begin with the first byte of a character, and so with no special
   pub record Begins (s : List ℕ) : Type 0 where
     pub first : ℕ
     pub more : List ℕ
@@ -169,7 +170,7 @@ module _ (here : Style) where
     pub no_star : is_star first ≡ false
     pub no_mark : is_mark first ≡ false
 
-  character_begins : (c : ℕ) (s : List ℕ) → Begins (character here c ++ s)
+  character_begins : (c : ℕ) (s : List ℕ) → Begins (style_character here c ++ s)
   character_begins c s =
       elim (cases_Bool (is_bare here c)) [
         | inl bare ↦ record {
@@ -184,8 +185,8 @@ module _ (here : Style) where
       ]
 
   pub body_begins : (c : ℕ) (b s : List ℕ) → Begins (body_text here (c ∷ b) ++ s)
-  body_begins c b s = subst Begins (sym (append_assoc (character here c) (body_text here b) s)) (character_begins c (body_text here b ++ s))
+  body_begins c b s = subst Begins (sym (append_assoc (style_character here c) (body_text here b) s)) (character_begins c (body_text here b ++ s))
 
-  -- what fails at that byte fails at the stem
+  -- a test that fails on the first byte fails at the start of the bytes
   pub begins_fail : (passes : ℕ → Bool) (s : List ℕ) (b : Begins s) → passes b.first ≡ false → HeadFails passes s
   begins_fail passes s b never = subst (HeadFails passes) (sym b.is) never

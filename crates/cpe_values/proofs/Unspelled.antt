@@ -1,4 +1,5 @@
--- The parts of a text are found in its spelling, whatever the style.
+-- Lemmas: the parts of a text are found in its spelling, in either style. A bare character is spelled without a
+-- backslash.
 use Rattle.std.proofs.Common.{◌≡◌, ◌≢◌, ℕ, zero, suc, ◌+◌, ◌<◌, ◌^◌, true, false, eqb, List, [], ◌∷◌, ◌++◌, length, take, drop, ◌-◌, replicate, refl, sym, ap, subst, ◌∙◌, inl, inr, append_assoc, arith}
 use Rattle.std.specs.List.{flat_map}
 use Rattle.std.proofs.lemmas.List.{append-nil}
@@ -9,7 +10,7 @@ use Rattle.cpe_values.specs.declared.value.Edge.TheVariants as edge
 use Rattle.cpe_values.specs.declared.spelling.Style.{Style}
 use Rattle.cpe_values.specs.declared.spelling.Style.TheVariants as style
 use Rattle.cpe_values.specs.Parts.{Parts, IsText, IsEdge}
-use Rattle.cpe_values.specs.Spelling.{is_bare, character, edge_text, spelling}
+use Rattle.cpe_values.specs.Spelling.{is_bare, style_character, edge_text, spelling}
 use Rattle.cpe_values.specs.Spelled.{IsSpelling}
 use Rattle.cpe_values.specs.Skipping.{skip_while}
 use Rattle.cpe_values.specs.Unspelling.{is_special, marks_count, edge_at, behind_edge, body_at, behind_body, ends_body, parts_at}
@@ -17,7 +18,7 @@ use Rattle.cpe_values.proofs.SkippingLemmas.{length-skip_while}
 
 -- ---- specials
 
--- no special stands at the start
+-- the bytes begin with no special
 abbrev NoSpecial : List ℕ → Type 0
 NoSpecial [] = Unit {0}
 NoSpecial (c ∷ s) = is_special c ≡ false
@@ -48,7 +49,7 @@ behind_back edge.Star s good h = refl
 behind_back (edge.Marks zero) s good h = absurd (omega (arith, good.0))
 behind_back (edge.Marks (suc k)) s good h = ap (λ (n : ℕ). drop n (replicate (suc k) 63 ++ s)) (count_marks (suc k) s h) ∙ drop_marks (suc k) s
 
--- marks that make an edge fit in their type
+-- the question marks of a lawful lead or trail are fewer than 2^32
 pub marks_fit : (s : List ℕ) → IsEdge (edge_at s) → marks_count s < 2 ^ 32
 marks_fit [] good = omega arith
 marks_fit (c ∷ s) good =
@@ -93,7 +94,7 @@ bare_no_backslash style.Formatted c h = grind (arith, nat_tests)
 
 module _ (sty : Style) where
   abbrev body_text : List ℕ → List ℕ
-  body_text b = flat_map (character sty) b
+  body_text b = flat_map (style_character sty) b
 
   body_bare : (c : ℕ) (s : List ℕ) → is_bare sty c ≡ true → (body_at (c ∷ s) ≡ c ∷ body_at s) × (behind_body (c ∷ s) ≡ behind_body s)
   unfolding body_at behind_body
@@ -121,7 +122,7 @@ module _ (sty : Style) where
         | inr other ↦ rw other refl
       ]
 
-  -- the parts are found again in their spelling
+  -- the parts found in the spelling of a text are those of the text
   pub parts_back : (t : Parts) → IsText t → parts_at (spelling sty t) ≡ t
   parts_back t is =
       let stem : spelling sty t ≡ edge_text t.lead ++ (body_text t.body ++ edge_text t.trail) = append_assoc (edge_text t.lead) (body_text t.body) (edge_text t.trail) in
@@ -130,15 +131,15 @@ module _ (sty : Style) where
       ap parts_at stem
       ∙ rw (edge_back t.lead (body_text t.body ++ edge_text t.trail) is.lead begins, behind_back t.lead (body_text t.body ++ edge_text t.trail) is.lead begins, body.0, body.1, edge_alone t.trail is.trail) refl
 
--- characters that stand bare up to the end of a body are the body
-body_stands : (sty : Style) (s : List ℕ) → ends_body (skip_while (is_bare sty) s) ≡ true
+-- if a body ends after the bare characters at the start, it has these characters alone
+body_spelled : (sty : Style) (s : List ℕ) → ends_body (skip_while (is_bare sty) s) ≡ true
     → (body_at s ≡ take (length s - length (skip_while (is_bare sty) s)) s) × (behind_body s ≡ skip_while (is_bare sty) s)
-body_stands sty [] h = body_over [] h
-body_stands sty (c ∷ s) h =
+body_spelled sty [] h = body_over [] h
+body_spelled sty (c ∷ s) h =
     elim (cases_Bool (is_bare sty c)) [
       | inl bare ↦
           let ends : ends_body (skip_while (is_bare sty) s) ≡ true = rw bare at h in
-          let more = body_stands sty s ends in
+          let more = body_spelled sty s ends in
           let step = body_bare sty c s bare in
           let count : suc (length s) - length (skip_while (is_bare sty) s) ≡ suc (length s - length (skip_while (is_bare sty) s)) = omega (arith, length-skip_while (is_bare sty) s) in
           rw bare (step.0 ∙ ap (λ (u : List ℕ). c ∷ u) more.0 ∙ ap (λ (n : ℕ). take n (c ∷ s)) (sym count), step.1 ∙ more.1)
@@ -149,16 +150,16 @@ body_stands sty (c ∷ s) h =
           rw other (over.0 ∙ ap (λ (n : ℕ). take n (c ∷ s)) (sym none), over.1)
     ]
 
--- the same of what was skipped
+-- the same if `z` is the rest after the bare characters
 pub body_lent : (sty : Style) (s z : List ℕ) → z ≡ skip_while (is_bare sty) s → ends_body z ≡ true → (take (length s - length z) s ≡ body_at s) × (z ≡ behind_body s)
 body_lent sty s z is ends =
-    let stands = body_stands sty s (subst (λ (u : List ℕ). ends_body u ≡ true) is ends) in
-    (ap (λ (u : List ℕ). take (length s - length u) s) is ∙ sym stands.0, is ∙ sym stands.1)
+    let present = body_spelled sty s (subst (λ (u : List ℕ). ends_body u ≡ true) is ends) in
+    (ap (λ (u : List ℕ). take (length s - length u) s) is ∙ sym present.0, is ∙ sym present.1)
 
--- the parts that are found in a spelling are a text
+-- the parts found in a spelling make a text
 pub lawful_parts : (s : List ℕ) → IsSpelling s → IsText (parts_at s)
 lawful_parts s is = subst IsText (sym (ap parts_at (sym is.spells) ∙ parts_back is.spelled_in is.text is.good)) is.good
 
--- they are those of each text that is spelled so
+-- the parts found in a spelling are those of each text that has this spelling
 pub parts_are : (sty : Style) (t : Parts) (s : List ℕ) → IsText t → spelling sty t ≡ s → parts_at s ≡ t
 parts_are sty t s good spells = ap parts_at (sym spells) ∙ parts_back sty t good

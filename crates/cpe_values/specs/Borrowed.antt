@@ -1,4 +1,4 @@
--- Which text and which value a borrowed one is.
+-- The text that a borrowed text equals, and the value that a borrowed value equals.
 use Rattle.cpe_values.specs.declared.value.Value.{Value}
 use Rattle.cpe_values.specs.declared.value.Value.TheVariants as value
 use Rattle.cpe_values.specs.declared.borrowed.TextRef.{TextRef}

@@ -1,4 +1,4 @@
--- What is found the same is equal, and the other way round.
+-- Laws: two texts or two values pass the test of equality exactly if they are equal.
 use Rattle.std.proofs.Common.{◌≡◌, ℕ, ◌&&◌, nat_eq, List, refl, ap, ◌∙◌, Decides}
 use Rattle.std.proofs.lemmas.Bool.{eqb-true, eq-eqb, and_parts, and_from}
 use Rattle.std.proofs.lemmas.Slice.Eq.{slice_eq-Decides}

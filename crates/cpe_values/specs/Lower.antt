@@ -14,7 +14,7 @@ lower_value value.Any = value.Any
 lower_value value.Na = value.Na
 lower_value (value.Text t) = value.Text (lower_parts t)
 
--- a text with a special before or after its body
+-- the value is a text with a special before or after its body
 abbrev pub has_specials : Value → Bool
 has_specials value.Any = false
 has_specials value.Na = false

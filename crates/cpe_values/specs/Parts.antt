@@ -1,4 +1,4 @@
--- A text as contracts see it: what stands before the body, the body, and what stands after it (NIST IR 7695, 5.3).
+-- A text as contracts see it: its lead, its body and its trail (NIST IR 7695, 5.3).
 use Rattle.std.specs.Prelude.{◌≢◌, ℕ, ◌<◌, ◌^◌, Bool, true, false, not, ◌&&◌, ◌||◌, nat_le, IsTrue, List, [], ◌∷◌}
 use Rattle.std.specs.List.{list_all}
 use Rattle.cpe_values.specs.declared.value.Edge.{Edge}
@@ -16,23 +16,23 @@ parts lead body trail = record { lead = lead; body = body; trail = trail }
 abbrev pub is_character : ℕ → Bool
 is_character c = nat_le 33 c && nat_le c 126
 
--- nothing, an asterisk, or question marks, of which there is one at least and no more than a `u32` counts
+-- a lawful lead or trail: nothing, an asterisk, or at least one and fewer than 2^32 question marks
 abbrev pub IsEdge : Edge → Type 0
 IsEdge edge.None = Unit {0}
 IsEdge edge.Star = Unit {0}
 IsEdge (edge.Marks n) = (0 < n) × (n < 2 ^ 32)
 
--- nothing stands there
+-- the lead or trail has no special
 abbrev pub is_nothing : Edge → Bool
 is_nothing edge.None = true
 is_nothing edge.Star = false
 is_nothing (edge.Marks n) = false
 
--- a special stands before or after the body
+-- the text has a special before or after its body
 abbrev pub has_special : Parts → Bool
 has_special t = not (is_nothing t.lead) || not (is_nothing t.trail)
 
--- some characters between two edges, but no hyphen that stands alone
+-- These parts make a text. The body has at least one character, and the whole is not a hyphen without specials.
 pub record IsText (t : Parts) : Type 0 where
   pub lead : IsEdge t.lead
   pub characters : IsTrue (list_all is_character t.body)

@@ -1,4 +1,4 @@
--- When two values are the same, and what they feed a hasher.
+-- Tests of equality of texts and values, and their hash input.
 use Rattle.std.specs.Prelude.{ℕ, Bool, true, false, ◌&&◌, ◌==◌, nat_eq, List, [], ◌∷◌}
 use Rattle.std.specs.Hash as fed
 use lib.Pointwise.{pointwise}

@@ -1,4 +1,4 @@
--- What is left of a list after the first elements that pass a test.
+-- The rest of a list after its first elements that pass a test.
 use Rattle.std.specs.Prelude.{ℕ, Bool, if◌then◌else◌, List, [], ◌∷◌}
 
 abbrev pub skip_while : (ℕ → Bool) → List ℕ → List ℕ

@@ -4,7 +4,7 @@ use Rattle.cpe_values.specs.declared.spelling.Style.{Style}
 use Rattle.cpe_values.specs.Parts.{Parts, IsText}
 use Rattle.cpe_values.specs.Spelling.{spelling}
 
--- some text is spelled so, in one style or the other
+-- some text has this spelling, in one of the styles
 pub record IsSpelling (s : List ℕ) : Type 0 where
   pub spelled_in : Style
   pub text : Parts

@@ -1,4 +1,4 @@
--- What an attribute may have: ANY, NA, or a text with the parts of one (NIST IR 7695, 5.3).
+-- The values that an attribute may have: ANY, NA, or a text with lawful parts (NIST IR 7695, 5.3).
 use Rattle.cpe_values.specs.declared.value.Value.{Value}
 use Rattle.cpe_values.specs.declared.value.Value.TheVariants as value
 use Rattle.cpe_values.specs.Parts.{IsText}

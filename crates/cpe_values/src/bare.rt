@@ -1,4 +1,4 @@
-// Runs of bytes of one class, sixteen at a time.
+// Skipping bytes of one class, sixteen at a time.
 ghost use Rattle.std.specs.Prelude.{◌≡◌, ◌≤◌, ℕ, Bool, length, take, drop, nat_le};
 ghost use Rattle.std.specs.List.{prefix_len};
 ghost use Rattle.cpe_values.specs.Skipping.{skip_while};
@@ -9,7 +9,7 @@ ghost use Rattle.cpe_values.specs.declared.spelling.Style.TheVariants as style;
 use crate::spelling::{Style, is_bare_byte};
 use std::simd::prelude::*;
 
-// A class of bytes: the test of one byte, and of sixteen at a time.
+// A class of bytes, with a test of one byte and a test of sixteen bytes at a time.
 trait Class {
     ghost contains: { ℕ → Bool };
 
@@ -20,7 +20,8 @@ trait Class {
         ensures { result ≡ lanes_where contains block };
 }
 
-// The lanes of the bytes from `first` to `last`. They are bytes and no mask, whose lanes a contract sees as signed.
+// The lanes of the bytes from `first` to `last`: 255 for such a byte, else 0. The result is bytes, not a mask:
+// contracts see the lanes of a mask as signed.
 fn between(block: u8x16, first: u8, last: u8) -> u8x16
     ensures { result ≡ lanes_where (is_between first last) block }
 {
@@ -28,14 +29,15 @@ fn between(block: u8x16, first: u8, last: u8) -> u8x16
     mask.select(u8x16::splat(255), u8x16::splat(0))
 }
 
-// The lanes of the letters. The bit of 32 alone tells a small letter from a capital one.
+// The lanes of the letters: 255 for a letter, else 0. A small letter and its capital letter differ only in the bit of
+// 32.
 fn letters(block: u8x16) -> u8x16
     ensures { result ≡ lanes_where is_letter block }
 {
     between(block | u8x16::splat(32), b'a', b'z')
 }
 
-// The first lane whose top bit is not set, or 16.
+// The place of the first lane whose top bit is not set, or 16 if there is none.
 fn first_unset(lanes: u8x16) -> usize
     ensures { result ≡ prefix_len (nat_le 128) lanes }
 {
@@ -43,7 +45,7 @@ fn first_unset(lanes: u8x16) -> usize
     mask.trailing_ones() as usize
 }
 
-// How many of the first sixteen bytes are in the class before one that is not.
+// The number of bytes of the class before the first other byte, among the first sixteen bytes.
 fn prefix_length<C: Class>(bytes: &[u8]) -> usize
     requires { 16 ≤ length bytes.now }
     ensures { result ≡ prefix_len C.contains (take 16 bytes.now) }
@@ -71,8 +73,8 @@ fn skip_by_one<C: Class>(bytes: &[u8]) -> &[u8]
     rest
 }
 
-// What is left after the bytes of a class. A run is mostly short and much follows it, so one block tells its
-// length with no branch on any byte.
+// The bytes from the first byte on that is not of the class. A run of such bytes is mostly short, and many bytes follow
+// it. So a single block mostly shows the length of the run, without a branch on any byte.
 fn skip<C: Class>(bytes: &[u8]) -> &[u8]
     ensures { result.now ≡ skip_while C.contains bytes.now }
 {
@@ -87,7 +89,7 @@ fn skip<C: Class>(bytes: &[u8]) -> &[u8]
     skip_by_one::<C>(rest)
 }
 
-// The characters that stand bare in a well-formed name.
+// The class of the characters without a backslash in a well-formed name.
 struct Word;
 
 impl Class for Word {
@@ -102,15 +104,15 @@ impl Class for Word {
     }
 }
 
-/// What is left after the characters that stand bare in a well-formed name: letters, digits and `_`
-/// (NIST IR 7695, 5.3).
+/// The bytes after the letters, digits and `_` at the start. A well-formed name has these characters without a
+/// backslash (NIST IR 7695, 5.3).
 pub fn skip_word(bytes: &[u8]) -> &[u8]
     ensures { result.now ≡ skip_while (is_bare style.Wfn) bytes.now }
 {
     skip::<Word>(bytes)
 }
 
-// Those in lower case.
+// The class of small letters, digits and `_`.
 struct LowerWord;
 
 impl Class for LowerWord {
@@ -125,15 +127,15 @@ impl Class for LowerWord {
     }
 }
 
-/// What is left after small letters, digits and `_`, which stand bare in a well-formed name and in lower case
-/// (NIST IR 7695, 5.3).
+/// The bytes after the small letters, digits and `_` at the start. A well-formed name in lower case has these
+/// characters without a backslash (NIST IR 7695, 5.3).
 pub fn skip_lower_word(bytes: &[u8]) -> &[u8]
     ensures { result.now ≡ skip_while is_lower_word bytes.now }
 {
     skip::<LowerWord>(bytes)
 }
 
-// The characters that stand bare in a formatted string.
+// The class of the characters without a backslash in a formatted string.
 struct Bare;
 
 impl Class for Bare {
@@ -144,14 +146,14 @@ impl Class for Bare {
     }
 
     fn lanes(block: u8x16) -> u8x16 {
-        // From `-` to `9` stands the slash alone that is not bare.
+        // From `-` to `9`, only the slash needs a backslash.
         let from_hyphen_to_nine = between(block, b'-', b'9') & !between(block, b'/', b'/');
         letters(block) | from_hyphen_to_nine | between(block, b'_', b'_')
     }
 }
 
-/// What is left after the characters that stand bare in a formatted string: letters, digits, `_`, `.` and `-`
-/// (NIST IR 7695, 6.2).
+/// The bytes after the letters, digits, `_`, `.` and `-` at the start. A formatted string has these characters without
+/// a backslash (NIST IR 7695, 6.2).
 pub fn skip_bare(bytes: &[u8]) -> &[u8]
     ensures { result.now ≡ skip_while (is_bare style.Formatted) bytes.now }
 {

@@ -1,24 +1,24 @@
-// Values whose text lies elsewhere, as a `&str` is to a `String`.
+// Borrowed values: they are to values as `&str` is to `String`.
 ghost use Rattle.std.specs.Prelude.{◌≡◌};
 ghost use Rattle.cpe_values.specs.Parts.{has_special};
 ghost use Rattle.cpe_values.specs.Borrowed.{text_lent, value_lent};
 
 use crate::value::{Edge, Pattern, Value, is_special};
 
-/// A text whose body is borrowed: a [`Pattern`], or a slice of a line in which the body stands as it is.
+/// A text whose body is borrowed from a [`Pattern`], or from a line that contains the body unchanged.
 ///
-/// Any parts are allowed: whoever makes one tells which text it is.
+/// Any parts are allowed, even parts that make no text.
 #[derive(Clone, Copy, Debug)]
 pub struct TextRef<'a> {
-    /// What stands before the body.
+    /// The specials before the body, if any.
     pub lead: Edge,
-    /// The body, without quoting.
+    /// The body, without backslashes.
     pub stem: &'a [u8],
-    /// What stands after the body.
+    /// The specials after the body, if any.
     pub trail: Edge,
 }
 
-/// What an attribute has, borrowed: a [`Value`], or what a line says in place. It takes no memory.
+/// A value of an attribute, borrowed from a [`Value`] or from a line. Allocates: no.
 #[derive(Clone, Copy, Debug)]
 pub enum ValueRef<'a> {
     /// The logical value ANY (NIST IR 7695, 5.3).

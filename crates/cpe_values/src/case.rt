@@ -4,7 +4,7 @@ ghost use Rattle.std.specs.Str.{str_to_ascii_lowercase};
 ghost use Rattle.cpe_values.specs.Forms.{form_parts};
 ghost use Rattle.cpe_values.specs.Lower.{lower_parts, lower_value};
 
-use crate::value::{Form, Pattern, Value};
+use crate::value::{Pattern, Value, ValueForm};
 use out_of_memory::Memory;
 use std::alloc::Global;
 
@@ -14,12 +14,12 @@ fn make_lower_body(body: &mut Vec<u8>)
     body.as_mut_slice().make_ascii_lowercase();
 }
 
-fn make_lower_form(form: &mut Form)
+fn make_lower_form(form: &mut ValueForm)
     ensures { form_parts form.new ≡ lower_parts (form_parts form.old) }
 {
     match form {
-        Form::Short(body) => body.make_lower(),
-        Form::Long(text) => make_lower_body(&mut text.body),
+        ValueForm::Short(body) => body.make_lower(),
+        ValueForm::Long(text) => make_lower_body(&mut text.body),
     }
 }
 
@@ -30,7 +30,7 @@ fn is_lower_body(body: &[u8]) -> bool
 }
 
 impl Pattern {
-    /// The text with every letter in lower case, in the same memory: it takes none.
+    /// The text with every letter in lower case, in the same memory. Allocates: no.
     pub fn into_lower(self) -> Pattern
         ensures { result ≡ lower_parts self }
     {
@@ -39,24 +39,24 @@ impl Pattern {
         Pattern { form }
     }
 
-    /// Brings every letter of the text into lower case, in its place. It takes no memory.
+    /// Changes every letter of the text to lower case, in place. Allocates: no.
     pub fn make_lower(&mut self)
         ensures { self.new ≡ lower_parts self.old }
     {
         make_lower_form(&mut self.form);
     }
 
-    /// The text with every letter in lower case.
+    /// A copy of the text with every letter in lower case.
     ///
     /// # Errors
-    /// Only that memory ran out.
+    /// `Memory` if memory runs out; there is no other error.
     pub fn lower(&self, alloc: Global) -> Result<Pattern, Memory>
         ensures { IfOk result (λ p. p ≡ lower_parts self.now) }
     {
         Ok(self.copy(alloc)?.into_lower())
     }
 
-    /// Whether two texts are the same but for the case of letters. It takes no memory.
+    /// Whether two texts are equal except for the case of letters. Allocates: no.
     pub fn same(&self, other: &Pattern) -> bool
         ensures { IsTrue result ↔ (lower_parts self.now ≡ lower_parts other.now) }
     {
@@ -65,7 +65,7 @@ impl Pattern {
             && self.stem().eq_ignore_ascii_case(other.stem())
     }
 
-    /// Whether the text has no letter in upper case. It takes no memory.
+    /// Whether the text has no letter in upper case. Allocates: no.
     pub fn is_lower(&self) -> bool
         ensures { IsTrue result ↔ (lower_parts self.now ≡ self.now) }
     {
@@ -74,7 +74,7 @@ impl Pattern {
 }
 
 impl Value {
-    /// Brings every letter of the value into lower case, in its place. It takes no memory.
+    /// Changes every letter of the value to lower case, in place. Allocates: no.
     pub fn make_lower(&mut self)
         ensures { self.new ≡ lower_value self.old }
     {
@@ -84,17 +84,17 @@ impl Value {
         }
     }
 
-    /// The value with every letter in lower case.
+    /// A copy of the value with every letter in lower case.
     ///
     /// # Errors
-    /// Only that memory ran out.
+    /// `Memory` if memory runs out; there is no other error.
     pub fn lower(&self, alloc: Global) -> Result<Value, Memory>
         ensures { IfOk result (λ v. v ≡ lower_value self.now) }
     {
         Ok(self.copy(alloc)?.into_lower())
     }
 
-    /// The value with every letter in lower case, in the same memory: it takes none.
+    /// The value with every letter in lower case, in the same memory. Allocates: no.
     pub fn into_lower(self) -> Value
         ensures { result ≡ lower_value self }
     {
@@ -105,7 +105,7 @@ impl Value {
         }
     }
 
-    /// Whether two values are the same but for the case of letters. It takes no memory.
+    /// Whether two values are equal except for the case of letters. Allocates: no.
     pub fn same(&self, other: &Value) -> bool
         ensures { IsTrue result ↔ (lower_value self.now ≡ lower_value other.now) }
     {
@@ -117,7 +117,7 @@ impl Value {
         }
     }
 
-    /// Whether the value has no letter in upper case. It takes no memory.
+    /// Whether the value has no letter in upper case. Allocates: no.
     pub fn is_lower(&self) -> bool
         ensures { IsTrue result ↔ (lower_value self.now ≡ self.now) }
     {

@@ -1,5 +1,6 @@
-// When two texts or two values are equal, and what they feed a hasher. Equal is equal as contracts see it, letter case too. What is
-// equal feeds equally; little is fed, since names are hashed at each look-up: a text feeds its body alone, and ANY nothing.
+// Equality and hash input of texts and values. Equality is that of contracts, so the case of letters counts. Equal
+// values have the same hash input. The input is short, since names are hashed at each look-up: a text gives its body
+// alone, and ANY gives nothing.
 ghost use Rattle.std.specs.Prelude.{◌≡◌, ◌↔◌, IsTrue};
 ghost use Rattle.std.specs.Cmp.{partial_equiv_from_equiv, decided};
 ghost use Rattle.std.specs.Hash.{same_Alike};

@@ -1,9 +1,10 @@
-// Where the lead, the body and the trail of a spelled text end. Nothing here takes memory.
+// Scanners: where the lead, the body and the trail of a spelled text end. Nothing here allocates memory.
 //
-// Each function takes a prefix of a text. It answers what is left after it, or how many bytes are
-// left where no text goes on. They are inlined, so that the style is known where a caller names it.
+// Each scanner takes a prefix of the bytes, and returns the bytes after this prefix. If no such text can continue at
+// some byte, it returns the number of bytes from there on. The scanners are inlined, so that the compiler knows the
+// style if a caller names it.
 ghost use Rattle.std.specs.Prelude.{◌≡◌};
-ghost use Rattle.cpe_grammar.specs.Scanners.{Tells, one};
+ghost use Rattle.name_grammar.specs.Scanners.{IsScan, scan_one};
 ghost use Rattle.cpe_values.specs.Spelling.{is_bare};
 ghost use Rattle.cpe_values.specs.Skipping.{skip_while};
 ghost use Rattle.cpe_values.specs.Scanning.{is_quoted, begins_with_backslash, starts_body, marks_end, edge_end, character_end, body_end, stem_end};
@@ -11,11 +12,11 @@ ghost use Rattle.cpe_values.specs.Scanning.{is_quoted, begins_with_backslash, st
 use crate::bare::skip_word;
 use crate::spelling::{Style, is_bare_byte, is_printable_byte};
 
-// An edge has no more marks than a `u32` counts.
+// Takes at most as many question marks as a `u32` counts.
 #[inline(always)]
-#[tactic(auto, unfolding(crate::specs::Scanning::marks_end, cpe_grammar::specs::Scanners::up_to))]
+#[tactic(auto, unfolding(crate::specs::Scanning::marks_end, name_grammar::specs::Scanners::up_to))]
 fn scan_marks(bytes: &[u8]) -> Result<&[u8], usize>
-    ensures { Tells (λ rest. rest.now) result (marks_end bytes.now) }
+    ensures { IsScan (λ rest. rest.now) result (marks_end bytes.now) }
 {
     let mut more = u32::MAX;
     let mut rest = bytes;
@@ -29,12 +30,15 @@ fn scan_marks(bytes: &[u8]) -> Result<&[u8], usize>
     Ok(rest)
 }
 
-/// Takes a lead or a trail, which may be nothing (NIST IR 7695, 5.3): an asterisk, or question marks, of which there are
-/// 4,294,967,295 at most. Tells what is left after it, or how many bytes are left at a further mark.
+/// Takes a lead or a trail, which may be empty, and returns the bytes after it (NIST IR 7695, 5.3). A lead or a trail
+/// is an asterisk, or at most 4,294,967,295 question marks.
+///
+/// # Errors
+/// The number of bytes left at one question mark more.
 #[inline(always)]
 #[tactic(auto, unfolding(crate::specs::Scanning::edge_end))]
 pub fn scan_edge(bytes: &[u8]) -> Result<&[u8], usize>
-    ensures { Tells (λ rest. rest.now) result (edge_end bytes.now) }
+    ensures { IsScan (λ rest. rest.now) result (edge_end bytes.now) }
 {
     match bytes {
         [b'*', rest @ ..] => Ok(rest),
@@ -51,7 +55,7 @@ fn is_quoted(style: Style, byte: u8) -> bool
 
 #[inline(always)]
 fn scan_quoted(style: Style, bytes: &[u8]) -> Result<&[u8], usize>
-    ensures { Tells (λ rest. rest.now) result (one (is_quoted style) bytes.now) }
+    ensures { IsScan (λ rest. rest.now) result (scan_one (is_quoted style) bytes.now) }
 {
     match bytes {
         [quoted, rest @ ..] if is_quoted(style, *quoted) => Ok(rest),
@@ -62,7 +66,7 @@ fn scan_quoted(style: Style, bytes: &[u8]) -> Result<&[u8], usize>
 #[inline(always)]
 #[tactic(auto, unfolding(crate::specs::Scanning::character_end))]
 fn scan_character(style: Style, bytes: &[u8]) -> Result<&[u8], usize>
-    ensures { Tells (λ rest. rest.now) result (character_end style bytes.now) }
+    ensures { IsScan (λ rest. rest.now) result (character_end style bytes.now) }
 {
     match bytes {
         [b'\\', rest @ ..] => scan_quoted(style, rest),
@@ -88,11 +92,11 @@ fn skip_bare(style: Style, bytes: &[u8]) -> &[u8]
     }
 }
 
-// Characters are mostly bare, and those are skipped many at a time.
+// Takes the characters of a body. Most characters have no backslash, and such characters are skipped sixteen at a time.
 #[inline(always)]
 #[tactic(auto, using(crate::proofs::Bodies::character_stop))]
 fn scan_body(style: Style, bytes: &[u8]) -> Result<&[u8], usize>
-    ensures { Tells (λ rest. rest.now) result (body_end style bytes.now) }
+    ensures { IsScan (λ rest. rest.now) result (body_end style bytes.now) }
 {
     let mut rest = skip_bare(style, bytes);
     while is_at_backslash(rest) {
@@ -101,7 +105,8 @@ fn scan_body(style: Style, bytes: &[u8]) -> Result<&[u8], usize>
     Ok(rest)
 }
 
-/// Whether a character of a body may begin with this byte: one that stands bare, or a backslash (NIST IR 7695, 5.3 and 6.2).
+/// Whether a character of a body may begin with this byte. Such a byte is a backslash, or a character that needs no
+/// backslash (NIST IR 7695, 5.3 and 6.2).
 #[inline(always)]
 pub fn starts_body(style: Style, byte: u8) -> bool
     ensures { result ≡ starts_body style byte }
@@ -109,12 +114,14 @@ pub fn starts_body(style: Style, byte: u8) -> bool
     is_bare_byte(style, byte) || byte == b'\\'
 }
 
-/// Takes a body of one character at least, and a trail (NIST IR 7695, 5.3 and 6.2): tells what is left after them, or how many
-/// bytes are left where no such text goes on.
+/// Takes a body of at least one character, and a trail. Returns the bytes after the trail (NIST IR 7695, 5.3 and 6.2).
+///
+/// # Errors
+/// The number of bytes left at the byte at which no such text can continue.
 #[inline(always)]
 #[tactic(auto, unfolding(crate::specs::Scanning::stem_end))]
 pub fn scan_stem(style: Style, bytes: &[u8]) -> Result<&[u8], usize>
-    ensures { Tells (λ rest. rest.now) result (stem_end style bytes.now) }
+    ensures { IsScan (λ rest. rest.now) result (stem_end style bytes.now) }
 {
     let rest = scan_character(style, bytes)?;
     let rest = scan_body(style, rest)?;

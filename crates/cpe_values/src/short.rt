@@ -1,14 +1,14 @@
-// Bodies of few bytes, which take no memory of their own.
+// Short bodies, which need no memory outside their value.
 ghost use Rattle.std.specs.Prelude.{◌≡◌, ◌≤◌, length};
 ghost use Rattle.std.specs.Str.{str_to_ascii_lowercase};
 ghost use Rattle.cpe_values.specs.declared.short.TheConstants.{SHORT};
 
 use std::marker::Model;
 
-// The most bytes of a body that lies in its value.
+// The greatest length in bytes of a body that is stored in its value.
 pub(crate) const SHORT: usize = 14;
 
-// A body of at most so many bytes. Contracts see it as these.
+// A body of at most `SHORT` bytes. Contracts see its bytes.
 #[derive(Debug, Drop)]
 pub(crate) struct ShortBody {
     length: u8,
@@ -27,7 +27,7 @@ impl Model for ShortBody {
 }
 
 impl ShortBody {
-    // These bytes.
+    // A short body that is a copy of `body`.
     pub(crate) fn new(body: &[u8]) -> ShortBody
         requires { length body.now ≤ SHORT }
         ensures { result ≡ body.now }
@@ -40,7 +40,7 @@ impl ShortBody {
         }
     }
 
-    // The same bytes again.
+    // A copy of the body.
     pub(crate) fn copy(&self) -> ShortBody
         ensures { result ≡ self.now }
     {
@@ -56,7 +56,7 @@ impl ShortBody {
         &self.bytes[..self.length as usize]
     }
 
-    // Brings its letters into lower case.
+    // Changes every letter of the body to lower case.
     pub(crate) fn make_lower(&mut self)
         ensures { self.new ≡ str_to_ascii_lowercase self.old }
     {

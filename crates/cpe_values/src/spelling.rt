@@ -1,19 +1,21 @@
-// How texts are spelled, character by character.
+// The spelling of texts, character by character.
 ghost use Rattle.std.specs.Prelude.{◌≡◌, OnOk, replicate, ◌++◌, ◌-◌, take, length, flat_map};
 ghost use Rattle.cpe_values.specs.Parts.{is_character};
 ghost use Rattle.cpe_values.specs.Skipping.{skip_while};
-ghost use Rattle.cpe_values.specs.Spelling.{is_bare, character, edge_text, spelling, is_letter, is_digit};
+ghost use Rattle.cpe_values.specs.Spelling.{is_bare, style_character, edge_text, spelling, is_letter, is_digit};
 
 use crate::bare::{skip_bare, skip_word};
 use crate::value::{Edge, Pattern};
 use out_of_memory::Memory;
 
-/// Where a text is spelled.
+/// The style in which a text is spelled.
 #[derive(Clone, Copy, Debug, PartialEq, Eq)]
 pub enum Style {
-    /// In a well-formed name (NIST IR 7695, 5.3): a backslash stands before each character of a body but letters, digits and `_`.
+    /// In a well-formed name (NIST IR 7695, 5.3): each character of a body has a backslash before it, except letters,
+    /// digits and `_`.
     Wfn,
-    /// In a formatted string (NIST IR 7695, 6.2): the same, and `.` and `-` stand bare too.
+    /// In a formatted string (NIST IR 7695, 6.2): each character of a body has a backslash before it, except letters,
+    /// digits, `_`, `.` and `-`.
     Formatted,
 }
 
@@ -38,8 +40,8 @@ pub fn is_digit_byte(byte: u8) -> bool
     matches!(byte, b'0'..=b'9')
 }
 
-// 1 where a byte stands bare in a body in either style, 2 where in a formatted string alone, else 0. A table, since no branch is to
-// depend on the byte.
+// For each byte: 1 if it needs no backslash in either style, 2 if it needs none in a formatted string alone, else 0. A
+// table is used so that no branch depends on the byte.
 #[rattlefmt::skip]
 const BARE: [u8; 256] = [
     0, 0, 0, 0, 0, 0, 0, 0, 0, 0, 0, 0, 0, 0, 0, 0, 0, 0, 0, 0, 0, 0, 0, 0, 0, 0, 0, 0, 0, 0, 0, 0,
@@ -52,7 +54,7 @@ const BARE: [u8; 256] = [
     0, 0, 0, 0, 0, 0, 0, 0, 0, 0, 0, 0, 0, 0, 0, 0, 0, 0, 0, 0, 0, 0, 0, 0, 0, 0, 0, 0, 0, 0, 0, 0,
 ];
 
-/// Whether a character of a body stands without a backslash.
+/// Whether a character of a body is spelled without a backslash.
 #[tactic(auto, using(crate::proofs::BareBytes::bare_in_both, crate::proofs::BareBytes::bare_in_one))]
 pub fn is_bare_byte(style: Style, byte: u8) -> bool
     ensures { result ≡ is_bare style byte }
@@ -92,7 +94,7 @@ fn push_edge(out: &mut Vec<u8>, edge: Edge) -> Result<(), Memory>
 
 #[tactic(auto, using(crate::proofs::Kept::keeping))]
 fn push_character(out: &mut Vec<u8>, style: Style, byte: u8) -> Result<(), Memory>
-    ensures spelled { OnOk result (out.new.items ≡ out.old.items ++ character style byte) }
+    ensures spelled { OnOk result (out.new.items ≡ out.old.items ++ style_character style byte) }
     ensures kept { take (length out.old.items) out.new.items ≡ out.old.items }
 {
     if is_bare_byte(style, byte) {
@@ -106,7 +108,7 @@ fn push_character(out: &mut Vec<u8>, style: Style, byte: u8) -> Result<(), Memor
 
 #[tactic(auto, using(crate::proofs::Kept::keeping))]
 fn push_characters(out: &mut Vec<u8>, style: Style, body: &[u8]) -> Result<(), Memory>
-    ensures spelled { OnOk result (out.new.items ≡ out.old.items ++ flat_map (character style) body.now) }
+    ensures spelled { OnOk result (out.new.items ≡ out.old.items ++ flat_map (style_character style) body.now) }
     ensures kept { take (length out.old.items) out.new.items ≡ out.old.items }
 {
     for byte in body {
@@ -115,7 +117,7 @@ fn push_characters(out: &mut Vec<u8>, style: Style, body: &[u8]) -> Result<(), M
     Ok(())
 }
 
-// What is left after the characters that stand bare.
+// The part of a body after its first characters without a backslash.
 fn behind_bare(style: Style, body: &[u8]) -> &[u8]
     ensures { result.now ≡ skip_while (is_bare style) body.now }
 {
@@ -125,14 +127,14 @@ fn behind_bare(style: Style, body: &[u8]) -> &[u8]
     }
 }
 
-// The bytes before what is left.
+// The bytes of `all` before its end `rest`.
 fn before<'a>(all: &'a [u8], rest: &[u8]) -> &'a [u8]
     ensures { result.now ≡ take (length all.now - length rest.now) all.now }
 {
     &all[..all.len().saturating_sub(rest.len())]
 }
 
-// Puts bytes as they are.
+// Appends bytes unchanged.
 #[tactic(auto, using(crate::proofs::Kept::keeping))]
 fn push_bytes(out: &mut Vec<u8>, bytes: &[u8]) -> Result<(), Memory>
     ensures put { OnOk result (out.new.items ≡ out.old.items ++ bytes.now) }
@@ -142,9 +144,9 @@ fn push_bytes(out: &mut Vec<u8>, bytes: &[u8]) -> Result<(), Memory>
     Ok(())
 }
 
-// Most bodies have bare characters alone: these are put at once.
+// Appends the spelling of a body. Most bodies need no backslash: their characters are appended all at once.
 fn push_body(out: &mut Vec<u8>, style: Style, body: &[u8]) -> Result<(), Memory>
-    ensures spelled { OnOk result (out.new.items ≡ out.old.items ++ flat_map (character style) body.now) }
+    ensures spelled { OnOk result (out.new.items ≡ out.old.items ++ flat_map (style_character style) body.now) }
     ensures kept { take (length out.old.items) out.new.items ≡ out.old.items }
 {
     let rest = behind_bare(style, body);
@@ -152,13 +154,13 @@ fn push_body(out: &mut Vec<u8>, style: Style, body: &[u8]) -> Result<(), Memory>
     push_characters(out, style, rest)
 }
 
-/// Puts the spelling of a text after what `out` holds: its lead, its body character by character, and its trail.
-/// Where memory runs out, a prefix of it may stand there.
+/// Appends the spelling of a text to `out`: its lead, its body character by character, and its trail. If memory runs
+/// out, a prefix of the spelling may have been appended.
 #[tactic(auto, using(crate::proofs::Kept::keeping))]
 pub fn push_spelling(out: &mut Vec<u8>, style: Style, text: &Pattern) -> Result<(), Memory>
     ensures spelled { OnOk result (out.new.items ≡ out.old.items ++ spelling style text.now) }
 
-    // What stood there stays, whatever the answer.
+    // The earlier bytes of `out` are unchanged, whatever the result.
     ensures kept { take (length out.old.items) out.new.items ≡ out.old.items }
 {
     push_edge(out, text.lead())?;

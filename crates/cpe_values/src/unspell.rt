@@ -13,7 +13,7 @@ use crate::value::{Edge, Pattern, own_text, text_of};
 use out_of_memory::Memory;
 use std::alloc::Global;
 
-// How many marks stand at the start.
+// The number of question marks at the start.
 fn count_marks(bytes: &[u8]) -> usize
     ensures count { result ≡ marks_count bytes.now }
     ensures within { result ≤ length bytes.now }
@@ -21,7 +21,7 @@ fn count_marks(bytes: &[u8]) -> usize
     bytes.iter().take_while(|byte| **byte == b'?').count()
 }
 
-// The special at the start, and what is left after it.
+// The lead or trail at the start, and the bytes after it.
 fn split_edge(bytes: &[u8]) -> (Edge, &[u8])
     requires { marks_count bytes.now < 2 ^ 32 }
     ensures edge { result.0 ≡ edge_at bytes.now }
@@ -37,7 +37,7 @@ fn split_edge(bytes: &[u8]) -> (Edge, &[u8])
     }
 }
 
-// The next character of a body, if one stands there, and what is left after it.
+// The next character of a body, and the bytes after it. The result is `None` if the body is over.
 #[tactic(auto, unfolding(crate::specs::Unspelling::body_at, crate::specs::Unspelling::behind_body))]
 fn next_character(bytes: &[u8]) -> Option<(u8, &[u8])>
     ensures body { MatchOption result (body_at bytes.now ≡ []) (λ x. body_at bytes.now ≡ x.0 ∷ body_at x.1.now) }
@@ -51,7 +51,7 @@ fn next_character(bytes: &[u8]) -> Option<(u8, &[u8])>
     }
 }
 
-// The body at the start, without its backslashes, and what is left after it.
+// The body at the start, without its backslashes, and the bytes after it.
 fn split_body(alloc: Global, bytes: &[u8]) -> Result<(Vec<u8>, &[u8]), Memory>
     ensures body { IfOk result (λ x. x.0.items ≡ body_at bytes.now) }
     ensures rest { IfOk result (λ x. x.1.now ≡ behind_body bytes.now) }
@@ -65,7 +65,7 @@ fn split_body(alloc: Global, bytes: &[u8]) -> Result<(Vec<u8>, &[u8]), Memory>
     Ok((body, rest))
 }
 
-// The text at the start, its body taken character by character.
+// The text at the start. Its body is read character by character.
 #[tactic(auto, using(crate::proofs::Unspelled::marks_fit))]
 fn split_text(alloc: Global, bytes: &[u8]) -> Result<Pattern, Memory>
     requires { IsText (parts_at bytes.now) }
@@ -77,14 +77,14 @@ fn split_text(alloc: Global, bytes: &[u8]) -> Result<Pattern, Memory>
     own_text(alloc, lead, body, trail)
 }
 
-// Whether a body ends at the start: at a special, or at the end of the spelling.
+// Whether the body is over: the next byte is a special, or there is none.
 fn ends_body(bytes: &[u8]) -> bool
     ensures { result ≡ ends_body bytes.now }
 {
     matches!(bytes, [] | [b'*' | b'?', ..])
 }
 
-// The body at the start, and what is left after it, where the body stands there as it is.
+// The body at the start, borrowed, and the bytes after it. The result is `None` if the body has a backslash.
 #[inline(always)]
 fn lend_body(bytes: &[u8]) -> Option<(&[u8], &[u8])>
     ensures body { IfSome result (λ x. x.0.now ≡ body_at bytes.now) }
@@ -108,7 +108,7 @@ fn lend_text(bytes: &[u8]) -> Option<TextRef<'_>>
     Some(TextRef { lead, stem, trail })
 }
 
-// The text at the start. Where its body stands there as it is, it is copied at once.
+// The text at the start. If its body has no backslash, it is copied all at once.
 fn read_text(alloc: Global, bytes: &[u8]) -> Result<Pattern, Memory>
     requires { IsText (parts_at bytes.now) }
     ensures { IfOk result (λ text. text ≡ parts_at bytes.now) }
@@ -119,10 +119,10 @@ fn read_text(alloc: Global, bytes: &[u8]) -> Result<Pattern, Memory>
     }
 }
 
-/// The text that is spelled so, in one style or the other: no two texts are spelled alike.
+/// The text with this spelling, in either style. No two texts have the same spelling.
 ///
 /// # Errors
-/// Only that memory ran out.
+/// `Memory` if memory runs out; there is no other error.
 pub fn read_spelling(alloc: Global, bytes: &[u8]) -> Result<Pattern, Memory>
     requires { IsSpelling bytes.now }
     ensures { (style : Style) (t : Parts) → IsText t → spelling style t ≡ bytes.now → IfOk result (λ text. text ≡ t) }
@@ -130,8 +130,7 @@ pub fn read_spelling(alloc: Global, bytes: &[u8]) -> Result<Pattern, Memory>
     read_text(alloc, bytes)
 }
 
-/// The text that is spelled so, borrowed from its spelling where its body stands there as it is: `None` where a
-/// character stands after a backslash.
+/// The text with this spelling, borrowed. The result is `None` if the body has a backslash. Allocates: no.
 pub fn lend_spelling(bytes: &[u8]) -> Option<TextRef<'_>>
     requires { IsSpelling bytes.now }
     ensures { (style : Style) (t : Parts) → IsText t → spelling style t ≡ bytes.now → IfSome result (λ text. text_lent text ≡ t) }

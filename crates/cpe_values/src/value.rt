@@ -1,9 +1,9 @@
-// What an attribute may have.
+// The values of an attribute.
 ghost use Rattle.std.specs.Prelude.{◌≡◌, ◌≢◌, ◌≤◌, IfOk, IfErr, IfSome, IsTrue, OnOk, Err, length, position, not, ◌||◌, false};
 ghost use Rattle.cpe_values.specs.declared.short.TheConstants.{SHORT};
 ghost use Rattle.cpe_values.specs.declared.value.Edge.TheVariants as edge;
 ghost use Rattle.cpe_values.specs.Parts.{parts, is_character, is_nothing, has_special, IsEdge, IsText};
-ghost use Rattle.cpe_values.specs.Faults.{first_fault, is_lone_hyphen, has_no_marks};
+ghost use Rattle.cpe_values.specs.Faults.{first_value_fault, is_lone_hyphen, has_no_marks};
 ghost use Rattle.cpe_values.specs.Values.{IsValue};
 ghost use Rattle.cpe_values.specs.Lower.{has_specials};
 
@@ -14,29 +14,29 @@ use std::alloc::Global;
 use std::marker::Model;
 use thiserror::Error;
 
-/// What stands before or after the body of a text: nothing, or unquoted special characters (NIST IR 7695, 5.3).
+/// The lead or the trail of a text: nothing, or special characters without a backslash (NIST IR 7695, 5.3).
 #[derive(Clone, Copy, Debug, PartialEq, Eq, Hash)]
 pub enum Edge {
-    /// Nothing.
+    /// No special.
     None,
-    /// One asterisk: any characters may stand here.
+    /// One asterisk, which matches any number of characters.
     Star,
-    /// So many question marks: at most so many characters may stand here. A text has at least one.
+    /// This number of question marks, which match at most as many characters. In a text the number is at least 1.
     Marks(u32),
 }
 
-/// A text: a lead, a body of printable ASCII characters without quoting, and a trail (NIST IR 7695, 5.3).
+/// A text: a lead, a body of printable ASCII characters without backslashes, and a trail (NIST IR 7695, 5.3).
 ///
-/// Contracts see it as these three parts. Its body is not empty, and a text without specials is not one hyphen.
+/// Contracts see these three parts. The body is not empty. A text without specials is not a single hyphen.
 #[derive(Debug, Drop)]
 pub struct Pattern {
-    pub(crate) form: Form,
+    pub(crate) form: ValueForm,
 }
 
-// Names, with eleven values each, are kept by the million, and most of their texts are short and have no special: such a text
-// lies in its value, any other one elsewhere.
+// How a text is stored. Programs keep millions of names with eleven values each. Most texts are short and have no
+// special. Such a text is stored inside its value, and any other text in a box.
 #[derive(Debug, Drop)]
-pub(crate) enum Form {
+pub(crate) enum ValueForm {
     Short(ShortBody),
     Long(Box<LongText>),
 }
@@ -59,7 +59,7 @@ impl Model for Pattern {
     ghost invariant = { λ p. IsText (form_parts p.form) };
 }
 
-/// What an attribute has.
+/// A value of an attribute.
 #[derive(Debug, Drop)]
 pub enum Value {
     /// The logical value ANY (NIST IR 7695, 5.3).
@@ -70,22 +70,22 @@ pub enum Value {
     Text(Pattern),
 }
 
-// (a name takes 264 bytes)
+// (so the eleven values of a name take 264 bytes)
 const _: () = prove!(size_of::<Value>() == 24);
 
-/// Why a lead, a body and a trail make no text: the first cause, in this order.
+/// Why a lead, a body and a trail make no text. The first fault in this order is returned.
 #[derive(Clone, Copy, Debug, PartialEq, Eq, Error)]
 pub enum ValueFault {
     /// The body has no character.
     #[error("the body is empty")]
     EmptyBody,
-    /// The first byte of the body outside `!` to `~`, by its place from 0.
+    /// A byte of the body is outside `!` to `~`. The number is the place of the first such byte, from 0.
     #[error("byte {0} of the body is not printable")]
     NotPrintable(usize),
-    /// The body is one hyphen between two empty edges, which is how NA is written.
+    /// The body is one hyphen, without specials; this text means NA.
     #[error("a text without specials is not one hyphen")]
     LoneHyphen,
-    /// An edge has no question mark where it should have some.
+    /// The lead or the trail is `Marks` with the number 0.
     #[error("an edge has no marks")]
     ZeroMarks,
     /// Memory ran out.
@@ -93,41 +93,41 @@ pub enum ValueFault {
     Memory,
 }
 
-// The place of the first byte that no body has.
+// The place of the first byte that is not printable.
 fn first_unprintable(body: &[u8]) -> Option<usize>
     ensures { result ≡ position (λ c. not (is_character c)) body.now }
 {
     body.iter().position(|byte| !is_printable_byte(*byte))
 }
 
-// Whether one of two edges is a special.
+// Whether the lead or the trail has a special.
 pub(crate) fn is_special(lead: Edge, trail: Edge) -> bool
     ensures { result ≡ (not (is_nothing lead) || not (is_nothing trail)) }
 {
     !matches!((lead, trail), (Edge::None, Edge::None))
 }
 
-// The text of these parts, whose body lies elsewhere.
+// The text of these parts, stored in a box.
 fn long_text(alloc: Global, lead: Edge, body: Vec<u8>, trail: Edge) -> Result<Pattern, Memory>
     requires { IsText (parts lead body.items trail) }
     ensures { IfOk result (λ p. p ≡ parts lead body.items trail) }
 {
     let text = Box::new(alloc, LongText { lead, body, trail })?;
-    let form = Form::Long(text);
+    let form = ValueForm::Long(text);
     Ok(Pattern { form })
 }
 
-// The text without specials of a short body.
+// The text without specials that has this short body.
 fn short_text(body: &[u8]) -> Pattern
     requires short { length body.now ≤ SHORT }
     requires text { IsText (parts edge.None body.now edge.None) }
     ensures { result ≡ parts edge.None body.now edge.None }
 {
-    let form = Form::Short(ShortBody::new(body));
+    let form = ValueForm::Short(ShortBody::new(body));
     Pattern { form }
 }
 
-// The text of these parts.
+// The text of these parts, made from an owned body.
 pub(crate) fn own_text(
     alloc: Global,
     lead: Edge,
@@ -143,7 +143,7 @@ pub(crate) fn own_text(
     long_text(alloc, lead, body, trail)
 }
 
-// The text of these parts, its body copied.
+// The text of these parts, with a copy of the body.
 pub(crate) fn text_of(
     alloc: Global,
     lead: Edge,
@@ -160,7 +160,7 @@ pub(crate) fn text_of(
     long_text(alloc, lead, body, trail)
 }
 
-// Whether the text of these parts has no special, and a body that a value has room for.
+// Whether the text of these parts can be stored inside its value: it has no special, and its body is short.
 fn is_short(lead: Edge, body: &[u8], trail: Edge) -> bool
     ensures { IsTrue result → (lead ≡ edge.None) × (trail ≡ edge.None) × (length body.now ≤ SHORT) }
 {
@@ -187,15 +187,15 @@ impl Pattern {
     /// The text of these parts.
     ///
     /// # Errors
-    /// The first cause why they make none, whatever the memory; else `Memory` alone.
+    /// The first fault of the parts, even if memory runs out. `Memory` if memory runs out and the parts have no fault.
     pub fn new(alloc: Global, lead: Edge, body: &[u8], trail: Edge) -> Result<Pattern, ValueFault>
         ensures text { IfOk result (λ p. p ≡ parts lead body.now trail) }
         ensures lawful { OnOk result (IsText (parts lead body.now trail)) }
 
-        // What is a text is refused only where memory runs out, and what has a fault is refused for the first one.
+        // Parts of a text are refused only if memory runs out. Other parts are refused with their first fault.
         ensures made { IsText (parts lead body.now trail) → IfErr result (λ f. f ≡ ValueFault.Memory) }
-        ensures refused { IfSome (first_fault (parts lead body.now trail)) (λ f. result ≡ Err f) }
-        ensures fault { IfErr result (λ f. f ≢ ValueFault.Memory → first_fault (parts lead body.now trail) ≡ Some f) }
+        ensures refused { IfSome (first_value_fault (parts lead body.now trail)) (λ f. result ≡ Err f) }
+        ensures fault { IfErr result (λ f. f ≢ ValueFault.Memory → first_value_fault (parts lead body.now trail) ≡ Some f) }
     {
         if body.is_empty() {
             return Err(ValueFault::EmptyBody);
@@ -215,39 +215,39 @@ impl Pattern {
         }
     }
 
-    /// What stands before the body.
+    /// The specials before the body, if any.
     pub fn lead(&self) -> Edge
         ensures { result ≡ self.now.lead }
     {
         match &self.form {
-            Form::Short(_) => Edge::None,
-            Form::Long(text) => text.lead,
+            ValueForm::Short(_) => Edge::None,
+            ValueForm::Long(text) => text.lead,
         }
     }
 
-    /// The body, without quoting.
+    /// The body, without backslashes.
     pub fn stem(&self) -> &[u8]
         ensures { result.now ≡ self.now.body }
     {
         match &self.form {
-            Form::Short(body) => body.as_slice(),
-            Form::Long(text) => &text.body,
+            ValueForm::Short(body) => body.as_slice(),
+            ValueForm::Long(text) => &text.body,
         }
     }
 
-    /// What stands after the body.
+    /// The specials after the body, if any.
     pub fn trail(&self) -> Edge
         ensures { result ≡ self.now.trail }
     {
         match &self.form {
-            Form::Short(_) => Edge::None,
-            Form::Long(text) => text.trail,
+            ValueForm::Short(_) => Edge::None,
+            ValueForm::Long(text) => text.trail,
         }
     }
 }
 
 impl Pattern {
-    /// Every text is lawful: it has the parts of one. It does nothing.
+    /// Law: the parts of a text are lawful.
     pub fn lawful(&self)
         ensures { IsText self.now }
     {
@@ -261,19 +261,19 @@ impl Pattern {
         is_special(self.lead(), self.trail())
     }
 
-    /// The same text again.
+    /// A copy of the text.
     ///
     /// # Errors
-    /// Only that memory ran out.
+    /// `Memory` if memory runs out; there is no other error.
     pub fn copy(&self, alloc: Global) -> Result<Pattern, Memory>
         ensures { IfOk result (λ p. p ≡ self.now) }
     {
         self.lawful();
         match &self.form {
-            Form::Short(body) => Ok(Pattern {
-                form: Form::Short(body.copy()),
+            ValueForm::Short(body) => Ok(Pattern {
+                form: ValueForm::Short(body.copy()),
             }),
-            Form::Long(text) => {
+            ValueForm::Long(text) => {
                 let body = Vec::from_slice(alloc, &text.body)?;
                 long_text(alloc, text.lead, body, text.trail)
             }
@@ -292,10 +292,10 @@ impl Value {
         }
     }
 
-    /// The same value again.
+    /// A copy of the value.
     ///
     /// # Errors
-    /// Only that memory ran out.
+    /// `Memory` if memory runs out; there is no other error.
     pub fn copy(&self, alloc: Global) -> Result<Value, Memory>
         ensures { IfOk result (λ v. v ≡ self.now) }
     {
@@ -306,7 +306,7 @@ impl Value {
         }
     }
 
-    /// Every value is lawful: a text has the parts of one. It does nothing.
+    /// Law: a value is ANY, NA, or a text with lawful parts.
     pub fn lawful(&self)
         ensures { IsValue self.now }
     {

@@ -1,4 +1,4 @@
--- The states between are lawful where the last one is: no edge is new, and what is done ends as it will.
+-- Lemmas: if the last state of a filling is lawful, each state before it is lawful too.
 use Rattle.std.proofs.Common.{◌≡◌, ◌≢◌, ◌⊎◌, ℕ, zero, suc, ◌+◌, ◌<◌, ◌≤◌, Bool, true, false, List, [], ◌∷◌, length, get_or, cond, refl, sym, ap, subst, ◌∙◌, inl, inr, arith, Option, Some, None, slice_get, slice_set}
 use Rattle.std.specs.List.{Contains, position_from, range_with_len}
 use Rattle.std.specs.List.Sorted.{IsStrictlyIncreasing}
@@ -9,8 +9,8 @@ use Rattle.list_pool.proofs.SlotReads.{slice_get-set_same, slice_get-set_other}
 use Rattle.deprecation_graph.specs.declared.limits.TheConstants.{MOST_ENDS}
 use Rattle.deprecation_graph.specs.Paths.{HasEdge, Leads, IsClosed, IsAcyclic}
 use Rattle.deprecation_graph.specs.Chains.{reaches}
-use Rattle.deprecation_graph.specs.Graph.{Node, next_or_none, active_or_not, next_in, active_in, ends_in, successors, node_of, changed_nodes, IsLawful}
-use Rattle.deprecation_graph.specs.Faults.{cycle_in, is_wide_node, wide_in, first_fault, change_fault}
+use Rattle.deprecation_graph.specs.Graph.{Node, next_or_none, active_or_not, next_of_node, active_in, ends_in, successors, node_of, changed_nodes, IsLawfulGraph}
+use Rattle.deprecation_graph.specs.Faults.{cycle_in, is_wide_node, wide_in, first_graph_fault, change_fault}
 use Rattle.deprecation_graph.proofs.Rising.{Contains-range, Contains-rest, length-le_rising}
 use Rattle.deprecation_graph.proofs.PathLemmas.{Leads-self, Leads-cons, Leads-back, Leads-forth, Leads-last}
 use Rattle.deprecation_graph.proofs.ChainLemmas.{reaches-leads, Contains-ends, ends_rising}
@@ -18,45 +18,45 @@ use Rattle.deprecation_graph.proofs.GraphLemmas.{find-None}
 use Rattle.deprecation_graph.specs.Between.{IsBetween}
 
 module _ {nodes now : List Node} {is_done : ℕ → Bool} (between : IsBetween nodes now is_done) where
-  -- no edge is new, and each leads from what is done
-  edge_is_done : (a b : ℕ) → HasEdge (next_in now) a b → is_done a ≡ true
+  -- each edge of the state starts at a node that is done
+  edge_is_done : (a b : ℕ) → HasEdge (next_of_node now) a b → is_done a ≡ true
   edge_is_done a b edge = elim (cases_Bool (is_done a)) [
     | inl e ↦ e
     | inr e ↦ absurd (omega (arith, edge.1, ap length (between.bare a e)))
   ]
 
-  pub old_edge : (a b : ℕ) → HasEdge (next_in now) a b → HasEdge (next_in nodes) a b
+  pub old_edge : (a b : ℕ) → HasEdge (next_of_node now) a b → HasEdge (next_of_node nodes) a b
   old_edge a b edge = subst (λ (ys : List ℕ). Contains ys b) (ap next_or_none (between.done a (edge_is_done a b edge))) edge
 
-  pub old_path : (a b : ℕ) → Leads (next_in now) a b → Leads (next_in nodes) a b
-  old_path a b l = Leads-back (λ x. Leads (next_in nodes) x b) (Leads-self b) (λ x y edge _ r. Leads-cons (old_edge x y edge) r) l
+  pub old_path : (a b : ℕ) → Leads (next_of_node now) a b → Leads (next_of_node nodes) a b
+  old_path a b l = Leads-back (λ x. Leads (next_of_node nodes) x b) (Leads-self b) (λ x y edge _ r. Leads-cons (old_edge x y edge) r) l
 
-  -- what is done leads to what is done
-  path_is_done : (a b : ℕ) → is_done a ≡ true → Leads (next_in now) a b → is_done b ≡ true
+  -- a path from a node that is done leads only to nodes that are done
+  path_is_done : (a b : ℕ) → is_done a ≡ true → Leads (next_of_node now) a b → is_done b ≡ true
   path_is_done a b e l = Leads-forth (λ x. is_done x ≡ true) (λ x y edge h. between.first x y h (old_edge x y edge)) l e
 
-  module _ (ok : IsLawful nodes) where
-    closed_between : IsClosed (next_in now) (length now)
+  module _ (ok : IsLawfulGraph nodes) where
+    closed_between : IsClosed (next_of_node now) (length now)
     closed_between a b lt edge = omega (arith, between.count, ok.closed a b (omega (arith, between.count)) (old_edge a b edge))
 
-    acyclic_between : IsAcyclic (next_in now)
+    acyclic_between : IsAcyclic (next_of_node now)
     acyclic_between a b edge l = ok.acyclic a b (old_edge a b edge) (old_path b a l)
 
-    bare_between : (a : ℕ) → active_in now a ≡ true → next_in now a ≡ []
+    bare_between : (a : ℕ) → active_in now a ≡ true → next_of_node now a ≡ []
     bare_between a active = elim (cases_Bool (is_done a)) [
       | inl e ↦ ap next_or_none (between.done a e) ∙ ok.bare a (sym (ap active_or_not (between.done a e)) ∙ active)
       | inr e ↦ between.bare a e
     ]
 
-    -- what is done ends as it will, and what isn't at itself
+    -- a node that is done has its last ends, and any other node is its own only end
     narrow_between : (a : ℕ) → a < length now → length (ends_in now a) ≤ MOST_ENDS
     narrow_between a lt = go (cases_Bool (is_done a))
       where
-        here : (b : ℕ) → Contains (ends_in now a) b → Leads (next_in now) a b × (active_in now b ≡ true)
-        here b c = (Contains-ends (next_in now) (active_in now) (length now) a closed_between lt b).0 c
+        here : (b : ℕ) → Contains (ends_in now a) b → Leads (next_of_node now) a b × (active_in now b ≡ true)
+        here b c = (Contains-ends (next_of_node now) (active_in now) (length now) a closed_between lt b).0 c
 
         rising : IsStrictlyIncreasing (ends_in now a)
-        rising = ends_rising (next_in now) (active_in now) (length now) a
+        rising = ends_rising (next_of_node now) (active_in now) (length now) a
 
         go : (is_done a ≡ true) ⊎ (is_done a ≡ false) → length (ends_in now a) ≤ MOST_ENDS
         go (inl e) =
@@ -66,7 +66,7 @@ module _ {nodes now : List Node} {is_done : ℕ → Bool} (between : IsBetween n
               ok.narrow a below,
               length-le_rising (ends_in now a) (ends_in nodes a) rising (λ b c.
                   let h = here b c in
-                  (Contains-ends (next_in nodes) (active_in nodes) (length nodes) a ok.closed below b).1
+                  (Contains-ends (next_of_node nodes) (active_in nodes) (length nodes) a ok.closed below b).1
                   (old_path a b h.0, sym (ap active_or_not (between.done b (path_is_done a b e h.0))) ∙ h.1)),
             )
         go (inr e) = omega (
@@ -75,7 +75,7 @@ module _ {nodes now : List Node} {is_done : ℕ → Bool} (between : IsBetween n
               (0, omega arith, Leads-last (λ y edge. omega (arith, edge.1, ap length (between.bare a e))) (here b c).0)),
         )
 
-    pub lawful_between : IsLawful now
+    pub lawful_between : IsLawfulGraph now
     lawful_between = record {
       few = omega (arith, between.count, ok.few);
       closed = closed_between;
@@ -84,7 +84,7 @@ module _ {nodes now : List Node} {is_done : ℕ → Bool} (between : IsBetween n
       narrow = narrow_between;
     }
 
--- the same states by an equal test
+-- a state for a test of done nodes is also a state for any equal test
 pub between_same : {nodes now : List Node} {was is : ℕ → Bool} → IsBetween nodes now was → ((a : ℕ) → is a ≡ was a) → IsBetween nodes now is
 between_same {nodes} {now} {was} {is} between same = record {
   count = between.count;
@@ -101,13 +101,13 @@ position_from-None p k (x ∷ xs) h =
     ap (λ (b : Bool). cond b (Some k) (position_from p (k + 1) xs)) (h x (0, omega arith, refl))
     ∙ position_from-None p (k + 1) xs (λ y c. h y (Contains-rest y x xs c))
 
--- a node that is done next, in place of what it was
+-- the test `is` differs from `was` only at node a, which is done next
 pub record IsNext (nodes : List Node) (was is : ℕ → Bool) (a : ℕ) (to : Option (List ℕ)) : Type 0 where
   pub place : a < length nodes
   pub node : slice_get nodes a ≡ Some (node_of to)
   pub now : is a ≡ true
   pub others : (b : ℕ) → b ≢ a → is b ≡ was b
-  pub ready : (b : ℕ) → HasEdge (next_in nodes) a b → was b ≡ true
+  pub ready : (b : ℕ) → HasEdge (next_of_node nodes) a b → was b ≡ true
 
 module _ {nodes now : List Node} {was is : ℕ → Bool} {a : ℕ} {to : Option (List ℕ)} (between : IsBetween nodes now was)
     (next : IsNext nodes was is a to) where
@@ -130,19 +130,19 @@ module _ {nodes now : List Node} {was is : ℕ → Bool} {a : ℕ} {to : Option 
       | inr ne ↦ ap next_or_none (slice_get-set_other now a b (node_of to) ne) ∙ between.bare b (sym (next.others b ne) ∙ e)
     ];
     first = λ b c e edge. elim (cases_eq b a) [
-      | inl same ↦ kept c (next.ready c (subst (λ (x : ℕ). HasEdge (next_in nodes) x c) same edge))
+      | inl same ↦ kept c (next.ready c (subst (λ (x : ℕ). HasEdge (next_of_node nodes) x c) same edge))
       | inr ne ↦ kept c (between.first b c (sym (next.others b ne) ∙ e) edge)
     ];
   }
 
-  -- so a change that is refused shows that the last state isn't lawful
-  pub allowed_between : IsLawful nodes → change_fault now a to ≡ None
-  allowed_between ok = ap (λ (cycle : Option ℕ). first_fault cycle (wide_in (changed_nodes now a to))) no_cycle ∙ ap (first_fault None) not_wide
+  -- if the last state is lawful, the change is allowed
+  pub allowed_between : IsLawfulGraph nodes → change_fault now a to ≡ None
+  allowed_between ok = ap (λ (cycle : Option ℕ). first_graph_fault cycle (wide_in (changed_nodes now a to))) no_cycle ∙ ap (first_graph_fault None) not_wide
     where
-      after : IsLawful (changed_nodes now a to)
+      after : IsLawfulGraph (changed_nodes now a to)
       after = lawful_between between_changed ok
 
-      edge : (b : ℕ) → Contains (successors to) b → HasEdge (next_in nodes) a b
+      edge : (b : ℕ) → Contains (successors to) b → HasEdge (next_of_node nodes) a b
       edge b c = subst (λ (ys : List ℕ). Contains ys b) (sym (ap next_or_none next.node ∙ next_of to)) c
         where
           next_of : (o : Option (List ℕ)) → next_or_none (Some (node_of o)) ≡ successors o
@@ -150,9 +150,9 @@ module _ {nodes now : List Node} {was is : ℕ → Bool} {a : ℕ} {to : Option 
           next_of (Some ys) = refl
 
       no_cycle : cycle_in now a (successors to) ≡ None
-      no_cycle = position_from-None (λ b. reaches (next_in now) (length now) b a) 1 (successors to)
-          (λ b c. elim (cases_Bool (reaches (next_in now) (length now) b a)) [
-            | inl led ↦ absurd (ok.acyclic a b (edge b c) (old_path between b a (reaches-leads (next_in now) (length now) b a led)))
+      no_cycle = position_from-None (λ b. reaches (next_of_node now) (length now) b a) 1 (successors to)
+          (λ b c. elim (cases_Bool (reaches (next_of_node now) (length now) b a)) [
+            | inl led ↦ absurd (ok.acyclic a b (edge b c) (old_path between b a (reaches-leads (next_of_node now) (length now) b a led)))
             | inr not_led ↦ not_led
           ])
 
@@ -160,7 +160,7 @@ module _ {nodes now : List Node} {was is : ℕ → Bool} {a : ℕ} {to : Option 
       not_wide = find-None (is_wide_node (changed_nodes now a to)) (range_with_len 0 (length (changed_nodes now a to))) (λ x c.
           le-ltb MOST_ENDS (length (ends_in (changed_nodes now a to) x)) (after.narrow x ((Contains-range (length (changed_nodes now a to)) x).0 c)))
 
--- where all are done the state is the last one
+-- if all nodes are done, the state is the last one
 pub all_are_done : {nodes now : List Node} {is_done : ℕ → Bool} → IsBetween nodes now is_done → ((a : ℕ) → a < length nodes → is_done a ≡ true)
     → now ≡ nodes
 all_are_done {nodes} {now} {is_done} between all = same_lists now nodes between.count (λ k d lt.

@@ -1,4 +1,4 @@
--- A search that scans what it found finds exactly what paths lead to.
+-- Lemmas: a search by scans of one vector finds exactly the numbers to which paths lead.
 use Rattle.std.proofs.Common.{◌≡◌, ◌⊎◌, ℕ, ◌+◌, ◌<◌, ◌≤◌, Bool, true, false, cond, eqb, List, [], ◌∷◌, ◌++◌, length, take, get_or, refl, sym, ap, subst, ◌∙◌, inl, inr, arith, eq-eqb, Some}
 use Rattle.std.specs.List.{Contains, IsDistinct, list_any}
 use Rattle.std.specs.List.Sorted.{IsPermutation, IsSorted}
@@ -12,11 +12,11 @@ use Rattle.std.proofs.lemmas.Map.Keys.{IsDistinct-push, IsDistinct-IsPermutation
 use Rattle.std.proofs.lemmas.Option.{slice_get-get_or}
 use Rattle.deprecation_graph.specs.Paths.{HasEdge, Leads, IsClosed}
 use Rattle.deprecation_graph.specs.Chains.{IsChain}
-use Rattle.deprecation_graph.specs.Searches.{with_one, Adds}
+use Rattle.deprecation_graph.specs.Searches.{with_number, AddsNumber}
 use Rattle.deprecation_graph.proofs.Rising.{is_in, Contains-is_in, Contains-cases, Contains-any, any-Contains}
 use Rattle.deprecation_graph.proofs.PathLemmas.{Leads-self, Leads-then, Leads-forth, Leads-below}
 
--- ---- numbers that are added
+-- ---- adding numbers
 
 only_one : (x y : ℕ) → Contains (x ∷ []) y → x ≡ y
 only_one x y c = elim (Contains-cases y x [] c) [ inl same ↦ sym same | inr d ↦ absurd (omega (arith, d.1)) ]
@@ -27,10 +27,10 @@ absent x xs e = elim (cases_Bool (is_in x xs)) [
   | inr f ↦ f
 ]
 
-pub one_added : (found : List ℕ) (x : ℕ) → Adds found (with_one found x) (x ∷ [])
+pub one_added : (found : List ℕ) (x : ℕ) → AddsNumber found (with_number found x) (x ∷ [])
 one_added found x = go (list_any (λ y. eqb y x) found) refl
   where
-    go : (b : Bool) → list_any (λ y. eqb y x) found ≡ b → Adds found (cond b found (found ++ x ∷ [])) (x ∷ [])
+    go : (b : Bool) → list_any (λ y. eqb y x) found ≡ b → AddsNumber found (cond b found (found ++ x ∷ [])) (x ∷ [])
     go true e = record {
       longer = omega arith;
       prefix = λ k d lt. refl;
@@ -46,7 +46,7 @@ one_added found x = go (list_any (λ y. eqb y x) found) refl
       apart = λ h. IsDistinct-push nat_eq_equiv found x h (absent x found e);
     }
 
-pub Adds-none : (found : List ℕ) → Adds found found []
+pub Adds-none : (found : List ℕ) → AddsNumber found found []
 Adds-none found = record {
   longer = omega arith;
   prefix = λ k d lt. refl;
@@ -55,10 +55,10 @@ Adds-none found = record {
   apart = λ h. h;
 }
 
-pub Adds-kept : {old new ys : List ℕ} → Adds old new ys → (x : ℕ) → Contains old x → Contains new x
+pub Adds-kept : {old new ys : List ℕ} → AddsNumber old new ys → (x : ℕ) → Contains old x → Contains new x
 Adds-kept {old} {new} {ys} h x c = (c.0, omega (arith, c.1, h.longer), h.prefix c.0 x c.1 ∙ c.2)
 
-Adds-then : {old now new ys zs : List ℕ} → Adds old now ys → Adds now new zs → Adds old new (ys ++ zs)
+Adds-then : {old now new ys zs : List ℕ} → AddsNumber old now ys → AddsNumber now new zs → AddsNumber old new (ys ++ zs)
 Adds-then {old} {now} {new} {ys} {zs} h k = record {
   longer = omega (arith, h.longer, k.longer);
   prefix = λ i d lt. k.prefix i d (omega (arith, lt, h.longer)) ∙ h.prefix i d lt;
@@ -70,13 +70,14 @@ Adds-then {old} {now} {new} {ys} {zs} h k = record {
   apart = λ d. k.apart (h.apart d);
 }
 
--- a loop's step: the next number of a list
-pub Adds-more : {old now new : List ℕ} (ys : List ℕ) (i d : ℕ) → i < length ys → Adds old now (take i ys) → new ≡ with_one now (get_or ys i d) → Adds old new (take (i + 1) ys)
-Adds-more {old} {now} {new} ys i d lt h e = subst (Adds old new) (sym (take_more ys i d lt)) (Adds-then h (subst (λ (xs : List ℕ). Adds now xs (get_or ys i d ∷ [])) (sym e) (one_added now (get_or ys i d))))
+-- the step of a loop: the next number of a list is added
+pub Adds-more : {old now new : List ℕ} (ys : List ℕ) (i d : ℕ) → i < length ys → AddsNumber old now (take i ys) → new ≡ with_number now (get_or ys i d) → AddsNumber old new (take (i + 1) ys)
+Adds-more {old} {now} {new} ys i d lt h e = subst (AddsNumber old new) (sym (take_more ys i d lt)) (Adds-then h (subst (λ (xs : List ℕ). AddsNumber now xs (get_or ys i d ∷ [])) (sym e) (one_added now (get_or ys i d))))
 
--- ---- the search
+-- ---- the search: its state, step by step
 
--- what is found is led to, and what stands before the place has its successors found
+-- the state of the search: paths lead to all found numbers, and the successors of the numbers before the place are
+-- found too
 pub record Reads (next : ℕ → List ℕ) (start : ℕ) (found : List ℕ) (place : ℕ) : Type 0 where
   pub started : Contains found start
   pub led : (x : ℕ) → Contains found x → Leads next start x
@@ -97,7 +98,7 @@ any_default xs k d e lt = some (get_or xs k d) (get_or xs k e) (sym (slice_get-g
     some : (x y : ℕ) → Some x ≡ Some y → x ≡ y
     some x y f = cc
 
-pub reads_step : (next : ℕ → List ℕ) (start place d : ℕ) {found new ys : List ℕ} → place < length found → ys ≡ next (get_or found place d) → Reads next start found place → Adds found new ys → Reads next start new (place + 1)
+pub reads_step : (next : ℕ → List ℕ) (start place d : ℕ) {found new ys : List ℕ} → place < length found → ys ≡ next (get_or found place d) → Reads next start found place → AddsNumber found new ys → Reads next start new (place + 1)
 reads_step next start place d {found} {new} {ys} within e h a = record {
   started = Adds-kept a start h.started;
   led = λ x c. elim (a.only x c) [
@@ -125,7 +126,7 @@ flips x y = go (cases_Bool (eqb x y)) (cases_Bool (eqb y x))
     go (inr e) (inr f) = e ∙ sym f
     go (inr e) (inl f) = absurd (both_ways (eqb x y) e (eq-eqb x y (sym (eqb-true y x f))))
 
--- when each number was looked into, what is found is the chain, but for its order
+-- if the place is past all found numbers, the sorted numbers are the chain
 pub reads_end : (next : ℕ → List ℕ) (start place : ℕ) (found sorted : List ℕ) → length found ≤ place → Reads next start found place → IsPermutation found sorted → IsSorted nat_cmp sorted → IsChain next start sorted
 reads_end next start place found sorted all h same ordered = record {
   rising = IsStrictlyIncreasing-from_distinct sorted (IsNonDecreasingBy-from_sort (λ (x : ℕ). x) sorted ordered) (IsDistinct-IsPermutation eqb flips found sorted same h.apart);

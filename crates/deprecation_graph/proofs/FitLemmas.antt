@@ -1,4 +1,4 @@
--- Numbers that are all different, by a look at those before each.
+-- Lemmas: the numbers of a list are all different if no number is among those before it.
 use Rattle.std.proofs.Common.{◌≡◌, ℕ, ◌+◌, ◌<◌, true, false, eqb, List, length, get_or, take, sym, ap, ◌∙◌, arith, inl, inr}
 use Rattle.std.specs.List.{Contains, IsDistinct, list_any}
 use Rattle.std.proofs.lemmas.Bool.{cases_Bool, cases_eq, both_ways, eq-eqb}
@@ -8,8 +8,8 @@ use Rattle.std.proofs.lemmas.Map.Keys.{apart_from_distinct}
 use Rattle.deprecation_graph.proofs.Rising.{Contains-any}
 
 module _ (xs : List ℕ) (i : ℕ) (within : i < length xs) where
-  pub stands_before : list_any (λ y. eqb y (get_or xs i 0)) (take i xs) ≡ true → IsDistinct eqb xs → ⊥
-  stands_before found distinct =
+  pub is_preceded : list_any (λ y. eqb y (get_or xs i 0)) (take i xs) ≡ true → IsDistinct eqb xs → ⊥
+  is_preceded found distinct =
       let c : Contains (take i xs) (get_or xs i 0) = Contains-any (get_or xs i 0) (take i xs) found in
       let below : c.0 < i = omega (arith, c.1, length-take i xs) in
       let same : get_or xs c.0 (get_or xs i 0) ≡ get_or xs i 0 = sym (get_or-take i xs c.0 (get_or xs i 0) below) ∙ c.2 in

@@ -1,4 +1,4 @@
--- Groups: what a change of their members leaves of them.
+-- Lemmas: what stays of groups if their members change.
 use Rattle.std.proofs.Common.{◌≡◌, ◌≢◌, ◌⊎◌, ℕ, zero, suc, ◌+◌, ◌<◌, ◌≤◌, eqb, Bool, true, false, cond, List, [], ◌∷◌, ◌++◌, length, get_or, refl, sym, ap, ◌∙◌, inl, inr, arith, slice_get, slice_set, Some, eq-eqb}
 use Rattle.std.specs.List.{Contains}
 use Rattle.std.proofs.lemmas.Bool.{cases_eq, ne_eqb}
@@ -8,19 +8,19 @@ use Rattle.std.proofs.lemmas.Option.{same_Some, slice_get_within, slice_get-get_
 use Rattle.list_pool.proofs.SlotReads.{slice_get-set_same, slice_get-set_other, slice_get_push, slice_get-push_other}
 use Rattle.deprecation_graph.specs.declared.limits.TheConstants.{MOST_NODES}
 use Rattle.deprecation_graph.proofs.Rising.{Contains-cases}
-use Rattle.deprecation_graph.specs.Groups.{total, counts, active_of, AreMembers, AreGrouped, IsHead, AreOfOne, IsName, KeepsGroups, PutsUnder, AreJoined, Joins}
-use Rattle.deprecation_graph.specs.declared.groups.Member.{Member}
-use Rattle.deprecation_graph.specs.declared.groups.Member.TheVariants.{Head, Under}
+use Rattle.deprecation_graph.specs.Groups.{group_total, counts, active_of, AreMembers, AreNodesGrouped, IsHead, AreOfOne, IsGroupOf, KeepsGroups, PutsUnder, AreJoined, Joins}
+use Rattle.deprecation_graph.specs.declared.groups.GroupMember.{GroupMember}
+use Rattle.deprecation_graph.specs.declared.groups.GroupMember.TheVariants.{Head, Under}
 use Rattle.deprecation_graph.proofs.CountLemmas.{total-alike, total-add, total-none}
 
--- ---- sums
+-- ---- sums of a function over the numbers below n
 
-pub total-le : (f g : ℕ → ℕ) (n : ℕ) → ((i : ℕ) → i < n → f i ≤ g i) → total f n ≤ total g n
+pub total-le : (f g : ℕ → ℕ) (n : ℕ) → ((i : ℕ) → i < n → f i ≤ g i) → group_total f n ≤ group_total g n
 total-le f g zero h = omega arith
 total-le f g (suc n) h = omega (arith, total-le f g n (λ i lt. h i (omega arith)), h n (omega arith))
 
--- two that differ at one number
-total-one : (f g : ℕ → ℕ) (a n : ℕ) → a < n → ((i : ℕ) → i ≢ a → f i ≡ g i) → total f n + g a ≡ total g n + f a
+-- sums of two functions that differ only at a
+total-one : (f g : ℕ → ℕ) (a n : ℕ) → a < n → ((i : ℕ) → i ≢ a → f i ≡ g i) → group_total f n + g a ≡ group_total g n + f a
 total-one f g a zero lt h = absurd (omega arith)
 total-one f g a (suc n) lt h = elim (cases_eq a n) [
   | inl same ↦
@@ -31,18 +31,18 @@ total-one f g a (suc n) lt h = elim (cases_eq a n) [
   | inr other ↦ omega (arith, total-one f g a n (omega arith) h, h n (λ e. other (sym e)))
 ]
 
-total-ones : (f : ℕ → ℕ) (n : ℕ) → ((i : ℕ) → f i ≤ 1) → total f n ≤ n
+total-ones : (f : ℕ → ℕ) (n : ℕ) → ((i : ℕ) → f i ≤ 1) → group_total f n ≤ n
 total-ones f zero h = omega arith
 total-ones f (suc n) h = omega (arith, total-ones f n h, h n)
 
-total-one_of : (f : ℕ → ℕ) (a n : ℕ) → a < n → f a ≤ total f n
+total-one_of : (f : ℕ → ℕ) (a n : ℕ) → a < n → f a ≤ group_total f n
 total-one_of f a zero lt = absurd (omega arith)
 total-one_of f a (suc n) lt = elim (cases_eq a n) [
   | inl same ↦ let here : f n ≡ f a = ap f (sym same) in omega (arith, here)
   | inr other ↦ omega (arith, total-one_of f a n (omega arith))
 ]
 
--- ---- counts
+-- ---- the number of active nodes
 
 one_or_none : (m b : Bool) → cond m (cond b 1 0) 0 ≤ 1
 one_or_none true true = omega arith
@@ -71,32 +71,32 @@ counts-own group marks name x e = when_same (get_or marks x false) (group x) nam
 counts-other : (group : ℕ → ℕ) (marks : List Bool) (name x : ℕ) → group x ≢ name → counts group marks name x ≡ 0
 counts-other group marks name x ne = when_other (get_or marks x false) (group x) name ne
 
--- ---- one member changed
+-- ---- one member is changed
 
-set_cases : (ms : List Member) (i x : ℕ) (m n : Member) → i < length ms → slice_get (slice_set ms i m) x ≡ Some n → ((x ≡ i) × (m ≡ n)) ⊎ ((x ≢ i) × (slice_get ms x ≡ Some n))
+set_cases : (ms : List GroupMember) (i x : ℕ) (m n : GroupMember) → i < length ms → slice_get (slice_set ms i m) x ≡ Some n → ((x ≡ i) × (m ≡ n)) ⊎ ((x ≢ i) × (slice_get ms x ≡ Some n))
 set_cases ms i x m n lt e = elim (cases_eq x i) [
   | inl same ↦ inl (same, same_Some m n (sym (slice_get-set_same ms i m lt) ∙ ap (slice_get (slice_set ms i m)) (sym same) ∙ e))
   | inr ne ↦ inr (ne, sym (slice_get-set_other ms i x m ne) ∙ e)
 ]
 
-abbrev named_by : Member → ℕ
+abbrev named_by : GroupMember → ℕ
 named_by (Head n) = n
 named_by (Under n) = n
 
-pub member_at : (ms : List Member) (x : ℕ) (d m : Member) → x < length ms → get_or ms x d ≡ m → slice_get ms x ≡ Some m
+pub member_at : (ms : List GroupMember) (x : ℕ) (d m : GroupMember) → x < length ms → get_or ms x d ≡ m → slice_get ms x ≡ Some m
 member_at ms x d m lt e = slice_get-get_or ms x d lt ∙ ap Some e
 
-pub member_of : (ms : List Member) (x : ℕ) (m n : Member) → x < length ms → m ≡ get_or ms x m → m ≡ n → slice_get ms x ≡ Some n
+pub member_of : (ms : List GroupMember) (x : ℕ) (m n : GroupMember) → x < length ms → m ≡ get_or ms x m → m ≡ n → slice_get ms x ≡ Some n
 member_of ms x m n lt e f = slice_get-get_or ms x m lt ∙ ap Some (sym e ∙ f)
 
-pub head_or_under : (ms : List Member) (x : ℕ) (d : Member) → x < length ms → ((above : ℕ) → get_or ms x d ≡ Under above → ⊥) → IsHead ms x
+pub head_or_under : (ms : List GroupMember) (x : ℕ) (d : GroupMember) → x < length ms → ((above : ℕ) → get_or ms x d ≡ Under above → ⊥) → IsHead ms x
 head_or_under [] x d lt never = absurd (omega arith)
 head_or_under (Head n ∷ ms) zero d lt never = (n, refl)
 head_or_under (Under n ∷ ms) zero d lt never = absurd (never n refl)
 head_or_under (m ∷ ms) (suc x) d lt never = head_or_under ms x d (omega arith) never
 
--- the way to the name gets shorter
-pub shortened : (ms : List Member) (at next further : ℕ) → slice_get ms at ≡ Some (Under next) → further < at → AreOfOne ms further at → KeepsGroups ms (slice_set ms at (Under further))
+-- a shorter way to the group's name keeps the groups
+pub shortened : (ms : List GroupMember) (at next further : ℕ) → slice_get ms at ≡ Some (Under next) → further < at → AreOfOne ms further at → KeepsGroups ms (slice_set ms at (Under further))
 shortened ms at next further is falls one marks group ok =
     let same = length-set ms at (Under further) in
     let within : at < length ms = slice_get_within ms at (Under next) is in
@@ -114,7 +114,7 @@ shortened ms at next further is falls one marks group ok =
       ];
     }
 
--- ---- two groups joined
+-- ---- two groups are joined
 
 module _ (group : ℕ → ℕ) (gone stays : ℕ) (lt : stays < gone) where
   abbrev pub wider : ℕ → ℕ
@@ -145,7 +145,7 @@ module _ (group : ℕ → ℕ) (gone stays : ℕ) (lt : stays < gone) where
       at x (inl e) = counts-other wider marks name x (λ f. ns (sym f ∙ wider-gone x e)) ∙ sym (counts-other group marks name x (λ f. ng (sym f ∙ e)))
       at x (inr other) = ap (λ (n : ℕ). cond (get_or marks x false) (cond (eqb n name) 1 0) 0) (wider-other x other)
 
-pub put_under : (ms : List Member) (gone stays k l : ℕ) → slice_get ms gone ≡ Some (Head k) → slice_get ms stays ≡ Some (Head l) → stays < gone → PutsUnder ms (slice_set (slice_set ms stays (Head (k + l))) gone (Under stays)) gone stays
+pub put_under : (ms : List GroupMember) (gone stays k l : ℕ) → slice_get ms gone ≡ Some (Head k) → slice_get ms stays ≡ Some (Head l) → stays < gone → PutsUnder ms (slice_set (slice_set ms stays (Head (k + l))) gone (Under stays)) gone stays
 put_under ms gone stays k l at_gone at_stays lt marks group ok =
     let within : gone < length ms = slice_get_within ms gone (Head k) at_gone in
     let mid = slice_set ms stays (Head (k + l)) in
@@ -188,9 +188,9 @@ put_under ms gone stays k l at_gone at_stays lt marks group ok =
       ];
     }
 
--- ---- one node counted anew
+-- ---- one node is counted again
 
-pub recounted : (ms : List Member) (marks : List Bool) (group : ℕ → ℕ) (node name count new : ℕ) (is : Bool) → AreMembers ms marks group → slice_get ms name ≡ Some (Head count) → name ≡ group node → node < length marks → new + cond (get_or marks node false) 1 0 ≡ count + cond is 1 0 → AreMembers (slice_set ms name (Head new)) (slice_set marks node is) group
+pub recounted : (ms : List GroupMember) (marks : List Bool) (group : ℕ → ℕ) (node name count new : ℕ) (is : Bool) → AreMembers ms marks group → slice_get ms name ≡ Some (Head count) → name ≡ group node → node < length marks → new + cond (get_or marks node false) 1 0 ≡ count + cond is 1 0 → AreMembers (slice_set ms name (Head new)) (slice_set marks node is) group
 recounted ms marks group node name count new is ok at_name named within sum =
     let same = length-set ms name (Head new) in
     let as_many = length-set marks node is in
@@ -221,25 +221,25 @@ recounted ms marks group node name count new is ok at_name named within sum =
     here x e =
         let new_mark : counts group (slice_set marks node is) x node ≡ cond is 1 0 = counts-own group (slice_set marks node is) x node (sym e) ∙ ap (λ (m : Bool). cond m 1 0) (get_or-set_same marks node is false within) in
         let old_mark : counts group marks x node ≡ cond (get_or marks node false) 1 0 = counts-own group marks x node (sym e) in
-        let as_many : active_of group (slice_set marks node is) x ≡ total (counts group (slice_set marks node is) x) (length marks) = ap (total (counts group (slice_set marks node is) x)) (length-set marks node is) in
+        let as_many : active_of group (slice_set marks node is) x ≡ group_total (counts group (slice_set marks node is) x) (length marks) = ap (group_total (counts group (slice_set marks node is) x)) (length-set marks node is) in
         omega (arith, as_many, new_mark, old_mark, total-one (counts group (slice_set marks node is) x) (counts group marks x) node (length marks) within (alike x))
 
     there : (x : ℕ) → (group node ≡ x → ⊥) → active_of group (slice_set marks node is) x ≡ active_of group marks x
     there x ne =
-        ap (total (counts group (slice_set marks node is) x)) (length-set marks node is) ∙ total-alike (counts group (slice_set marks node is) x) (counts group marks x) (length marks) (λ y _. elim (cases_eq y node) [
+        ap (group_total (counts group (slice_set marks node is) x)) (length-set marks node is) ∙ total-alike (counts group (slice_set marks node is) x) (counts group marks x) (length marks) (λ y _. elim (cases_eq y node) [
           | inl e ↦ counts-other group (slice_set marks node is) x y (λ f. ne (ap group (sym e) ∙ f)) ∙ sym (counts-other group marks x y (λ f. ne (ap group (sym e) ∙ f)))
           | inr other ↦ alike x y other
         ])
 
--- an active node is counted
-pub counted : (ms : List Member) (marks : List Bool) (group : ℕ → ℕ) (node name count : ℕ) → AreMembers ms marks group → slice_get ms name ≡ Some (Head count) → name ≡ group node → node < length marks → get_or marks node false ≡ true → 1 ≤ count
+-- an active node is counted in its group
+pub counted : (ms : List GroupMember) (marks : List Bool) (group : ℕ → ℕ) (node name count : ℕ) → AreMembers ms marks group → slice_get ms name ≡ Some (Head count) → name ≡ group node → node < length marks → get_or marks node false ≡ true → 1 ≤ count
 counted ms marks group node name count ok at_name named within active =
     let one : counts group marks name node ≡ 1 = counts-own group marks name node (sym named) ∙ ap (λ (m : Bool). cond m 1 0) active in
     omega (arith, one, (ok.head name count at_name).1, total-one_of (counts group marks name) node (length marks) within)
 
--- ---- a node more
+-- ---- a node is added
 
-pub members_pushed : (ms : List Member) (marks : List Bool) (group : ℕ → ℕ) → AreMembers ms marks group → AreMembers (ms ++ Head 1 ∷ []) (marks ++ true ∷ []) group
+pub members_pushed : (ms : List GroupMember) (marks : List Bool) (group : ℕ → ℕ) → AreMembers ms marks group → AreMembers (ms ++ Head 1 ∷ []) (marks ++ true ∷ []) group
 members_pushed ms marks group ok =
     let longer = length_push ms (Head 1) in
     record {
@@ -278,7 +278,7 @@ members_pushed ms marks group ok =
 
     longer_total : (x : ℕ) → active_of group (marks ++ true ∷ []) x ≡ active_of group marks x + counts group (marks ++ true ∷ []) x (length marks)
     longer_total x =
-        ap (total (counts group (marks ++ true ∷ []) x)) one_more
+        ap (group_total (counts group (marks ++ true ∷ []) x)) one_more
         ∙ ap (λ (n : ℕ). n + counts group (marks ++ true ∷ []) x (length marks)) (total-alike (counts group (marks ++ true ∷ []) x) (counts group marks x) (length marks) (alike x))
 
     new : (x : ℕ) → x ≡ length ms → active_of group (marks ++ true ∷ []) x ≡ 1
@@ -294,34 +294,34 @@ members_pushed ms marks group ok =
 
 -- ---- groups that are kept
 
--- the same groups, if there are some
-pub still_grouped : (old new : List Member) → AreGrouped old → KeepsGroups old new → AreGrouped new
+-- the new members form groups if the old members did
+pub still_grouped : (old new : List GroupMember) → AreNodesGrouped old → KeepsGroups old new → AreNodesGrouped new
 still_grouped old new g keeps =
     let members = keeps g.marks g.group g.members in
     record { marks = g.marks; group = g.group; members = members; few = omega (arith, g.few, g.members.same, members.same) }
 
-pub few_counted : (ms : List Member) (x count : ℕ) → AreGrouped ms → slice_get ms x ≡ Some (Head count) → count ≤ MOST_NODES
+pub few_counted : (ms : List GroupMember) (x count : ℕ) → AreNodesGrouped ms → slice_get ms x ≡ Some (Head count) → count ≤ MOST_NODES
 few_counted ms x count g e = omega (arith, (g.members.head x count e).1, active_of-le g.group g.marks x, g.members.same, g.few)
 
--- what names a group is under none
-pub named_head : (ms : List Member) (marks : List Bool) (group : ℕ → ℕ) (x : ℕ) → AreMembers ms marks group → x < length ms → group x ≡ x → IsHead ms x
+-- a node that is its own group is the head of the group
+pub named_head : (ms : List GroupMember) (marks : List Bool) (group : ℕ → ℕ) (x : ℕ) → AreMembers ms marks group → x < length ms → group x ≡ x → IsHead ms x
 named_head ms marks group x ok lt own = head_or_under ms x (Head 0) lt (λ lower e.
     let down = ok.under x lower (member_at ms x (Head 0) (Under lower) lt e) in omega (arith, down.0, down.1, own, ok.falls lower))
 
-pub still_head : (old new : List Member) (x : ℕ) → AreGrouped old → KeepsGroups old new → IsHead old x → IsHead new x
+pub still_head : (old new : List GroupMember) (x : ℕ) → AreNodesGrouped old → KeepsGroups old new → IsHead old x → IsHead new x
 still_head old new x g keeps h =
     let members = keeps g.marks g.group g.members in
     named_head new g.marks g.group x members (omega (arith, slice_get_within old x (Head h.0) h.1, g.members.same, members.same)) (g.members.head x h.0 h.1).0
 
-pub still_within : (old new : List Member) (x : ℕ) → AreGrouped old → KeepsGroups old new → x < length old → x < length new
+pub still_within : (old new : List GroupMember) (x : ℕ) → AreNodesGrouped old → KeepsGroups old new → x < length old → x < length new
 still_within old new x g keeps lt = omega (arith, lt, g.members.same, (keeps g.marks g.group g.members).same)
 
--- ---- two nodes joined
+-- ---- two nodes are joined
 
 one_of : (x y : ℕ) → Contains (y ∷ []) x → x ≡ y
 one_of x y c = elim (Contains-cases x y [] c) [ inl same ↦ same | inr d ↦ absurd (omega (arith, d.1)) ]
 
-pub joined_alike : (ms : List Member) (marks : List Bool) (group : ℕ → ℕ) (node other : ℕ) → AreMembers ms marks group → group node ≡ group other → AreJoined ms marks group node (other ∷ [])
+pub joined_alike : (ms : List GroupMember) (marks : List Bool) (group : ℕ → ℕ) (node other : ℕ) → AreMembers ms marks group → group node ≡ group other → AreJoined ms marks group node (other ∷ [])
 joined_alike ms marks group node other ok e = record {
   wider = group;
   members = ok;
@@ -329,7 +329,7 @@ joined_alike ms marks group node other ok e = record {
   joined = λ x c. e ∙ ap group (sym (one_of x other c));
 }
 
-pub joined_under : (ms : List Member) (marks : List Bool) (group : ℕ → ℕ) (node other gone stays : ℕ) → stays < gone → AreMembers ms marks (λ x. cond (eqb (group x) gone) stays (group x)) → ((group node ≡ gone) × (group other ≡ stays)) ⊎ ((group node ≡ stays) × (group other ≡ gone)) → AreJoined ms marks group node (other ∷ [])
+pub joined_under : (ms : List GroupMember) (marks : List Bool) (group : ℕ → ℕ) (node other gone stays : ℕ) → stays < gone → AreMembers ms marks (λ x. cond (eqb (group x) gone) stays (group x)) → ((group node ≡ gone) × (group other ≡ stays)) ⊎ ((group node ≡ stays) × (group other ≡ gone)) → AreJoined ms marks group node (other ∷ [])
 joined_under ms marks group node other gone stays lt ok h = record {
   wider = wider group gone stays lt;
   members = ok;
@@ -344,25 +344,25 @@ joined_under ms marks group node other gone stays lt ok h = record {
     met (inl k) = wider-gone group gone stays lt node k.0 ∙ sym (stay other k.1)
     met (inr k) = stay node k.0 ∙ sym (wider-gone group gone stays lt other k.1)
 
--- the names of both groups are found, and the ways to them shortened
-module _ (old mid now : List Member) (node other name other_name : ℕ) (named : IsName old node name) (keeps : KeepsGroups old mid) (other_named : IsName mid other other_name) (keeps_on : KeepsGroups mid now) where
+-- the names of both groups are found, and the ways to them are shortened
+module _ (old mid now : List GroupMember) (node other name other_name : ℕ) (named : IsGroupOf old node name) (keeps : KeepsGroups old mid) (other_named : IsGroupOf mid other other_name) (keeps_on : KeepsGroups mid now) where
   pub same_name : other_name ≡ name → Joins old now node (other ∷ [])
   same_name e marks group ok =
       let mid_ok = keeps marks group ok in
       joined_alike now marks group node other (keeps_on marks group mid_ok) (sym (named marks group ok) ∙ sym e ∙ other_named marks group mid_ok)
 
-  pub lower_name : (new : List Member) → other_name < name → PutsUnder now new name other_name → Joins old new node (other ∷ [])
+  pub lower_name : (new : List GroupMember) → other_name < name → PutsUnder now new name other_name → Joins old new node (other ∷ [])
   lower_name new lt puts marks group ok =
       let mid_ok = keeps marks group ok in
       joined_under new marks group node other name other_name lt (puts marks group (keeps_on marks group mid_ok)) (inl (sym (named marks group ok), sym (other_named marks group mid_ok)))
 
-  pub higher_name : (new : List Member) → name < other_name → PutsUnder now new other_name name → Joins old new node (other ∷ [])
+  pub higher_name : (new : List GroupMember) → name < other_name → PutsUnder now new other_name name → Joins old new node (other ∷ [])
   higher_name new lt puts marks group ok =
       let mid_ok = keeps marks group ok in
       joined_under new marks group node other other_name name lt (puts marks group (keeps_on marks group mid_ok)) (inr (sym (named marks group ok), sym (other_named marks group mid_ok)))
 
--- one after the other
-pub joins_more : (a b d : List Member) (node x : ℕ) (xs : List ℕ) → Joins a b node xs → Joins b d node (x ∷ []) → Joins a d node (xs ++ x ∷ [])
+-- joining a node with xs and then with x joins it with all of them
+pub joins_more : (a b d : List GroupMember) (node x : ℕ) (xs : List ℕ) → Joins a b node xs → Joins b d node (x ∷ []) → Joins a d node (xs ++ x ∷ [])
 joins_more a b d node x xs j k marks group ok =
     let first = j marks group ok in
     let second = k marks first.wider first.members in
@@ -376,10 +376,10 @@ joins_more a b d node x xs j k marks group ok =
       ];
     }
 
-pub joined_grouped : (old new : List Member) (node : ℕ) (xs : List ℕ) → AreGrouped old → Joins old new node xs → AreGrouped new
+pub joined_grouped : (old new : List GroupMember) (node : ℕ) (xs : List ℕ) → AreNodesGrouped old → Joins old new node xs → AreNodesGrouped new
 joined_grouped old new node xs g j =
     let joined = j g.marks g.group g.members in
     record { marks = g.marks; group = joined.wider; members = joined.members; few = omega (arith, g.few, g.members.same, joined.members.same) }
 
-pub joined_within : (old new : List Member) (node : ℕ) (xs : List ℕ) (x : ℕ) → AreGrouped old → Joins old new node xs → x < length old → x < length new
+pub joined_within : (old new : List GroupMember) (node : ℕ) (xs : List ℕ) (x : ℕ) → AreNodesGrouped old → Joins old new node xs → x < length old → x < length new
 joined_within old new node xs x g j lt = omega (arith, lt, g.members.same, (j g.marks g.group g.members).members.same)

@@ -1,4 +1,4 @@
--- Lists in a pool, by their heads: what a change of one list does to all.
+-- Lemmas: a change of one list in a pool changes only this list.
 use Rattle.std.proofs.Common.{◌≡◌, ◌≢◌, ◌⊎◌, ℕ, zero, suc, ◌+◌, ◌<◌, ◌≤◌, ◌==◌, Bool, true, false, cond, List, [], ◌∷◌, ◌++◌, length, map, take, get_or, refl, sym, ap, subst, ◌∙◌, inl, inr, arith, Option, Some, None, slice_get, slice_set, IsSome}
 use Rattle.std.specs.List.{Contains}
 use Rattle.std.proofs.lemmas.Bool.{cases_eq, both_ways, eq-eqb}
@@ -6,12 +6,12 @@ use Rattle.std.specs.Option.{option_map}
 use Rattle.std.proofs.lemmas.List.{map-append, length_push, length-map, take_more, take_all}
 use Rattle.std.proofs.lemmas.List.Sums.{sum_by-set, sum_by_push}
 use Rattle.std.proofs.lemmas.Option.{slice_get_within, slice_get_read, slice_get-map, get_or_from_slice_get, same_Some, none-some}
-use Rattle.list_pool.specs.Pool.{Row, find_list, list_at, rows_or_none, IsLive, slots_of, cell_at, value_at, Updates, Pushes, has_value, without_first}
+use Rattle.list_pool.specs.Pool.{Row, find_list, list_at, rows_or_none, IsLiveList, slots_of, cell_at, cell_value_at, Updates, Pushes, has_value, without_first_cell}
 use Rattle.list_pool.specs.declared.ListName.{ListName}
 use Rattle.list_pool.proofs.SlotReads.{sum_by-one_read}
 use Rattle.deprecation_graph.proofs.Rising.{Contains-cases}
-use Rattle.deprecation_graph.specs.Indexed.{list_of, without, size_of}
-use Rattle.deprecation_graph.specs.Heads.{values, lists_at, AreHeads}
+use Rattle.deprecation_graph.specs.Indexed.{list_of_node, without_number, size_of}
+use Rattle.deprecation_graph.specs.Heads.{heads_values, lists_at, AreHeads}
 
 -- ---- maps that differ at one place
 
@@ -34,33 +34,33 @@ map-alike : (f g : ListName → List ℕ) (heads : List ListName) → ((j : ℕ)
 map-alike f g [] same = refl
 map-alike f g (h ∷ hs) same = let first : g h ≡ f h = same 0 h refl in let rest = map-alike f g hs (λ j k e. same (suc j) k e) in cc
 
-pub list_of-map : (f : ListName → List ℕ) (heads : List ListName) (i : ℕ) (h : ListName) → slice_get heads i ≡ Some h → list_of (map f heads) i ≡ f h
+pub list_of-map : (f : ListName → List ℕ) (heads : List ListName) (i : ℕ) (h : ListName) → slice_get heads i ≡ Some h → list_of_node (map f heads) i ≡ f h
 list_of-map f [] i h e = absurd (none-some h e)
 list_of-map f (k ∷ ks) zero h e = ap f (same_Some k h e)
 list_of-map f (k ∷ ks) (suc i) h e = list_of-map f ks i h e
 
--- ---- what a live list takes
+-- ---- the number of slots of a live list in its pool
 
-live_slots : (lists : List (Option (List Row))) (name : ℕ) → IsLive lists name → slots_of (find_list lists name) ≡ length (values lists name) + 1
+live_slots : (lists : List (Option (List Row))) (name : ℕ) → IsLiveList lists name → slots_of (find_list lists name) ≡ length (heads_values lists name) + 1
 live_slots lists name live = go (find_list lists name) live
   where
     go : (o : Option (List Row)) → IsSome o → slots_of o ≡ length (map (λ (x : Row). x.1) (rows_or_none o)) + 1
     go None s = absurd cc
     go (Some rows) s = ap (λ n. n + 1) (sym (length-map rows (λ (x : Row). x.1)))
 
-values-updated : (new : List (Option (List Row))) (name : ℕ) (rows : List Row) → find_list new name ≡ Some rows → values new name ≡ map (λ (x : Row). x.1) rows
+values-updated : (new : List (Option (List Row))) (name : ℕ) (rows : List Row) → find_list new name ≡ Some rows → heads_values new name ≡ map (λ (x : Row). x.1) rows
 values-updated new name rows e = ap (λ (o : Option (List Row)). map (λ (x : Row). x.1) (rows_or_none o)) e
 
-values-kept : (old new : List (Option (List Row))) (name : ℕ) → find_list new name ≡ find_list old name → values new name ≡ values old name
+values-kept : (old new : List (Option (List Row))) (name : ℕ) → find_list new name ≡ find_list old name → heads_values new name ≡ heads_values old name
 values-kept old new name e = ap (λ (o : Option (List Row)). map (λ (x : Row). x.1) (rows_or_none o)) e
 
--- ---- a list that changes
+-- ---- one list is changed
 
 module _ (old new : List (Option (List Row))) (heads : List ListName) (i : ℕ) (h : ListName) (rows : List Row) (ok : AreHeads old heads) (is : slice_get heads i ≡ Some h) (u : Updates old new h.0 (Some rows)) where
   pub lists_at-updated : lists_at new heads ≡ slice_set (lists_at old heads) i (map (λ (x : Row). x.1) rows)
-  lists_at-updated = map-one (λ (k : ListName). values old k.0) (λ (k : ListName). values new k.0) heads i (map (λ (x : Row). x.1) rows) (slice_get_within heads i h is)
+  lists_at-updated = map-one (λ (k : ListName). heads_values old k.0) (λ (k : ListName). heads_values new k.0) heads i (map (λ (x : Row). x.1) rows) (slice_get_within heads i h is)
       (λ j k e ne. values-kept old new k.0 (u.others k.0 (λ same. ne (ok.apart j i k h e is same))))
-      (λ k e. let same : k ≡ h = same_Some k h (sym e ∙ is) in ap (λ (m : ListName). values new m.0) same ∙ values-updated new h.0 rows u.changed)
+      (λ k e. let same : k ≡ h = same_Some k h (sym e ∙ is) in ap (λ (m : ListName). heads_values new m.0) same ∙ values-updated new h.0 rows u.changed)
 
   pub heads-updated : AreHeads new heads
   heads-updated = record {
@@ -73,37 +73,37 @@ module _ (old new : List (Option (List Row))) (heads : List ListName) (i : ℕ) 
         let sums = sum_by-one_read slots_of refl old new h.0 (λ name ne. u.others name ne) in
         let was = live_slots old h.0 (ok.live i h is) in
         let now : slots_of (find_list new h.0) ≡ length rows + 1 = ap slots_of u.changed in
-        let at : get_or (lists_at old heads) i [] ≡ values old h.0 = list_of-map (λ (k : ListName). values old k.0) heads i h is in
-        let set = sum_by-set (λ (xs : List ℕ). length xs + 1) (lists_at old heads) i (map (λ (x : Row). x.1) rows) [] (omega (arith, length-map heads (λ (k : ListName). values old k.0), slice_get_within heads i h is)) in
+        let at : get_or (lists_at old heads) i [] ≡ heads_values old h.0 = list_of-map (λ (k : ListName). heads_values old k.0) heads i h is in
+        let set = sum_by-set (λ (xs : List ℕ). length xs + 1) (lists_at old heads) i (map (λ (x : Row). x.1) rows) [] (omega (arith, length-map heads (λ (k : ListName). heads_values old k.0), slice_get_within heads i h is)) in
         omega (arith, sums, was, now, ap length at, set, ok.size, length-map rows (λ (x : Row). x.1), ap size_of lists_at-updated);
   }
 
--- ---- a number that goes last
+-- ---- a number is added at the end of a list
 
-pub lists_at-pushed : (old new : List (Option (List Row))) (heads : List ListName) (i value : ℕ) (h : ListName) → AreHeads old heads → slice_get heads i ≡ Some h → Pushes old new h.0 value → lists_at new heads ≡ slice_set (lists_at old heads) i (list_of (lists_at old heads) i ++ value ∷ [])
+pub lists_at-pushed : (old new : List (Option (List Row))) (heads : List ListName) (i value : ℕ) (h : ListName) → AreHeads old heads → slice_get heads i ≡ Some h → Pushes old new h.0 value → lists_at new heads ≡ slice_set (lists_at old heads) i (list_of_node (lists_at old heads) i ++ value ∷ [])
 lists_at-pushed old new heads i value h ok is p =
     lists_at-updated old new heads i h (list_at old h.0 ++ (p.0, value) ∷ []) ok is p.2
-    ∙ ap (slice_set (lists_at old heads) i) (map-append (λ (x : Row). x.1) (list_at old h.0) ((p.0, value) ∷ []) ∙ ap (λ (xs : List ℕ). xs ++ value ∷ []) (sym (list_of-map (λ (k : ListName). values old k.0) heads i h is)))
+    ∙ ap (slice_set (lists_at old heads) i) (map-append (λ (x : Row). x.1) (list_at old h.0) ((p.0, value) ∷ []) ∙ ap (λ (xs : List ℕ). xs ++ value ∷ []) (sym (list_of-map (λ (k : ListName). heads_values old k.0) heads i h is)))
 
 pub heads-pushed : (old new : List (Option (List Row))) (heads : List ListName) (i value : ℕ) (h : ListName) → AreHeads old heads → slice_get heads i ≡ Some h → Pushes old new h.0 value → AreHeads new heads
 heads-pushed old new heads i value h ok is p = heads-updated old new heads i h (list_at old h.0 ++ (p.0, value) ∷ []) ok is p.2
 
--- ---- a number that is taken out
+-- ---- a number is removed from a list
 
-values-without : (value : ℕ) (rows : List Row) → map (λ (x : Row). x.1) (without_first value rows) ≡ without value (map (λ (x : Row). x.1) rows)
+values-without : (value : ℕ) (rows : List Row) → map (λ (x : Row). x.1) (without_first_cell value rows) ≡ without_number value (map (λ (x : Row). x.1) rows)
 values-without value [] = refl
 values-without value (x ∷ xs) = go (x.1 == value) (values-without value xs)
   where
-    go : (b : Bool) → map (λ (y : Row). y.1) (without_first value xs) ≡ without value (map (λ (y : Row). y.1) xs) → map (λ (y : Row). y.1) (cond b xs (x ∷ without_first value xs)) ≡ cond b (map (λ (y : Row). y.1) xs) (x.1 ∷ without value (map (λ (y : Row). y.1) xs))
+    go : (b : Bool) → map (λ (y : Row). y.1) (without_first_cell value xs) ≡ without_number value (map (λ (y : Row). y.1) xs) → map (λ (y : Row). y.1) (cond b xs (x ∷ without_first_cell value xs)) ≡ cond b (map (λ (y : Row). y.1) xs) (x.1 ∷ without_number value (map (λ (y : Row). y.1) xs))
     go true r = refl
     go false r = ap (λ (ys : List ℕ). x.1 ∷ ys) r
 
-pub lists_at-removed : (old new : List (Option (List Row))) (heads : List ListName) (i value : ℕ) (h : ListName) → AreHeads old heads → slice_get heads i ≡ Some h → Updates old new h.0 (Some (without_first value (list_at old h.0))) → lists_at new heads ≡ slice_set (lists_at old heads) i (without value (list_of (lists_at old heads) i))
+pub lists_at-removed : (old new : List (Option (List Row))) (heads : List ListName) (i value : ℕ) (h : ListName) → AreHeads old heads → slice_get heads i ≡ Some h → Updates old new h.0 (Some (without_first_cell value (list_at old h.0))) → lists_at new heads ≡ slice_set (lists_at old heads) i (without_number value (list_of_node (lists_at old heads) i))
 lists_at-removed old new heads i value h ok is u =
-    lists_at-updated old new heads i h (without_first value (list_at old h.0)) ok is u
-    ∙ ap (slice_set (lists_at old heads) i) (values-without value (list_at old h.0) ∙ ap (without value) (sym (list_of-map (λ (k : ListName). values old k.0) heads i h is)))
+    lists_at-updated old new heads i h (without_first_cell value (list_at old h.0)) ok is u
+    ∙ ap (slice_set (lists_at old heads) i) (values-without value (list_at old h.0) ∙ ap (without_number value) (sym (list_of-map (λ (k : ListName). heads_values old k.0) heads i h is)))
 
--- ---- one list more
+-- ---- a list is added
 
 slice_get-push : (heads : List ListName) (h : ListName) (j : ℕ) (k : ListName) → slice_get (heads ++ h ∷ []) j ≡ Some k → (slice_get heads j ≡ Some k) ⊎ ((j ≡ length heads) × (k ≡ h))
 slice_get-push [] h zero k e = inr (refl, sym (same_Some h k e))
@@ -113,7 +113,7 @@ slice_get-push (x ∷ xs) h (suc j) k e = elim (slice_get-push xs h j k e) [ inl
 
 module _ (old new : List (Option (List Row))) (heads : List ListName) (h : ListName) (ok : AreHeads old heads) (fresh : find_list old h.0 ≡ None) (u : Updates old new h.0 (Some [])) where
   other : (j : ℕ) (k : ListName) → slice_get heads j ≡ Some k → k.0 ≢ h.0
-  other j k e same = go (find_list old h.0) fresh (subst (IsLive old) same (ok.live j k e))
+  other j k e same = go (find_list old h.0) fresh (subst (IsLiveList old) same (ok.live j k e))
     where
       go : (o : Option (List Row)) → o ≡ None → IsSome o → ⊥
       go None f s = absurd cc
@@ -121,8 +121,8 @@ module _ (old new : List (Option (List Row))) (heads : List ListName) (h : ListN
 
   pub lists_at-added : lists_at new (heads ++ h ∷ []) ≡ lists_at old heads ++ [] ∷ []
   lists_at-added =
-      map-append (λ (k : ListName). values new k.0) heads (h ∷ [])
-      ∙ ap (λ (xs : List (List ℕ)). xs ++ values new h.0 ∷ []) (map-alike (λ (k : ListName). values old k.0) (λ (k : ListName). values new k.0) heads (λ j k e. values-kept old new k.0 (u.others k.0 (other j k e))))
+      map-append (λ (k : ListName). heads_values new k.0) heads (h ∷ [])
+      ∙ ap (λ (xs : List (List ℕ)). xs ++ heads_values new h.0 ∷ []) (map-alike (λ (k : ListName). heads_values old k.0) (λ (k : ListName). heads_values new k.0) heads (λ j k e. values-kept old new k.0 (u.others k.0 (other j k e))))
       ∙ ap (λ (xs : List ℕ). lists_at old heads ++ xs ∷ []) (values-updated new h.0 [] u.changed)
 
   pub heads-added : AreHeads new (heads ++ h ∷ [])
@@ -146,13 +146,13 @@ module _ (old new : List (Option (List Row))) (heads : List ListName) (h : ListN
         omega (arith, sums, ap slots_of fresh, ap slots_of u.changed, ok.size, ap size_of lists_at-added, sum_by_push (λ (xs : List ℕ). length xs + 1) (lists_at old heads) []);
   }
 
--- ---- the head that an index reads
+-- ---- the head at an index
 
 pub read_head : (lists : List (Option (List Row))) (heads : List ListName) (value : List (List ℕ)) (i : ℕ) (h : ListName) → lists_at lists heads ≡ value → i < length value → h ≡ get_or heads i h → slice_get heads i ≡ Some h
-read_head lists heads value i h e lt is = slice_get_read heads (length heads) i h refl (omega (arith, ap length e, length-map heads (λ (k : ListName). values lists k.0))) is
+read_head lists heads value i h e lt is = slice_get_read heads (length heads) i h refl (omega (arith, ap length e, length-map heads (λ (k : ListName). heads_values lists k.0))) is
 
-pub there_read : (lists : List (Option (List Row))) (heads : List ListName) (value : List (List ℕ)) (i v : ℕ) (h : ListName) → lists_at lists heads ≡ value → slice_get heads i ≡ Some h → Contains (list_of value i) v → has_value v (list_at lists h.0) ≡ true
-there_read lists heads value i v h e is c = has (list_at lists h.0) (subst (λ (xs : List ℕ). Contains xs v) (sym (ap (λ (ls : List (List ℕ)). list_of ls i) e) ∙ list_of-map (λ (k : ListName). values lists k.0) heads i h is) c)
+pub there_read : (lists : List (Option (List Row))) (heads : List ListName) (value : List (List ℕ)) (i v : ℕ) (h : ListName) → lists_at lists heads ≡ value → slice_get heads i ≡ Some h → Contains (list_of_node value i) v → has_value v (list_at lists h.0) ≡ true
+there_read lists heads value i v h e is c = has (list_at lists h.0) (subst (λ (xs : List ℕ). Contains xs v) (sym (ap (λ (ls : List (List ℕ)). list_of_node ls i) e) ∙ list_of-map (λ (k : ListName). heads_values lists k.0) heads i h is) c)
   where
     has : (rows : List Row) → Contains (map (λ (x : Row). x.1) rows) v → has_value v rows ≡ true
     has [] d = absurd (omega (arith, d.1))
@@ -163,7 +163,7 @@ there_read lists heads value i v h e is c = has (list_at lists h.0) (subst (λ (
         go false f (inl same) rest = absurd (both_ways (x.1 == v) f (eq-eqb x.1 v (sym same)))
         go false f (inr m) rest = rest m
 
--- ---- a list that is copied
+-- ---- a list is copied
 
 within_cells : (rows : List Row) (k cell : ℕ) → option_map (λ (x : Row). x.0) (slice_get rows k) ≡ Some cell → k < length rows
 within_cells [] k cell e = absurd cc
@@ -178,16 +178,16 @@ past_cells (x ∷ xs) (suc k) e = omega (arith, past_cells xs k e)
 pub cell_within : (lists : List (Option (List Row))) (name k cell : ℕ) → cell_at lists name k ≡ Some cell → k < length (list_at lists name)
 cell_within lists name k cell e = within_cells (list_at lists name) k cell e
 
-pub read_step : (lists : List (Option (List Row))) (name v : ℕ) (items more : List ℕ) → length items < length (list_at lists name) → items ≡ take (length items) (values lists name) → value_at lists name (length items) ≡ Some v → more ≡ items ++ v ∷ [] → more ≡ take (length more) (values lists name)
+pub read_step : (lists : List (Option (List Row))) (name v : ℕ) (items more : List ℕ) → length items < length (list_at lists name) → items ≡ take (length items) (heads_values lists name) → cell_value_at lists name (length items) ≡ Some v → more ≡ items ++ v ∷ [] → more ≡ take (length more) (heads_values lists name)
 read_step lists name v items more lt prefix is e =
-    let here : get_or (values lists name) (length items) 0 ≡ v = get_or_from_slice_get (values lists name) (length items) v 0 (slice_get-map (λ (x : Row). x.1) (list_at lists name) (length items) ∙ is) in
+    let here : get_or (heads_values lists name) (length items) 0 ≡ v = get_or_from_slice_get (heads_values lists name) (length items) v 0 (slice_get-map (λ (x : Row). x.1) (list_at lists name) (length items) ∙ is) in
     let count : length more ≡ length items + 1 = ap length e ∙ length_push items v in
-    let last : v ≡ get_or (values lists name) (length items) 0 = sym here in
+    let last : v ≡ get_or (heads_values lists name) (length items) 0 = sym here in
     e
     ∙ ap (λ (xs : List ℕ). xs ++ v ∷ []) prefix
-    ∙ ap (λ (x : ℕ). take (length items) (values lists name) ++ x ∷ []) last
-    ∙ sym (take_more (values lists name) (length items) 0 (omega (arith, length-map (list_at lists name) (λ (x : Row). x.1))))
-    ∙ ap (λ n. take n (values lists name)) (sym count)
+    ∙ ap (λ (x : ℕ). take (length items) (heads_values lists name) ++ x ∷ []) last
+    ∙ sym (take_more (heads_values lists name) (length items) 0 (omega (arith, length-map (list_at lists name) (λ (x : Row). x.1))))
+    ∙ ap (λ n. take n (heads_values lists name)) (sym count)
 
-pub read_end : (lists : List (Option (List Row))) (name : ℕ) (items : List ℕ) → cell_at lists name (length items) ≡ None → items ≡ take (length items) (values lists name) → items ≡ values lists name
-read_end lists name items e prefix = prefix ∙ take_all (length items) (values lists name) (omega (arith, past_cells (list_at lists name) (length items) e, length-map (list_at lists name) (λ (x : Row). x.1)))
+pub read_end : (lists : List (Option (List Row))) (name : ℕ) (items : List ℕ) → cell_at lists name (length items) ≡ None → items ≡ take (length items) (heads_values lists name) → items ≡ heads_values lists name
+read_end lists name items e prefix = prefix ∙ take_all (length items) (heads_values lists name) (omega (arith, past_cells (list_at lists name) (length items) e, length-map (list_at lists name) (λ (x : Row). x.1)))

@@ -1,4 +1,4 @@
--- The lists of nodes, and what a graph asks of each change.
+-- Lemmas: the lists from which a graph is filled satisfy what the graph requires of each change.
 use Rattle.std.proofs.Common.{◌≡◌, ℕ, ◌+◌, ◌<◌, ◌≤◌, Bool, List, length, get_or, refl, sym, ap, subst, ◌∙◌, inl, inr, arith, Option, Some, None, slice_get}
 use Rattle.std.specs.List.{All, Contains}
 use Rattle.std.specs.Option.{option_map}
@@ -8,7 +8,7 @@ use Rattle.std.proofs.lemmas.List.Elements.{All-contains, Contains-get_or}
 use Rattle.std.proofs.lemmas.List.Sums.{sum_by-le}
 use Rattle.std.proofs.lemmas.Option.{get_or_from_slice_get, slice_get-get_or, slice_get-map, slice_get_within}
 use Rattle.deprecation_graph.specs.declared.limits.TheConstants.{MOST_EDGES, MOST_SUCCESSORS}
-use Rattle.deprecation_graph.specs.Graph.{Node, next_or_none, next_in, node_of, successors, edge_count, IsChange}
+use Rattle.deprecation_graph.specs.Graph.{Node, next_or_none, next_of_node, node_of, successors, edge_count, IsChange}
 use Rattle.deprecation_graph.specs.Filled.{nodes_of_lists, AreAllowed}
 use Rattle.deprecation_graph.specs.Fit.{IsFit, AreFit}
 use Rattle.deprecation_graph.specs.Between.{IsBetween}
@@ -24,7 +24,7 @@ module _ (lists : List (Option (List ℕ))) where
   pub node_at : (a : ℕ) (list : Option (List ℕ)) → slice_get lists a ≡ Some list → slice_get (nodes_of_lists lists) a ≡ Some (node_of list)
   node_at a list e = slice_get-map node_of lists a ∙ ap (option_map node_of) e
 
-  pub next_at : (a : ℕ) (list : Option (List ℕ)) → slice_get lists a ≡ Some list → next_in (nodes_of_lists lists) a ≡ successors list
+  pub next_at : (a : ℕ) (list : Option (List ℕ)) → slice_get lists a ≡ Some list → next_of_node (nodes_of_lists lists) a ≡ successors list
   next_at a list e = ap next_or_none (node_at a list e) ∙ next_of list
 
   module _ (fit : AreFit lists) where
@@ -44,13 +44,13 @@ module _ (lists : List (Option (List ℕ))) where
           different = this.brief.different;
         }
 
-    next_is_short : (a : ℕ) → a < length lists → length (next_in (nodes_of_lists lists) a) ≤ MOST_SUCCESSORS
+    next_is_short : (a : ℕ) → a < length lists → length (next_of_node (nodes_of_lists lists) a) ≤ MOST_SUCCESSORS
     next_is_short a lt =
         let e : slice_get lists a ≡ Some (get_or lists a None) = slice_get-get_or lists a None lt in
         omega (arith, (fit_at a (get_or lists a None) e).brief.few, ap length (next_at a (get_or lists a None) e))
 
-    -- a successor is a node
-    pub next_is_node : (a : ℕ) (list : Option (List ℕ)) → slice_get lists a ≡ Some list → (b : ℕ) → Contains (next_in (nodes_of_lists lists) a) b
+    -- each successor is a node
+    pub next_is_node : (a : ℕ) (list : Option (List ℕ)) → slice_get lists a ≡ Some list → (b : ℕ) → Contains (next_of_node (nodes_of_lists lists) a) b
         → b < length (nodes_of_lists lists)
     next_is_node a list e b c = omega (
       arith,
@@ -59,11 +59,11 @@ module _ (lists : List (Option (List ℕ))) where
           (subst (λ (ys : List ℕ). Contains ys b) (next_at a list e) c),
     )
 
-    -- a state between has few edges
+    -- in a state of the filling each node has few successors
     now_is_short : {now : List Node} {is_done : ℕ → Bool} → IsBetween (nodes_of_lists lists) now is_done
         → All (λ n. length n.next ≤ MOST_SUCCESSORS) now
     now_is_short {now} {is_done} between k d lt =
-        let here : next_in now k ≡ (get_or now k d).next = ap next_or_none (slice_get-get_or now k d lt) in
+        let here : next_of_node now k ≡ (get_or now k d).next = ap next_or_none (slice_get-get_or now k d lt) in
         elim (cases_Bool (is_done k)) [
           | inl e ↦ omega (
             arith,
@@ -86,7 +86,7 @@ module _ (lists : List (Option (List ℕ))) where
       (fit_at a list e).brief.few,
     )
 
-  -- what is allowed is fit
+  -- lists that are allowed are fit
   pub allowed_fit : AreAllowed lists → AreFit lists
   allowed_fit allowed = record {
     few = omega (arith, allowed.lawful.few, count_nodes);

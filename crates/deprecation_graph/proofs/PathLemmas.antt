@@ -1,4 +1,4 @@
--- Paths: a step more, one path after another, and what a path can't leave.
+-- Lemmas about paths: a further step, two paths joined, and properties that are kept along a path.
 use Rattle.std.proofs.Common.{◌≡◌, ℕ, ◌<◌, List, [], ◌∷◌, refl, sym, subst}
 use Rattle.deprecation_graph.specs.Paths.{HasEdge, IsPathFrom, last_from, Leads, IsClosed}
 
@@ -9,7 +9,7 @@ module _ {next : ℕ → List ℕ} where
   pub Leads-cons : {a b c : ℕ} → HasEdge next a b → Leads next b c → Leads next a c
   Leads-cons {a} {b} {c} edge l = record { path = b ∷ l.path; steps = (edge, l.steps); ends = l.ends }
 
-  -- what holds at the end of a path, and at a number where it holds at a successor, holds at its start
+  -- P is true at the start of a path, if it is true at the end and each step carries it back from a successor
   pub Leads-back : {b : ℕ} (P : ℕ → Type 0) → P b → ((a c : ℕ) → HasEdge next a c → Leads next c b → P c → P a) → {a : ℕ} → Leads next a b → P a
   Leads-back {b} P base step {a} l = go a l.path l.steps l.ends
     where
@@ -26,11 +26,11 @@ module _ {next : ℕ → List ℕ} where
   pub Leads-then : {a b c : ℕ} → Leads next a b → HasEdge next b c → Leads next a c
   Leads-then {a} {b} {c} l edge = Leads-trans l (Leads-edge edge)
 
-  -- what holds at the start of a path and is handed on to successors holds at its end
+  -- P is true at the end of a path, if it is true at the start and each step carries it on to the successor
   pub Leads-forth : {b : ℕ} (P : ℕ → Type 0) → ((a c : ℕ) → HasEdge next a c → P a → P c) → {a : ℕ} → Leads next a b → P a → P b
   Leads-forth {b} P step l = Leads-back (λ x. P x → P b) (λ h. h) (λ x y edge _ r h. r (step x y edge h)) l
 
-  -- a path to what nothing has as a successor, and one from what has none, has no step
+  -- a path to a number that is no successor has no step; neither has a path from a number without successors
   pub Leads-first : {a b : ℕ} → ((x : ℕ) → HasEdge next x b → ⊥) → Leads next a b → a ≡ b
   Leads-first {a} {b} none l = Leads-back (λ x. x ≡ b) refl (λ x y edge _ same. absurd (none x (subst (HasEdge next x) same edge))) l
 

@@ -1,16 +1,16 @@
--- What a step reads, and what follows from it.
+-- Lemmas: what a step of a filling reads, and what follows from it.
 use Rattle.std.proofs.Common.{◌≡◌, ◌⊎◌, ℕ, ◌+◌, ◌-◌, ◌<◌, ◌≤◌, true, false, List, [], ◌∷◌, ◌++◌, length, get_or, refl, sym, ap, subst, ◌∙◌, arith, inl, inr, Option, Some, None, slice_get, slice_set, replicate, take, zero, suc}
 use Rattle.std.proofs.lemmas.Bool.{cases_Bool, both_ways}
 use Rattle.std.proofs.lemmas.List.{get_or_default}
 use Rattle.std.proofs.lemmas.Option.{get_or_from_slice_get, slice_get-get_or, slice_get_read, slice_get_within}
 use Rattle.deprecation_graph.specs.Paths.{HasEdge}
-use Rattle.deprecation_graph.specs.Graph.{Node, next_in, node_of, successors, changed_nodes, IsLawful}
+use Rattle.deprecation_graph.specs.Graph.{Node, next_of_node, node_of, successors, changed_nodes, IsLawfulGraph}
 use Rattle.deprecation_graph.specs.Faults.{change_fault}
 use Rattle.deprecation_graph.specs.declared.filling.Mark.{Mark}
 use Rattle.deprecation_graph.specs.declared.filling.Mark.TheVariants.{New, Waiting, Done}
 use Rattle.deprecation_graph.specs.Filled.{nodes_of_lists}
 use Rattle.deprecation_graph.specs.Fit.{AreFit}
-use Rattle.deprecation_graph.specs.Filling.{is_new, is_waiting, mark_of, IsLast, IsOnWay, NoneIsNewer}
+use Rattle.deprecation_graph.specs.Filling.{is_new, is_waiting, mark_of, IsLastWaiting, IsOnWay, NoneIsNewer}
 use Rattle.deprecation_graph.proofs.BetweenLemmas.{all_are_done}
 use Rattle.deprecation_graph.proofs.ListLemmas.{count_nodes, node_at, next_at, next_is_node}
 use Rattle.deprecation_graph.proofs.FillingLemmas.{Moves, begun, mark_cases, entered, last_is_node, enters, advances, settles, is_allowed, waiting_is_cyclic}
@@ -19,27 +19,27 @@ pub mark_read : (marks : List Mark) (b : ℕ) (m : Mark) → b < length marks �
 mark_read marks b m lt e = get_or_default marks b New m lt ∙ sym e
 
 module _ {lists : List (Option (List ℕ))} {now : List Node} {marks : List Mark} {seen waiting : List ℕ} (fit : AreFit lists)
-    (way : IsOnWay (nodes_of_lists lists) now marks seen waiting) (a : ℕ) (last : IsLast waiting a) (list : Option (List ℕ))
+    (way : IsOnWay (nodes_of_lists lists) now marks seen waiting) (a : ℕ) (last : IsLastWaiting waiting a) (list : Option (List ℕ))
     (read : list ≡ get_or lists a list) where
   pub list_here : slice_get lists a ≡ Some list
   list_here = slice_get_read lists (length lists) a list refl (omega (arith, last_is_node way a last, count_nodes lists)) read
 
-  pub settles_here : {now' : List Node} {marks' : List Mark} {rest : List ℕ} → length (next_in (nodes_of_lists lists) a) ≤ get_or seen a 0
+  pub settles_here : {now' : List Node} {marks' : List Mark} {rest : List ℕ} → length (next_of_node (nodes_of_lists lists) a) ≤ get_or seen a 0
       → now' ≡ changed_nodes now a list → marks' ≡ slice_set marks a Done → waiting ≡ rest ++ a ∷ []
       → Moves (nodes_of_lists lists) marks seen waiting now' marks' seen rest
   settles_here all e f left = settles way a last list (node_at lists a list list_here) all e f left
 
-  pub allowed_here : length (next_in (nodes_of_lists lists) a) ≤ get_or seen a 0 → IsLawful (nodes_of_lists lists) → change_fault now a list ≡ None
+  pub allowed_here : length (next_of_node (nodes_of_lists lists) a) ≤ get_or seen a 0 → IsLawfulGraph (nodes_of_lists lists) → change_fault now a list ≡ None
   allowed_here all ok = is_allowed way a last list (node_at lists a list list_here) all ok
 
   module _ (next : List ℕ) (these : next ≡ successors list) (s b : ℕ) (was : s ≡ get_or seen a s) (within : s < length next)
       (at : b ≡ get_or next s b) (m : Mark) (mark : m ≡ get_or marks b m) where
-    found : slice_get (next_in (nodes_of_lists lists) a) s ≡ Some b
+    found : slice_get (next_of_node (nodes_of_lists lists) a) s ≡ Some b
     found = subst (λ (ys : List ℕ). slice_get ys s ≡ Some b) (these ∙ sym (next_at lists a list list_here))
         (slice_get_read next (length next) s b refl within at)
 
-    edge : HasEdge (next_in (nodes_of_lists lists)) a b
-    edge = (s, slice_get_within (next_in (nodes_of_lists lists) a) s b found, get_or_from_slice_get (next_in (nodes_of_lists lists) a) s b b found)
+    edge : HasEdge (next_of_node (nodes_of_lists lists)) a b
+    edge = (s, slice_get_within (next_of_node (nodes_of_lists lists) a) s b found, get_or_from_slice_get (next_of_node (nodes_of_lists lists) a) s b b found)
 
     place : b < length (nodes_of_lists lists)
     place = next_is_node lists fit a list list_here b edge
@@ -55,7 +55,7 @@ module _ {lists : List (Option (List ℕ))} {now : List Node} {marks : List Mark
         → Moves (nodes_of_lists lists) marks seen waiting now marks' seen waiting'
     enters_here new e f = enters way a last b place edge (marked ∙ new) e f
 
-    pub refuses_here : m ≡ Waiting → IsLawful (nodes_of_lists lists) → ⊥
+    pub refuses_here : m ≡ Waiting → IsLawfulGraph (nodes_of_lists lists) → ⊥
     refuses_here waits ok = waiting_is_cyclic way a b last edge (marked ∙ waits) ok
 
 -- ---- from a new node to the next
@@ -84,7 +84,7 @@ module _ {nodes now : List Node} {marks : List Mark} {seen waiting : List ℕ} (
       (subst (IsOnWay nodes now (slice_set marks b Waiting) seen) (sym f)
       (entered way b lt new (λ i d within. absurd (omega (arith, ap length idle)))))
 
-  -- where none is new and none waits, all have their successors
+  -- if no node is new and none waits, all nodes have their successors
   pub finished : ((a : ℕ) → a < length nodes → is_new (mark_of marks a) ≡ false) → now ≡ nodes
   finished none = all_are_done way.between (λ a lt. mark_cases (mark_of marks a) (none a lt)
       (not_waiting a (cases_Bool (is_waiting (mark_of marks a)))))
@@ -93,7 +93,7 @@ module _ {nodes now : List Node} {marks : List Mark} {seen waiting : List ℕ} (
       not_waiting a (inl w) = absurd (omega (arith, (way.waits a w).1, ap length idle))
       not_waiting a (inr f) = f
 
--- a vector that was empty, and was filled up
+-- a beginning of an empty list is empty
 take_none : {A : Type 0} (n : ℕ) → ◌≡◌ {A = List A} (take n []) []
 take_none zero = refl
 take_none (suc n) = refl
@@ -105,7 +105,7 @@ filled_up {A} n old items k x empty none e =
     e ∙ ap (λ (xs : List A). take n xs ++ replicate (n - k) x) empty ∙ ap (λ (xs : List A). xs ++ replicate (n - k) x) (take_none n)
     ∙ ap (λ (m : ℕ). replicate m x) all
 
--- all are new
+-- the first state of a filling: all nodes are new
 pub begins : (lists : List (Option (List ℕ))) {now : List Node} {marks : List Mark} {seen waiting : List ℕ}
     → now ≡ replicate (length lists) (node_of None) → marks ≡ replicate (length lists) New → seen ≡ replicate (length lists) 0 → waiting ≡ []
     → IsOnWay (nodes_of_lists lists) now marks seen waiting

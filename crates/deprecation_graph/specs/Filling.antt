@@ -1,8 +1,8 @@
--- How far the filling of a graph has come. No public clause speaks of it.
+-- The state of a graph that is being filled. Used only inside the crate.
 use Rattle.std.specs.Prelude.{◌≡◌, ℕ, ◌+◌, ◌-◌, ◌<◌, ◌≤◌, Bool, true, false, List, [], ◌∷◌, Option, Some, length, slice_get, slice_index, slice_index_or}
 use Rattle.std.specs.List.{All, Contains, sum_by}
 use Rattle.deprecation_graph.specs.Paths.{Leads}
-use Rattle.deprecation_graph.specs.Graph.{Node, next_in}
+use Rattle.deprecation_graph.specs.Graph.{Node, next_of_node}
 use Rattle.deprecation_graph.specs.declared.filling.Mark.{Mark}
 use Rattle.deprecation_graph.specs.declared.filling.Mark.TheVariants.{New, Waiting, Done}
 use Rattle.deprecation_graph.specs.declared.filling.Filling.{Filling}
@@ -24,43 +24,44 @@ is_done New = false
 is_done Waiting = false
 is_done Done = true
 
--- the mark of a node; past the last one it is new
+-- the mark of a node; a number past the last mark is new
 abbrev pub mark_of : List Mark → ℕ → Mark
 mark_of marks a = slice_index_or marks a New
 
 abbrev pub done_in : List Mark → ℕ → Bool
 done_in marks a = is_done (mark_of marks a)
 
--- nothing becomes new
+-- no node becomes new
 abbrev pub NoneIsNewer : List Mark → List Mark → Type 0
 NoneIsNewer old marks = (a : ℕ) → is_new (mark_of marks a) ≡ true → is_new (mark_of old a) ≡ true
 
--- the last of these
-abbrev pub IsLast : List ℕ → ℕ → Type 0
-IsLast waiting a = slice_get waiting (length waiting - 1) ≡ Some a
+-- the node is the last waiting node
+abbrev pub IsLastWaiting : List ℕ → ℕ → Type 0
+IsLastWaiting waiting a = slice_get waiting (length waiting - 1) ≡ Some a
 
--- some nodes are done, others wait, the last one for the node that is looked at next; some successors of each are known to be done
+-- The state of a filling. Nodes that are done have their successors. Each waiting node leads to the next ones. `seen`
+-- has, for each node, the number of its successors that are known to be done.
 pub record IsOnWay (nodes now : List Node) (marks : List Mark) (seen waiting : List ℕ) : Type 0 where
   pub between : IsBetween nodes now (done_in marks)
   pub marked : length marks ≡ length nodes
   pub counted : length seen ≡ length nodes
   pub below : All (λ a. a < length nodes) waiting
   pub waits : (a : ℕ) → is_waiting (mark_of marks a) ≡ true → Contains waiting a
-  pub leads : (i j d : ℕ) → i ≤ j → j < length waiting → Leads (next_in nodes) (slice_index_or waiting i d) (slice_index_or waiting j d)
-  pub known : (a k d : ℕ) → k < slice_index seen a → k < length (next_in nodes a) → done_in marks (slice_index_or (next_in nodes a) k d) ≡ true
+  pub leads : (i j d : ℕ) → i ≤ j → j < length waiting → Leads (next_of_node nodes) (slice_index_or waiting i d) (slice_index_or waiting j d)
+  pub known : (a k d : ℕ) → k < slice_index seen a → k < length (next_of_node nodes a) → done_in marks (slice_index_or (next_of_node nodes a) k d) ≡ true
 
 abbrev pub IsFilling : List (Option (List ℕ)) → Filling → Type 0
 IsFilling lists filling = IsOnWay (nodes_of_lists lists) filling.graph.nodes filling.marks.items filling.seen.items filling.waiting.items
 
--- ---- the steps that are left at most
+-- ---- an upper bound of the steps that remain
 
--- a new node is entered and left
+-- the two steps of a new node: it begins to wait, and it is done
 abbrev pub mark_work : Mark → ℕ
 mark_work New = 2
 mark_work Waiting = 0
 mark_work Done = 0
 
--- the successors that aren't known to be done
+-- the number of successors that aren't known to be done, summed over all nodes
 abbrev pub unseen : List Node → List ℕ → ℕ
 unseen [] seen = 0
 unseen (node ∷ nodes) [] = 0
@@ -72,7 +73,7 @@ work_of nodes marks seen waiting = sum_by mark_work marks + unseen nodes seen + 
 abbrev pub work : List (Option (List ℕ)) → Filling → ℕ
 work lists filling = work_of (nodes_of_lists lists) filling.marks.items filling.seen.items filling.waiting.items
 
--- a step towards the last state
+-- a step of the filling: the remaining work gets less, and no node becomes new
 pub record IsStep (lists : List (Option (List ℕ))) (old new : Filling) : Type 0 where
   pub filling : IsFilling lists new
   pub less : work lists new < work lists old

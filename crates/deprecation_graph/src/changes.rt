@@ -1,8 +1,8 @@
-// Changes of the nodes as they are kept.
+// Changes of the stored nodes.
 ghost use Rattle.std.specs.Prelude.{◌≡◌, ◌+◌, ◌≤◌, length, None, OnOk, option_copied};
-ghost use Rattle.deprecation_graph.specs.Graph.{next_in, edge_count, changed_nodes, successors as successors_of, NamesNodes};
+ghost use Rattle.deprecation_graph.specs.Graph.{next_of_node, edge_count, changed_nodes, successors as successors_of, NamesNodes};
 ghost use Rattle.deprecation_graph.specs.Faults.{change_fault};
-ghost use Rattle.deprecation_graph.specs.Kept.{nodes_in, IsKept, Regrows, HasRoom, KeepsRoom};
+ghost use Rattle.deprecation_graph.specs.Kept.{nodes_in, IsGraph, Regrows, HasRoom, KeepsGraphRoom};
 
 use crate::groups::{join_all, recount};
 use crate::kept::{KeptGraph, successors};
@@ -10,9 +10,9 @@ use crate::limits::{MOST_EDGES, MOST_NODES};
 use crate::mirror::{link_all, unlink_all};
 use out_of_memory::Memory;
 
-/// Makes room for so many nodes and edges.
+/// Makes room for this number of further nodes and edges.
 pub(crate) fn reserve_kept(kept: &mut KeptGraph, nodes: usize, edges: usize) -> Result<(), Memory>
-    requires sound { IsKept kept.old }
+    requires sound { IsGraph kept.old }
     requires few_nodes { length kept.old.active.items + nodes ≤ MOST_NODES }
     requires few_edges { edge_count (nodes_in kept.old) + edges ≤ MOST_EDGES }
     ensures regrown { Regrows kept.old kept.new }
@@ -29,16 +29,16 @@ pub(crate) fn reserve_kept(kept: &mut KeptGraph, nodes: usize, edges: usize) -> 
     Ok(())
 }
 
-/// Changes a node.
+/// Gives a node its new successors, or makes it active if `next` is `None`.
 pub(crate) fn set_kept(kept: &mut KeptGraph, node: u32, next: Option<&[u32]>)
-    requires sound { IsKept kept.old }
+    requires sound { IsGraph kept.old }
     requires change { NamesNodes (nodes_in kept.old) node (option_copied next) }
     requires allowed { change_fault (nodes_in kept.old) node (option_copied next) ≡ None }
     requires next_spare { length (successors_of (option_copied next)) ≤ kept.old.next.spare }
     requires before_spare { length (successors_of (option_copied next)) ≤ kept.old.before.spare }
-    ensures sound { IsKept kept.new }
+    ensures sound { IsGraph kept.new }
     ensures nodes { nodes_in kept.new ≡ changed_nodes (nodes_in kept.old) node (option_copied next.entry) }
-    ensures rooms { KeepsRoom kept.old kept.new (successors_of (option_copied next.entry)) (next_in (nodes_in kept.old) node) }
+    ensures rooms { KeepsGraphRoom kept.old kept.new (successors_of (option_copied next.entry)) (next_of_node (nodes_in kept.old) node) }
 {
     let all = successors(next);
     let is_active = next.is_none();

@@ -1,36 +1,36 @@
-// Ends, sources, and whether a change of one node is allowed.
+// Chains, ends and sources of nodes, and whether a change of a node is allowed.
 ghost use Rattle.std.specs.Prelude.{◌≡◌, ◌==◌, ◌<◌, ◌≤◌, length, slice_index_or, true, false, None, filter, find, IfOk, option_copied};
 ghost use Rattle.std.specs.List.{All, list_all};
 ghost use Rattle.deprecation_graph.specs.Paths.{IsClosed};
 ghost use Rattle.deprecation_graph.specs.Chains.{reaches};
-ghost use Rattle.deprecation_graph.specs.Graph.{next_in, chain_in, ends_in, sources_in, successors as successors_of, changed_nodes, NamesNodes, IsChange};
+ghost use Rattle.deprecation_graph.specs.Graph.{next_of_node, chain_in, ends_in, sources_in, successors as successors_of, changed_nodes, NamesNodes, IsChange};
 ghost use Rattle.deprecation_graph.specs.Faults.{cycle_in, is_wide_node, wide_in, change_fault, IsVerdict};
 ghost use Rattle.deprecation_graph.specs.Indexed.{has_none};
-ghost use Rattle.deprecation_graph.specs.Kept.{marks_after, nodes_in, nodes_after, AreFew, IsKept};
+ghost use Rattle.deprecation_graph.specs.Kept.{marks_after, nodes_in, nodes_after, AreFewSuccessors, IsGraph};
 
 use crate::fault::GraphFault;
 use crate::groups::{are_small, find_group};
-use crate::kept::{Change, KeptGraph, is_active_after, successors};
+use crate::kept::{KeptGraph, NodeChange, is_active_after, successors};
 use crate::limits::{MOST_ENDS, MOST_SUCCESSORS};
 use crate::search::find_all;
 use std::alloc::{AllocError, Global};
 
-// Whether nothing has the second node as a successor, or the first has none.
+// Whether `from` has no successor, or no node has `to` as a successor.
 fn has_no_step(kept: &KeptGraph, from: u32, to: u32) -> bool
-    requires kept { IsKept kept.now }
+    requires kept { IsGraph kept.now }
     requires from { from < length kept.now.active.items }
     requires to { to < length kept.now.active.items }
-    ensures { result ≡ true → reaches (next_in (nodes_in kept.now)) (length (nodes_in kept.now)) from to ≡ (from == to) }
+    ensures { result ≡ true → reaches (next_of_node (nodes_in kept.now)) (length (nodes_in kept.now)) from to ≡ (from == to) }
 {
     kept.before.is_empty(to as usize) || kept.next.is_empty(from as usize)
 }
 
-// Whether it is seen that the nodes are of different groups.
+// True only if the two nodes are in different groups. The result is false if the way to the head of a group is long.
 fn is_elsewhere(kept: &KeptGraph, from: u32, to: u32) -> bool
-    requires kept { IsKept kept.now }
+    requires kept { IsGraph kept.now }
     requires from { from < length kept.now.active.items }
     requires to { to < length kept.now.active.items }
-    ensures { result ≡ true → reaches (next_in (nodes_in kept.now)) (length (nodes_in kept.now)) from to ≡ (from == to) }
+    ensures { result ≡ true → reaches (next_of_node (nodes_in kept.now)) (length (nodes_in kept.now)) from to ≡ (from == to) }
 {
     let Some(from_group) = find_group(&kept.groups, from) else {
         return false;
@@ -41,27 +41,27 @@ fn is_elsewhere(kept: &KeptGraph, from: u32, to: u32) -> bool
     from_group != to_group
 }
 
-// Whether it is seen without a search that no path with a step leads from the first node to the second.
+// True only if no path with a step leads from `from` to `to`, and this is known without a search.
 fn is_apart(kept: &KeptGraph, from: u32, to: u32) -> bool
-    requires kept { IsKept kept.now }
+    requires kept { IsGraph kept.now }
     requires from { from < length kept.now.active.items }
     requires to { to < length kept.now.active.items }
-    ensures { result ≡ true → reaches (next_in (nodes_in kept.now)) (length (nodes_in kept.now)) from to ≡ (from == to) }
+    ensures { result ≡ true → reaches (next_of_node (nodes_in kept.now)) (length (nodes_in kept.now)) from to ≡ (from == to) }
 {
     has_no_step(kept, from, to) || is_elsewhere(kept, from, to)
 }
 
-/// Whether a path leads from the first node to the second.
+/// Whether a path leads from the node `from` to the node `to`.
 pub(crate) fn is_led_to(
     alloc: Global,
     kept: &KeptGraph,
     from: u32,
     to: u32,
 ) -> Result<bool, AllocError>
-    requires kept { IsKept kept.now }
+    requires kept { IsGraph kept.now }
     requires from { from < length kept.now.active.items }
     requires to { to < length kept.now.active.items }
-    ensures { IfOk result (λ led. led ≡ reaches (next_in (nodes_in kept.now)) (length (nodes_in kept.now)) from to) }
+    ensures { IfOk result (λ led. led ≡ reaches (next_of_node (nodes_in kept.now)) (length (nodes_in kept.now)) from to) }
 {
     if is_apart(kept, from, to) {
         return Ok(from == to);
@@ -70,39 +70,40 @@ pub(crate) fn is_led_to(
     Ok(chain.contains(&to))
 }
 
-/// The nodes to which a path leads.
+/// The chain of a node: the nodes to which a path leads from it. If a change is given, the chain is that after the
+/// change.
 pub(crate) fn find_chain(
     alloc: Global,
     kept: &KeptGraph,
-    change: Option<Change>,
+    change: Option<NodeChange>,
     start: u32,
 ) -> Result<Vec<u32>, AllocError>
-    requires kept { IsKept kept.now }
-    requires closed { IsClosed (next_in (nodes_after kept.now change)) (length kept.now.active.items) }
+    requires kept { IsGraph kept.now }
+    requires closed { IsClosed (next_of_node (nodes_after kept.now change)) (length kept.now.active.items) }
     requires start { start < length kept.now.active.items }
     ensures { IfOk result (λ chain. chain.items ≡ chain_in (nodes_after kept.now change.entry) start) }
 {
     find_all(alloc, &kept.next, change, start)
 }
 
-/// The nodes from which a path leads to this one: a search along the predecessors.
+/// The sources of a node: the nodes from which a path leads to it. The search follows the predecessors.
 pub(crate) fn find_sources(
     alloc: Global,
     kept: &KeptGraph,
     node: u32,
 ) -> Result<Vec<u32>, AllocError>
-    requires kept { IsKept kept.now }
+    requires kept { IsGraph kept.now }
     requires node { node < length kept.now.active.items }
     ensures { IfOk result (λ sources. sources.items ≡ sources_in (nodes_in kept.now) node) }
 {
     find_all(alloc, &kept.before, None, node)
 }
 
-// The active ones of these nodes.
+// The nodes of `chain` that are active. If a change is given, they are those that are active after it.
 fn keep_active(
     alloc: Global,
     active: &[bool],
-    change: Option<Change>,
+    change: Option<NodeChange>,
     chain: &[u32],
 ) -> Result<Vec<u32>, AllocError>
     requires { All (λ node. node < length active.now) chain.now }
@@ -117,15 +118,15 @@ fn keep_active(
     Ok(ends)
 }
 
-/// The ends of a node, after the change if there is one.
+/// The ends of a node. If a change is given, they are those after the change.
 pub(crate) fn find_ends(
     alloc: Global,
     kept: &KeptGraph,
-    change: Option<Change>,
+    change: Option<NodeChange>,
     start: u32,
 ) -> Result<Vec<u32>, AllocError>
-    requires kept { IsKept kept.now }
-    requires closed { IsClosed (next_in (nodes_after kept.now change)) (length kept.now.active.items) }
+    requires kept { IsGraph kept.now }
+    requires closed { IsClosed (next_of_node (nodes_after kept.now change)) (length kept.now.active.items) }
     requires start { start < length kept.now.active.items }
     ensures { IfOk result (λ ends. ends.items ≡ ends_in (nodes_after kept.now change.entry) start) }
 {
@@ -133,14 +134,14 @@ pub(crate) fn find_ends(
     keep_active(alloc, &kept.active, change, &chain)
 }
 
-// The first of these successors from which a path leads to the node, counted from 1.
+// The place, from 1, of the first of these successors from which a path leads to the node.
 fn find_cycle(
     alloc: Global,
     kept: &KeptGraph,
     node: u32,
     next: &[u32],
 ) -> Result<Option<u32>, AllocError>
-    requires kept { IsKept kept.now }
+    requires kept { IsGraph kept.now }
     requires node { node < length kept.now.active.items }
     requires next { All (λ successor. successor < length kept.now.active.items) next.now }
     requires few { length next.now ≤ MOST_SUCCESSORS }
@@ -156,10 +157,11 @@ fn find_cycle(
     Ok(None)
 }
 
-// Whether the change is one of an active node to one end at most. Each source of the node then loses an end for each that
-// it gets, so no node gets too wide, and none need be asked.
-fn is_narrow(alloc: Global, kept: &KeptGraph, change: Change) -> Result<bool, AllocError>
-    requires kept { IsKept kept.now }
+// True only if the node is active before the change, and has at most one end after it. Then each source of the node
+// loses the node as an end and gets at most one other end. So no node gets too many ends, and no search of the sources
+// is needed.
+fn is_narrow(alloc: Global, kept: &KeptGraph, change: NodeChange) -> Result<bool, AllocError>
+    requires kept { IsGraph kept.now }
     requires change { NamesNodes (nodes_in kept.now) change.node (option_copied change.next) }
     ensures { IfOk result (λ narrow. narrow ≡ true → wide_in (changed_nodes (nodes_in kept.now) change.entry.node (option_copied change.entry.next)) ≡ None) }
 {
@@ -170,10 +172,10 @@ fn is_narrow(alloc: Global, kept: &KeptGraph, change: Change) -> Result<bool, Al
     Ok(ends.len() <= 1)
 }
 
-// Whether it is seen from the groups that no node has too many ends after the change: the sources of the node have theirs in its
-// group and in those of its new successors.
-fn is_enclosed(alloc: Global, kept: &KeptGraph, change: Change) -> Result<bool, AllocError>
-    requires kept { IsKept kept.now }
+// True only if no node has too many ends after the change, and the groups show it. All ends of the node's sources are
+// in the group of the node and the groups of its new successors.
+fn is_enclosed(alloc: Global, kept: &KeptGraph, change: NodeChange) -> Result<bool, AllocError>
+    requires kept { IsGraph kept.now }
     requires change { NamesNodes (nodes_in kept.now) change.node (option_copied change.next) }
     ensures { IfOk result (λ enclosed. enclosed ≡ true → wide_in (changed_nodes (nodes_in kept.now) change.entry.node (option_copied change.entry.next)) ≡ None) }
 {
@@ -184,10 +186,10 @@ fn is_enclosed(alloc: Global, kept: &KeptGraph, change: Change) -> Result<bool, 
 fn find_wide_among(
     alloc: Global,
     kept: &KeptGraph,
-    change: Change,
+    change: NodeChange,
     nodes: &[u32],
 ) -> Result<Option<u32>, AllocError>
-    requires kept { IsKept kept.now }
+    requires kept { IsGraph kept.now }
     requires change { NamesNodes (nodes_in kept.now) change.node (option_copied change.next) }
     requires nodes { All (λ node. node < length kept.now.active.items) nodes.now }
     ensures { IfOk result (λ found. found ≡ find (is_wide_node (changed_nodes (nodes_in kept.now) change.entry.node (option_copied change.entry.next))) nodes.now) }
@@ -201,7 +203,7 @@ fn find_wide_among(
     Ok(None)
 }
 
-// Those of these nodes that are successors of none.
+// The sources that are successors of no node.
 fn keep_roots(alloc: Global, kept: &KeptGraph, sources: &[u32]) -> Result<Vec<u32>, AllocError>
     requires { All (λ source. source < length kept.now.before.lists) sources.now }
     ensures { IfOk result (λ roots. roots.items ≡ filter (has_none kept.now.before.lists) sources.now) }
@@ -215,14 +217,15 @@ fn keep_roots(alloc: Global, kept: &KeptGraph, sources: &[u32]) -> Result<Vec<u3
     Ok(roots)
 }
 
-// The least node with too many ends after the change: only the sources of the changed node can have more than before. What a
-// source ends at, each node that leads to it ends at too; so where no source that is a successor of none is too wide, none is.
+// The least node with too many ends after the change. Only a source of the changed node can get more ends than before.
+// Each end of a source is also an end of every node that leads to the source. So if no source that is a successor of no
+// node has too many ends, no source has.
 fn find_wide_source(
     alloc: Global,
     kept: &KeptGraph,
-    change: Change,
+    change: NodeChange,
 ) -> Result<Option<u32>, AllocError>
-    requires kept { IsKept kept.now }
+    requires kept { IsGraph kept.now }
     requires change { NamesNodes (nodes_in kept.now) change.node (option_copied change.next) }
     ensures { IfOk result (λ found. found ≡ wide_in (changed_nodes (nodes_in kept.now) change.entry.node (option_copied change.entry.next))) }
 {
@@ -247,22 +250,23 @@ fn are_active(active: &[bool], next: &[u32]) -> bool
     true
 }
 
-// Whether it is seen without a search that a node with these successors has few ends: with one it has the ends of that one,
-// and with active ones alone it has these.
+// True only if a node with these successors has few ends, and this is known without a search. A node with one successor
+// has the ends of this successor. A node with only active successors has these as its ends.
 fn are_few(kept: &KeptGraph, next: &[u32]) -> bool
     requires { All (λ node. node < length kept.now.active.items) next.now }
-    ensures { result ≡ true → AreFew kept.now.active.items next.now }
+    ensures { result ≡ true → AreFewSuccessors kept.now.active.items next.now }
 {
     next.len() <= 1 || are_active(&kept.active, next)
 }
 
-// The least node with too many ends after the change of a node that is a successor of none: it alone can get so many.
+// The least node with too many ends after the change of a node that is a successor of no node. Only the changed node
+// can get too many ends.
 fn find_wide_root(
     alloc: Global,
     kept: &KeptGraph,
-    change: Change,
+    change: NodeChange,
 ) -> Result<Option<u32>, AllocError>
-    requires kept { IsKept kept.now }
+    requires kept { IsGraph kept.now }
     requires change { IsChange (nodes_in kept.now) change.node (option_copied change.next) }
     requires root { has_none kept.now.before.lists change.node ≡ true }
     requires acyclic { cycle_in (nodes_in kept.now) change.node (successors_of (option_copied change.next)) ≡ None }
@@ -278,8 +282,8 @@ fn find_wide_root(
 }
 
 // The least node with too many ends after the change.
-fn find_wide(alloc: Global, kept: &KeptGraph, change: Change) -> Result<Option<u32>, AllocError>
-    requires kept { IsKept kept.now }
+fn find_wide(alloc: Global, kept: &KeptGraph, change: NodeChange) -> Result<Option<u32>, AllocError>
+    requires kept { IsGraph kept.now }
     requires change { IsChange (nodes_in kept.now) change.node (option_copied change.next) }
     requires acyclic { cycle_in (nodes_in kept.now) change.node (successors_of (option_copied change.next)) ≡ None }
     ensures { IfOk result (λ found. found ≡ wide_in (changed_nodes (nodes_in kept.now) change.entry.node (option_copied change.entry.next))) }
@@ -300,9 +304,9 @@ fn find_wide(alloc: Global, kept: &KeptGraph, change: Change) -> Result<Option<u
 pub(crate) fn check_change(
     alloc: Global,
     kept: &KeptGraph,
-    change: Change,
+    change: NodeChange,
 ) -> Result<(), GraphFault>
-    requires kept { IsKept kept.now }
+    requires kept { IsGraph kept.now }
     requires change { IsChange (nodes_in kept.now) change.node (option_copied change.next) }
     ensures { IsVerdict result (change_fault (nodes_in kept.now) change.entry.node (option_copied change.entry.next)) }
 {

@@ -1,4 +1,4 @@
-// The graph of given nodes.
+// Making a graph of given nodes.
 ghost use Rattle.std.specs.Prelude.{◌≡◌, IfErr, IfOk, OnOk};
 ghost use Rattle.deprecation_graph.specs.Filled.{nodes_of_lists, AreAllowed};
 
@@ -9,15 +9,17 @@ use crate::graph::DeprecationGraph;
 use cpe_rows::List;
 use std::alloc::Global;
 
-/// The graph whose node k is active where the k-th list is `None`, and has the successors of the list where it is `Some`.
+/// The graph whose node k is active if list k is `None`, and otherwise has the successors in list k.
 ///
-/// Each edge is looked at once, and each node changed once, when it is a successor of none yet: that costs no search where few active
-/// nodes hang together or the node has one successor at most, and else one of its chain at most (see
-/// [`check`](DeprecationGraph::check)). Beside the graph it takes some bytes of memory a node, and no stack, however long a chain is.
+/// Each edge is read once. Each node is changed once, before any node has it as a successor. A change needs no search
+/// if the node has at most one successor. Nor does it if the groups of the node and its successors have few active
+/// nodes. Otherwise it searches the chain of the node at most (see [`check`](DeprecationGraph::check)). Beside the
+/// graph, the function takes some bytes of memory for each node. The stack doesn't grow with the length of a chain.
 ///
 /// # Errors
 ///
-/// [`FillFault::Unlawful`] exactly where no graph may have these nodes. [`FillFault::Memory`] may come in place of any answer.
+/// [`FillFault::Unlawful`] exactly if no graph may have these nodes. [`FillFault::Memory`] may be returned instead of
+/// any result.
 pub fn fill(alloc: Global, lists: &[Option<List<u32>>]) -> Result<DeprecationGraph, FillFault>
     ensures ok { IfOk result (λ graph. graph.nodes ≡ nodes_of_lists lists.now) }
     ensures allowed { OnOk result (AreAllowed lists.now) }

@@ -1,12 +1,12 @@
-// A graph that is being filled, its nodes one after the other, each after its successors.
+// Filling a graph: the nodes get their successors one by one, each node after its own successors.
 ghost use Rattle.std.specs.Prelude.{◌≡◌, ◌+◌, ◌++◌, ◌∷◌, [], ◌<◌, ◌≤◌, length, replicate, slice_index, slice_set, false, IfErr, IfOk, OnOk, None, option_copied};
 ghost use Rattle.deprecation_graph.specs.declared.limits.TheConstants.{MOST_EDGES, MOST_NODES};
-ghost use Rattle.deprecation_graph.specs.Graph.{changed_nodes, edge_count, next_in, node_of, successors as successors_in, IsChange, IsLawful};
+ghost use Rattle.deprecation_graph.specs.Graph.{changed_nodes, edge_count, next_of_node, node_of, successors as successors_in, IsChange, IsLawfulGraph};
 ghost use Rattle.deprecation_graph.specs.Faults.{change_fault};
 ghost use Rattle.deprecation_graph.specs.declared.filling.Mark.TheVariants as mark;
 ghost use Rattle.deprecation_graph.specs.Filled.{nodes_of_lists};
 ghost use Rattle.deprecation_graph.specs.Fit.{AreFit};
-ghost use Rattle.deprecation_graph.specs.Filling.{is_new, mark_of, IsFilling, IsLast, IsStep, NoneIsNewer};
+ghost use Rattle.deprecation_graph.specs.Filling.{is_new, mark_of, IsFilling, IsLastWaiting, IsStep, NoneIsNewer};
 
 use crate::fault::GraphFault;
 use crate::fill_fault::FillFault;
@@ -16,19 +16,19 @@ use cpe_rows::List;
 use out_of_memory::Memory;
 use std::alloc::Global;
 
-/// How far a node has come.
+/// The state of a node in the filling of a graph.
 #[derive(Clone, Copy)]
 pub(crate) enum Mark {
-    /// Nothing led to it yet.
+    /// No path to it was followed yet.
     New,
-    /// It waits for its successors.
+    /// It waits until its successors are done.
     Waiting,
     /// It has its successors.
     Done,
 }
 
-/// The graph so far, and for each node its mark and how many of its successors are known to be done. Of the waiting nodes each is a
-/// successor of the one before it.
+/// The graph so far. For each node it has a mark, and the number of its successors that are known to be done. Each
+/// waiting node after the first is a successor of the waiting node before it.
 #[derive(Drop)]
 pub(crate) struct Filling {
     pub(crate) graph: DeprecationGraph,
@@ -37,7 +37,7 @@ pub(crate) struct Filling {
     pub(crate) waiting: Vec<u32>,
 }
 
-// How many edges there are.
+// The number of edges.
 fn count_edges(lists: &[Option<List<u32>>]) -> u32
     requires { AreFit lists.now }
     ensures { result ≤ MOST_EDGES }
@@ -49,7 +49,7 @@ fn count_edges(lists: &[Option<List<u32>>]) -> u32
     count
 }
 
-// As many active nodes as there are lists, and room for all edges, which is made once.
+// A graph of as many active nodes as there are lists, with room for all edges.
 fn bare(alloc: Global, lists: &[Option<List<u32>>]) -> Result<DeprecationGraph, Memory>
     requires { AreFit lists.now }
     ensures { IfOk result (λ graph. graph.nodes ≡ replicate (length lists.now) (node_of None)) }
@@ -62,7 +62,7 @@ fn bare(alloc: Global, lists: &[Option<List<u32>>]) -> Result<DeprecationGraph, 
     Ok(graph)
 }
 
-/// All nodes are new.
+/// The first state of a filling: all nodes are new.
 pub(crate) fn begin(alloc: Global, lists: &[Option<List<u32>>]) -> Result<Filling, Memory>
     requires { AreFit lists.now }
     ensures filling { IfOk result (λ filling. IsFilling lists.now filling) }
@@ -80,7 +80,7 @@ pub(crate) fn begin(alloc: Global, lists: &[Option<List<u32>>]) -> Result<Fillin
     })
 }
 
-// The node waits, behind all others that do.
+// Makes a node wait, as the last of the waiting nodes.
 fn enter(marks: &mut Vec<Mark>, waiting: &mut Vec<u32>, node: u32) -> Result<(), Memory>
     requires { node < length marks.old.items }
     ensures marks { OnOk result (marks.new.items ≡ slice_set marks.old.items node mark.Waiting) }
@@ -91,10 +91,10 @@ fn enter(marks: &mut Vec<Mark>, waiting: &mut Vec<u32>, node: u32) -> Result<(),
     Ok(())
 }
 
-// The last waiting node is done.
+// Marks the last waiting node as done, and removes it from the waiting nodes.
 fn leave(marks: &mut Vec<Mark>, waiting: &mut Vec<u32>, node: u32)
     requires node { node < length marks.old.items }
-    requires last { IsLast waiting.old.items node }
+    requires last { IsLastWaiting waiting.old.items node }
     ensures marks { marks.new.items ≡ slice_set marks.old.items node mark.Done }
     ensures waiting { waiting.old.items ≡ waiting.new.items ++ node ∷ [] }
 {
@@ -102,7 +102,8 @@ fn leave(marks: &mut Vec<Mark>, waiting: &mut Vec<u32>, node: u32)
     waiting.pop();
 }
 
-// Changes a node, where the graph allows it. The room for it is there as a rule.
+// Gives a node its successors, if the graph allows it. Usually the graph already has the room, so `reserve` does
+// nothing.
 fn change(
     alloc: Global,
     graph: &mut DeprecationGraph,
@@ -127,7 +128,7 @@ fn change(
     }
 }
 
-// The last waiting node gets its successors, which are all done.
+// Gives the last waiting node its successors, which are all done.
 fn settle(
     alloc: Global,
     lists: &[Option<List<u32>>],
@@ -136,17 +137,17 @@ fn settle(
 ) -> Result<(), FillFault>
     requires fit { AreFit lists.now }
     requires filling { IsFilling lists.now filling.old }
-    requires last { IsLast filling.old.waiting.items node }
-    requires seen { length (next_in (nodes_of_lists lists.now) node) ≤ slice_index filling.old.seen.items node }
+    requires last { IsLastWaiting filling.old.waiting.items node }
+    requires seen { length (next_of_node (nodes_of_lists lists.now) node) ≤ slice_index filling.old.seen.items node }
     ensures ok { OnOk result (IsStep lists.now filling.old filling.new) }
-    ensures unlawful { IfErr result (λ f. f ≡ FillFault.Unlawful → IsLawful (nodes_of_lists lists.now) → ⊥) }
+    ensures unlawful { IfErr result (λ f. f ≡ FillFault.Unlawful → IsLawfulGraph (nodes_of_lists lists.now) → ⊥) }
 {
     change(alloc, &mut filling.graph, node, &lists[node as usize])?;
     leave(&mut filling.marks, &mut filling.waiting, node);
     Ok(())
 }
 
-// The last waiting node looks at a successor, the first that it doesn't know to be done.
+// One step: the last waiting node looks at its first successor that isn't known to be done.
 fn step(
     alloc: Global,
     lists: &[Option<List<u32>>],
@@ -155,9 +156,9 @@ fn step(
 ) -> Result<(), FillFault>
     requires fit { AreFit lists.now }
     requires filling { IsFilling lists.now filling.old }
-    requires last { IsLast filling.old.waiting.items node }
+    requires last { IsLastWaiting filling.old.waiting.items node }
     ensures ok { OnOk result (IsStep lists.now filling.old filling.new) }
-    ensures unlawful { IfErr result (λ f. f ≡ FillFault.Unlawful → IsLawful (nodes_of_lists lists.now) → ⊥) }
+    ensures unlawful { IfErr result (λ f. f ≡ FillFault.Unlawful → IsLawfulGraph (nodes_of_lists lists.now) → ⊥) }
 {
     let next = successors(&lists[node as usize]);
     let seen = filling.seen[node as usize];
@@ -178,7 +179,8 @@ fn step(
     }
 }
 
-// A new node gets its successors, after all that it leads to. A chain may be long, so the waiting nodes stand in a vector.
+// Gives a new node its successors, after all nodes to which paths lead from it. The waiting nodes are in a vector, as a
+// chain may be too long for the stack.
 fn finish(
     alloc: Global,
     lists: &[Option<List<u32>>],
@@ -194,7 +196,7 @@ fn finish(
     ensures idle { OnOk result (filling.new.waiting.items ≡ []) }
     ensures newer { OnOk result (NoneIsNewer filling.old.marks.items filling.new.marks.items) }
     ensures entered { OnOk result (is_new (mark_of filling.new.marks.items node) ≡ false) }
-    ensures unlawful { IfErr result (λ f. f ≡ FillFault.Unlawful → IsLawful (nodes_of_lists lists.now) → ⊥) }
+    ensures unlawful { IfErr result (λ f. f ≡ FillFault.Unlawful → IsLawfulGraph (nodes_of_lists lists.now) → ⊥) }
 {
     enter(&mut filling.marks, &mut filling.waiting, node)?;
     while let Some(last) = filling.waiting.last().copied() {
@@ -203,7 +205,7 @@ fn finish(
     Ok(())
 }
 
-// The same for a node that may be done already.
+// Gives a node its successors, unless the node is done.
 fn visit(
     alloc: Global,
     lists: &[Option<List<u32>>],
@@ -218,7 +220,7 @@ fn visit(
     ensures idle { OnOk result (filling.new.waiting.items ≡ []) }
     ensures newer { OnOk result (NoneIsNewer filling.old.marks.items filling.new.marks.items) }
     ensures entered { OnOk result (is_new (mark_of filling.new.marks.items node) ≡ false) }
-    ensures unlawful { IfErr result (λ f. f ≡ FillFault.Unlawful → IsLawful (nodes_of_lists lists.now) → ⊥) }
+    ensures unlawful { IfErr result (λ f. f ≡ FillFault.Unlawful → IsLawfulGraph (nodes_of_lists lists.now) → ⊥) }
 {
     match filling.marks[node as usize] {
         Mark::New => finish(alloc, lists, filling, node),
@@ -227,11 +229,11 @@ fn visit(
     }
 }
 
-/// All nodes get their successors.
+/// Gives all nodes their successors.
 ///
 /// # Errors
 ///
-/// That no graph may have them, or that memory ran out.
+/// [`FillFault::Unlawful`] if no graph may have these nodes. [`FillFault::Memory`] if memory runs out.
 pub(crate) fn finish_all(
     alloc: Global,
     lists: &[Option<List<u32>>],
@@ -241,7 +243,7 @@ pub(crate) fn finish_all(
     requires filling { IsFilling lists.now filling.old }
     requires idle { filling.old.waiting.items ≡ [] }
     ensures nodes { OnOk result (filling.new.graph.nodes ≡ nodes_of_lists lists.now) }
-    ensures unlawful { IfErr result (λ f. f ≡ FillFault.Unlawful → IsLawful (nodes_of_lists lists.now) → ⊥) }
+    ensures unlawful { IfErr result (λ f. f ≡ FillFault.Unlawful → IsLawfulGraph (nodes_of_lists lists.now) → ⊥) }
 {
     for node in 0..lists.len() {
         visit(alloc, lists, filling, node as u32)?;

@@ -1,4 +1,4 @@
-// What is asked of the lists before any edge is set.
+// The tests of the given lists before any edge is added.
 ghost use Rattle.std.specs.Prelude.{◌≡◌, ◌↔◌, ◌<◌, IsTrue, length, nat_eq, option_copied};
 ghost use Rattle.std.specs.List.{All, IsDistinct};
 ghost use Rattle.deprecation_graph.specs.Graph.{successors as successors_in};
@@ -8,7 +8,7 @@ ghost use Rattle.deprecation_graph.specs.Fit.{IsFit, AreFit};
 use crate::limits::{MOST_NODES, MOST_SUCCESSORS};
 use cpe_rows::List;
 
-/// The list as a change takes it.
+/// The list as the argument of a change.
 pub(crate) fn change_to(list: &Option<List<u32>>) -> Option<&[u32]>
     ensures { option_copied result ≡ list.now }
 {
@@ -18,7 +18,7 @@ pub(crate) fn change_to(list: &Option<List<u32>>) -> Option<&[u32]>
     }
 }
 
-/// The successors of the list; none where there is no list.
+/// The successors in the list; the empty slice if the list is `None`.
 pub(crate) fn successors(list: &Option<List<u32>>) -> &[u32]
     ensures { result.now ≡ successors_in list.now }
 {
@@ -28,7 +28,7 @@ pub(crate) fn successors(list: &Option<List<u32>>) -> &[u32]
     }
 }
 
-// Whether no number stands twice. There are few, so each is looked for among those before it.
+// Whether all numbers are different. The numbers are few, so each is looked for among those before it.
 fn are_different(next: &[u32]) -> bool
     ensures { IsTrue result ↔ IsDistinct nat_eq next.now }
 {
@@ -47,7 +47,7 @@ fn are_below(next: &[u32], count: usize) -> bool
     next.iter().all(|node| (*node as usize) < count)
 }
 
-// Whether a list has few successors, all different.
+// Whether a list has at most `MOST_SUCCESSORS` successors, all different.
 fn is_brief(list: &Option<List<u32>>) -> bool
     ensures { IsTrue result ↔ IsBrief list.now }
 {
@@ -55,14 +55,15 @@ fn is_brief(list: &Option<List<u32>>) -> bool
     next.len() <= MOST_SUCCESSORS && are_different(next)
 }
 
-// The same, and whether each of them is a node.
+// Whether a list has at most `MOST_SUCCESSORS` successors, all different and below the count.
 fn is_fit(list: &Option<List<u32>>, count: usize) -> bool
     ensures { IsTrue result ↔ IsFit count list.now }
 {
     is_brief(list) && are_below(successors(list), count)
 }
 
-/// Whether there are few nodes, and each may have its successors but for cycles and the number of ends.
+/// Whether there are at most `MOST_NODES` nodes, and each list has at most `MOST_SUCCESSORS` successors, all different
+/// nodes. Cycles and ends aren't tested.
 pub(crate) fn are_fit(lists: &[Option<List<u32>>]) -> bool
     ensures { IsTrue result ↔ AreFit lists.now }
 {

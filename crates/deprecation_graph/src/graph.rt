@@ -1,18 +1,19 @@
-// The graph: what is kept, and its public calls.
+// The graph: its fields and its public functions.
 ghost use Rattle.std.specs.Prelude.{◌≡◌, ◌↔◌, ◌+◌, ◌++◌, ◌∷◌, [], ◌<◌, ◌≤◌, length, None, IsTrue, OnOk, OnErr, IfOk, option_copied};
 
 use crate::changes::{reserve_kept, set_kept};
 use crate::check::{check_change, find_chain, find_ends, find_sources, is_led_to};
 use crate::fault::GraphFault;
-use crate::groups::Member;
-use crate::kept::{Change, KeptGraph, successors};
+use crate::groups::GroupMember;
+use crate::kept::{KeptGraph, NodeChange, successors};
 use crate::limits::{MOST_EDGES, MOST_NODES};
 use crate::lists::Lists;
 use out_of_memory::Memory;
 use std::alloc::Global;
 use std::marker::Model;
 
-/// Nodes with their successors. Nodes are numbered from 0 in the order in which they were added, and none is ever taken out.
+/// Nodes with their successors. Nodes are numbered from 0 in the order in which they were added. No node is ever
+/// removed.
 #[derive(Drop)]
 pub struct DeprecationGraph {
     kept: KeptGraph,
@@ -34,11 +35,11 @@ impl Model for DeprecationGraph {
 
 impl DeprecationGraph {
     ghost use Rattle.deprecation_graph.specs.Paths.{Leads};
-    ghost use Rattle.deprecation_graph.specs.Graph.{next_in, chain_in, ends_in, sources_in, edge_count, successors as successors_of, changed_nodes, node_of, NamesNodes, IsChange, IsLawful};
+    ghost use Rattle.deprecation_graph.specs.Graph.{next_of_node, chain_in, ends_in, sources_in, edge_count, successors as successors_of, changed_nodes, node_of, NamesNodes, IsChange, IsLawfulGraph};
     ghost use Rattle.deprecation_graph.specs.Faults.{change_fault, IsVerdict};
-    ghost use Rattle.deprecation_graph.specs.Room.{MakesRoom};
+    ghost use Rattle.deprecation_graph.specs.Room.{MakesGraphRoom};
 
-    /// A graph without nodes and without room. It takes no memory.
+    /// A graph without nodes and without room. Allocates: no.
     pub fn new(alloc: Global) -> DeprecationGraph
         ensures nodes { result.nodes ≡ [] }
     {
@@ -55,16 +56,16 @@ impl DeprecationGraph {
         }
     }
 
-    /// Makes room for so many nodes and edges beside those that are there; room that is there already counts, and neither room
-    /// falls. The nodes stay. It costs a constant, or where vectors move a copy of what they hold.
+    /// Makes room for this number of nodes and edges beside the present ones. Room that is already there counts, and no
+    /// room is lost. The nodes are unchanged. Costs constant time, or a copy of each vector that has to grow.
     ///
     /// # Errors
     ///
-    /// [`Memory`] where memory ran out; the graph and its rooms are as before.
+    /// [`Memory`] if memory runs out. The graph and its room are then unchanged.
     pub fn reserve(&mut self, nodes: u32, edges: u32) -> Result<(), Memory>
         requires nodes { length self.old.nodes + nodes ≤ MOST_NODES }
         requires edges { edge_count self.old.nodes + edges ≤ MOST_EDGES }
-        ensures { MakesRoom self.old self.new nodes edges result }
+        ensures { MakesGraphRoom self.old self.new nodes edges result }
     {
         let room_nodes = self.room_nodes.max(nodes);
         let room_edges = self.room_edges.max(edges);
@@ -74,7 +75,7 @@ impl DeprecationGraph {
         Ok(())
     }
 
-    /// Adds an active node, which has no successors, and answers its number. It takes no memory, and a constant time.
+    /// Adds an active node without successors, and returns its number. Costs constant time. Allocates: no.
     pub fn add_node(&mut self) -> u32
         requires { 1 ≤ self.old.room_nodes }
         ensures number { result ≡ length self.old.nodes }
@@ -86,41 +87,43 @@ impl DeprecationGraph {
         self.kept.active.push_reserved(true);
         self.kept.next.add_list();
         self.kept.before.add_list();
-        self.kept.groups.push_reserved(Member::Head(1));
+        self.kept.groups.push_reserved(GroupMember::Head(1));
         self.room_nodes -= 1;
         number
     }
 
-    /// Whether the node may get these successors and be inactive, or with `None` be active. The graph stays.
+    /// Whether the node may get these successors and become inactive, or become active if `next` is `None`. The graph
+    /// is unchanged.
     ///
-    /// Nodes between which an edge was ever made are of one group. No path leads to a node of another group, and where the group
-    /// of the node and those of its new successors have fewer active nodes together than [`MOST_ENDS`](crate::MOST_ENDS), no
-    /// node can get too wide: neither needs a search, unless the way to the name of one of the groups is long.
+    /// Nodes are in groups, and each group has a head, its lowest node. If an edge was ever between two nodes, both are
+    /// in one group. No path leads from a group to another. So the check needs no search if the groups of the node and
+    /// of its new successors have fewer than [`MOST_ENDS`](crate::MOST_ENDS) active nodes together. It searches if the
+    /// way to the head of such a group is long.
     ///
-    /// Else, where the node is a successor of none, it costs no search if it gets one successor, none, or active ones alone, and
-    /// otherwise one of the chain that it would have. Where the node is a successor of another, the chain of each new successor
-    /// that has some itself is searched, up to the first from which a path leads to the node. Then, where the node is active,
-    /// the chain that it would have is searched; if it has one end at most, no node can get too wide. Else the node's sources are
-    /// searched, and the chain that each of them would have which is a successor of none, up to the first that is too wide. Only
-    /// where one is, the chain that each source would have is searched, up to the least that is too wide.
+    /// Otherwise the cost depends on the node. If no node has it as a successor, one search of its new chain is enough.
+    /// No search is needed if it gets at most one successor, or only active successors. If some node has it as a
+    /// successor, the chains of the new successors are searched for a path back to the node. Then, if the node is
+    /// active, its new chain is searched. If this chain has at most one end, no node can get too many ends. Otherwise
+    /// the node's sources are searched, and then the new chain of each source that is a successor of no node. If one of
+    /// these has too many ends, the new chains of all sources are searched for the least such node.
     ///
     /// # Errors
     ///
-    /// [`GraphFault::Cycle`] exactly where a path leads from a successor to the node, which leads to itself; else
-    /// [`GraphFault::TooWide`] exactly where after the change a node would have more than [`MOST_ENDS`](crate::MOST_ENDS)
-    /// ends. [`GraphFault::Memory`] may come in place of any answer.
+    /// [`GraphFault::Cycle`] exactly if a path leads from a successor to the node; a path also leads from the node to
+    /// itself. Otherwise [`GraphFault::TooWide`] exactly if a node would have more than [`MOST_ENDS`](crate::MOST_ENDS)
+    /// ends after the change. [`GraphFault::Memory`] may be returned instead of any result.
     pub fn check(&self, alloc: Global, node: u32, next: Option<&[u32]>) -> Result<(), GraphFault>
         requires { IsChange self.now.nodes node (option_copied next) }
         ensures { IsVerdict result (change_fault self.now.nodes node (option_copied next.entry)) }
     {
-        check_change(alloc, &self.kept, Change { node, next })
+        check_change(alloc, &self.kept, NodeChange { node, next })
     }
 
-    /// Makes a change that [`check`](Self::check) allows: the node has these successors and is inactive, or with `None` it has
-    /// none and is active. All other nodes stay. It takes no memory.
+    /// Makes a change that [`check`](Self::check) allows. The node gets these successors and becomes inactive. If
+    /// `next` is `None`, the node gets no successors and becomes active. All other nodes are unchanged. Allocates: no.
     ///
-    /// Each new successor costs a constant beside the ways to the names of two groups, which are halved for the next time, and
-    /// each old one a constant, however many nodes it is a successor of.
+    /// Each new successor costs constant time and the ways to the heads of two groups; these ways are halved for the
+    /// next search. Each old successor costs constant time, however many nodes have it as a successor.
     pub fn set_edges(&mut self, node: u32, next: Option<&[u32]>)
         requires change { IsChange self.old.nodes node (option_copied next) }
         requires allowed { change_fault self.old.nodes node (option_copied next) ≡ None }
@@ -133,27 +136,29 @@ impl DeprecationGraph {
         self.room_edges -= successors(next).len() as u32;
     }
 
-    /// Whether a path leads from the first node to the second; from each node one leads to itself. It searches the chain of the
-    /// first, unless that has no successor or the second is a successor of none.
+    /// Whether a path leads from the node `from` to the node `to`. A path leads from each node to itself. The function
+    /// searches the chain of `from`. It needs no search if `from` has no successor, or if `to` is a successor of no
+    /// node.
     ///
     /// # Errors
     ///
-    /// [`Memory`] where memory ran out.
+    /// [`Memory`] if memory runs out.
     pub fn reaches(&self, alloc: Global, from: u32, to: u32) -> Result<bool, Memory>
         requires from { from < length self.now.nodes }
         requires to { to < length self.now.nodes }
-        ensures { IfOk result (λ led. IsTrue led ↔ Leads (next_in self.now.nodes) from to) }
+        ensures { IfOk result (λ led. IsTrue led ↔ Leads (next_of_node self.now.nodes) from to) }
     {
         Ok(is_led_to(alloc, &self.kept, from, to)?)
     }
 
-    /// The chain of the node: the nodes to which a path leads from it, itself among them, rising.
+    /// The chain of the node: the node itself and all nodes to which a path leads from it, in increasing order.
     ///
-    /// The search costs the nodes and edges of the chain, times the logarithm of its length, and memory for its nodes.
+    /// The time is proportional to the nodes and edges of the chain, times the logarithm of its length. The memory is
+    /// proportional to its nodes.
     ///
     /// # Errors
     ///
-    /// [`Memory`] where memory ran out.
+    /// [`Memory`] if memory runs out.
     pub fn chain(&self, alloc: Global, node: u32) -> Result<Vec<u32>, Memory>
         requires { node < length self.now.nodes }
         ensures { IfOk result (λ chain. chain.items ≡ chain_in self.now.nodes node) }
@@ -161,11 +166,11 @@ impl DeprecationGraph {
         Ok(find_chain(alloc, &self.kept, None, node)?)
     }
 
-    /// The ends of the node: the active nodes of its chain, rising. It searches the chain.
+    /// The ends of the node: the active nodes of its chain, in increasing order. The function searches the chain.
     ///
     /// # Errors
     ///
-    /// [`Memory`] where memory ran out.
+    /// [`Memory`] if memory runs out.
     pub fn ends(&self, alloc: Global, node: u32) -> Result<Vec<u32>, Memory>
         requires { node < length self.now.nodes }
         ensures { IfOk result (λ ends. ends.items ≡ ends_in self.now.nodes node) }
@@ -173,12 +178,13 @@ impl DeprecationGraph {
         Ok(find_ends(alloc, &self.kept, None, node)?)
     }
 
-    /// The ends that the node would have if `changed` had these successors and were inactive, or with `None` were active. The graph
-    /// stays, and whether the change is allowed isn't asked. It searches the chain that the node would have.
+    /// The ends that `node` would have after a change of the node `changed`. The change gives `changed` these
+    /// successors and makes it inactive, or makes it active if `next` is `None`. The graph is unchanged. The function
+    /// doesn't test whether the change is allowed. It searches the chain that `node` would have.
     ///
     /// # Errors
     ///
-    /// [`Memory`] where memory ran out.
+    /// [`Memory`] if memory runs out.
     pub fn ends_after(
         &self,
         alloc: Global,
@@ -190,19 +196,20 @@ impl DeprecationGraph {
         requires change { NamesNodes self.now.nodes changed (option_copied next) }
         ensures { IfOk result (λ ends. ends.items ≡ ends_in (changed_nodes self.now.nodes changed (option_copied next.entry)) node) }
     {
-        let change = Change {
+        let change = NodeChange {
             node: changed,
             next,
         };
         Ok(find_ends(alloc, &self.kept, Some(change), node)?)
     }
 
-    /// The sources of the node: the nodes whose chain has it, itself among them, rising. It searches backwards, and costs the
-    /// sources and the edges that lead to them, times the logarithm of their number.
+    /// The sources of the node: all nodes whose chain has it, the node itself included, in increasing order. The
+    /// function searches backwards. The time is proportional to the sources and the edges between them, times the
+    /// logarithm of their number.
     ///
     /// # Errors
     ///
-    /// [`Memory`] where memory ran out.
+    /// [`Memory`] if memory runs out.
     pub fn sources(&self, alloc: Global, node: u32) -> Result<Vec<u32>, Memory>
         requires { node < length self.now.nodes }
         ensures { IfOk result (λ sources. sources.items ≡ sources_in self.now.nodes node) }
@@ -210,10 +217,10 @@ impl DeprecationGraph {
         Ok(find_sources(alloc, &self.kept, node)?)
     }
 
-    /// What is so of every graph: its nodes are few, successors are nodes, an active node has none, there is no cycle, and
-    /// no node has more than [`MOST_ENDS`](crate::MOST_ENDS) ends. It does nothing, and tells a proof so.
+    /// Law: each graph has at most [`MOST_NODES`](crate::MOST_NODES) nodes and no cycle. Each successor is a node.
+    /// Active nodes have no successors. No node has more than [`MOST_ENDS`](crate::MOST_ENDS) ends.
     pub fn lawful(&self)
-        ensures { IsLawful self.now.nodes }
+        ensures { IsLawfulGraph self.now.nodes }
     {
         let _kept = &self.kept;
     }

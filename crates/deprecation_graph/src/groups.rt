@@ -1,85 +1,85 @@
-// Groups of nodes that no edge leaves. Groups are joined and never split, so where edges were taken out they may be larger than
-// they need be.
+// Groups of nodes that no edge leaves. Groups are joined and never split. So if edges are removed, a group may be
+// larger than it need be.
 ghost use Rattle.std.specs.Prelude.{◌≡◌, ◌+◌, ◌<◌, ◌≤◌, ◌∷◌, [], cond, length, slice_get, slice_set, true, Some, IfOk, IfSome, vec_capacity, All, sum_by};
-ghost use Rattle.deprecation_graph.specs.Groups.{AreGrouped, HasMembers, Recounts, IsNext, IsHead, count_at, IsName, AreNames, AreSmall, KeepsGroups, PutsUnder, Joins};
+ghost use Rattle.deprecation_graph.specs.Groups.{AreNodesGrouped, HasMembers, Recounts, IsNext, IsHead, member_count, IsGroupOf, AreGroupsOf, AreSmall, KeepsGroups, PutsUnder, Joins};
 
 use crate::few::add;
 use crate::limits::MOST_ENDS;
 use std::alloc::{AllocError, Global};
 
-// The most steps to the name of a group that are taken where the way can't be halved.
+// The most steps on the way to the head of a group, in a function that can't shorten this way.
 const MOST_STEPS: u32 = 256;
 
-/// What is kept of a node's group.
+/// What is stored of a node's group. The head of a group is its lowest node, and names the group.
 #[derive(Clone, Copy)]
-pub(crate) enum Member {
-    /// The node names its group, which has so many active nodes.
+pub(crate) enum GroupMember {
+    /// The node is the head of its group. The group has this number of active nodes.
     Head(u32),
-    /// The node is of the group of this one, which is lower.
+    /// The node is in the group of this lower node.
     Under(u32),
 }
 
-/// The name of a node's group; `None` where the way to it is long.
-pub(crate) fn find_group(groups: &[Member], node: u32) -> Option<u32>
-    requires grouped { AreGrouped groups.now }
+/// The head of a node's group; `None` if the way to it has more than `MOST_STEPS` steps.
+pub(crate) fn find_group(groups: &[GroupMember], node: u32) -> Option<u32>
+    requires grouped { AreNodesGrouped groups.now }
     requires node { node < length groups.now }
     ensures head { IfSome result (IsHead groups.now) }
-    ensures name { IfSome result (IsName groups.now node) }
+    ensures name { IfSome result (IsGroupOf groups.now node) }
 {
     let mut at = node;
     for _ in 0..MOST_STEPS {
         match groups[at as usize] {
-            Member::Under(lower) => at = lower,
-            Member::Head(_) => return Some(at),
+            GroupMember::Under(lower) => at = lower,
+            GroupMember::Head(_) => return Some(at),
         }
     }
     None
 }
 
-// The lower node whose group a node's is; the node itself where it names its group.
-fn next_of(groups: &[Member], node: u32) -> u32
-    requires grouped { AreGrouped groups.now }
+// A lower node of the same group; the node itself if it is the head.
+fn next_of(groups: &[GroupMember], node: u32) -> u32
+    requires grouped { AreNodesGrouped groups.now }
     requires node { node < length groups.now }
     ensures { IsNext groups.now node result }
 {
     match groups[node as usize] {
-        Member::Under(lower) => lower,
-        Member::Head(_) => node,
+        GroupMember::Under(lower) => lower,
+        GroupMember::Head(_) => node,
     }
 }
 
-// The name of a node's group. It halves the way to it, so that it is soon found again.
-fn shorten(groups: &mut Vec<Member>, node: u32) -> u32
-    requires grouped { AreGrouped groups.old.items }
+// The head of a node's group. The way to the head is halved, so that it is found faster next time.
+fn shorten(groups: &mut Vec<GroupMember>, node: u32) -> u32
+    requires grouped { AreNodesGrouped groups.old.items }
     requires node { node < length groups.old.items }
     ensures head { IsHead groups.new.items result }
-    ensures name { IsName groups.old.items node result }
+    ensures name { IsGroupOf groups.old.items node result }
     ensures kept { KeepsGroups groups.old.items groups.new.items }
     ensures capacity { vec_capacity groups.new ≡ vec_capacity groups.old }
 {
     let mut at = node;
-    while let Member::Under(lower) = groups[at as usize] {
+    while let GroupMember::Under(lower) = groups[at as usize] {
         let further = next_of(groups, lower);
-        groups[at as usize] = Member::Under(further);
+        groups[at as usize] = GroupMember::Under(further);
         at = further;
     }
     at
 }
 
-// How many active nodes the group of this name has.
-fn count_of(groups: &[Member], name: u32) -> u32
+// The number of active nodes in the group of this head.
+fn count_of(groups: &[GroupMember], name: u32) -> u32
     requires { IsHead groups.now name }
-    ensures { slice_get groups.now name ≡ Some (Member.Head result) }
+    ensures { slice_get groups.now name ≡ Some (GroupMember.Head result) }
 {
     match groups[name as usize] {
-        Member::Head(count) => count,
-        Member::Under(_) => unreachable!(),
+        GroupMember::Head(count) => count,
+        GroupMember::Under(_) => unreachable!(),
     }
 }
 
-// Joins two groups under the lower name.
-fn put_under(groups: &mut Vec<Member>, gone: u32, stays: u32)
-    requires grouped { AreGrouped groups.old.items }
+// Joins two groups. The lower head is the head of the joined group.
+fn put_under(groups: &mut Vec<GroupMember>, gone: u32, stays: u32)
+    requires grouped { AreNodesGrouped groups.old.items }
     requires gone { IsHead groups.old.items gone }
     requires stays { IsHead groups.old.items stays }
     requires lower { stays < gone }
@@ -87,13 +87,13 @@ fn put_under(groups: &mut Vec<Member>, gone: u32, stays: u32)
     ensures capacity { vec_capacity groups.new ≡ vec_capacity groups.old }
 {
     let count = count_of(groups, gone) + count_of(groups, stays);
-    groups[stays as usize] = Member::Head(count);
-    groups[gone as usize] = Member::Under(stays);
+    groups[stays as usize] = GroupMember::Head(count);
+    groups[gone as usize] = GroupMember::Under(stays);
 }
 
 // Joins the groups of two nodes.
-fn join(groups: &mut Vec<Member>, node: u32, other: u32)
-    requires grouped { AreGrouped groups.old.items }
+fn join(groups: &mut Vec<GroupMember>, node: u32, other: u32)
+    requires grouped { AreNodesGrouped groups.old.items }
     requires node { node < length groups.old.items }
     requires other { other < length groups.old.items }
     ensures joins { Joins groups.old.items groups.new.items node (other ∷ []) }
@@ -108,9 +108,9 @@ fn join(groups: &mut Vec<Member>, node: u32, other: u32)
     }
 }
 
-/// Joins the group of a node and those of these others.
-pub(crate) fn join_all(groups: &mut Vec<Member>, node: u32, others: &[u32])
-    requires grouped { AreGrouped groups.old.items }
+/// Joins the group of a node and the groups of other nodes.
+pub(crate) fn join_all(groups: &mut Vec<GroupMember>, node: u32, others: &[u32])
+    requires grouped { AreNodesGrouped groups.old.items }
     requires node { node < length groups.old.items }
     requires others { All (λ other. other < length groups.old.items) others.now }
     ensures joins { Joins groups.old.items groups.new.items node others.now }
@@ -121,9 +121,9 @@ pub(crate) fn join_all(groups: &mut Vec<Member>, node: u32, others: &[u32])
     }
 }
 
-/// The node is to be active, or not to be: its group counts it so.
-pub(crate) fn recount(groups: &mut Vec<Member>, active: &[bool], node: u32, is_active: bool)
-    requires grouped { AreGrouped groups.old.items }
+/// Counts the node in its group as active, or as inactive.
+pub(crate) fn recount(groups: &mut Vec<GroupMember>, active: &[bool], node: u32, is_active: bool)
+    requires grouped { AreNodesGrouped groups.old.items }
     requires members { HasMembers groups.old.items active.now }
     requires node { node < length groups.old.items }
     ensures recounts { Recounts groups.old.items groups.new.items active.now (slice_set active.now node is_active) }
@@ -132,10 +132,10 @@ pub(crate) fn recount(groups: &mut Vec<Member>, active: &[bool], node: u32, is_a
     let name = shorten(groups, node);
     let count = count_of(groups, name);
     let count = recounted(count, active[node as usize], is_active);
-    groups[name as usize] = Member::Head(count);
+    groups[name as usize] = GroupMember::Head(count);
 }
 
-// A count once what was counted or not is counted or not.
+// A count after one thing changes. `was` says whether the thing was counted before, `is` whether it is counted after.
 fn recounted(count: u32, was: bool, is: bool) -> u32
     requires room { count < 4294967295 }
     requires counted { was ≡ true → 1 ≤ count }
@@ -148,18 +148,18 @@ fn recounted(count: u32, was: bool, is: bool) -> u32
     }
 }
 
-// The names of the groups of a node and of these others, each once; `None` where the way to one is long.
+// The heads of the groups of a node and of other nodes, without repetitions; `None` if the way to a head is long.
 fn find_groups(
     alloc: Global,
-    groups: &[Member],
+    groups: &[GroupMember],
     node: u32,
     others: &[u32],
 ) -> Result<Option<Vec<u32>>, AllocError>
-    requires grouped { AreGrouped groups.now }
+    requires grouped { AreNodesGrouped groups.now }
     requires node { node < length groups.now }
     requires others { All (λ other. other < length groups.now) others.now }
     ensures heads { IfOk result (λ found. IfSome found (λ names. All (IsHead groups.now) names.items)) }
-    ensures names { IfOk result (λ found. IfSome found (λ names. AreNames groups.now node others.now names.items)) }
+    ensures names { IfOk result (λ found. IfSome found (λ names. AreGroupsOf groups.now node others.now names.items)) }
 {
     let mut names = Vec::new(alloc);
     let Some(name) = find_group(groups, node) else {
@@ -175,10 +175,10 @@ fn find_groups(
     Ok(Some(names))
 }
 
-// Whether groups have fewer active nodes together than a node may have ends.
-fn have_few(groups: &[Member], names: &[u32]) -> bool
+// Whether groups have fewer active nodes together than the most ends that a node may have.
+fn have_few(groups: &[GroupMember], names: &[u32]) -> bool
     requires { All (IsHead groups.now) names.now }
-    ensures { result ≡ true → sum_by (count_at groups.now) names.now < MOST_ENDS }
+    ensures { result ≡ true → sum_by (member_count groups.now) names.now < MOST_ENDS }
 {
     let mut total: usize = 0;
     for name in names {
@@ -190,14 +190,15 @@ fn have_few(groups: &[Member], names: &[u32]) -> bool
     true
 }
 
-/// Whether it is seen that the groups of a node and of these others have fewer active nodes together than a node may have ends.
+/// True only if the groups of a node and of other nodes have fewer than `MOST_ENDS` active nodes together. The result
+/// is also false if more than `MOST_STEPS` steps lead from a node to the head of its group.
 pub(crate) fn are_small(
     alloc: Global,
-    groups: &[Member],
+    groups: &[GroupMember],
     node: u32,
     others: &[u32],
 ) -> Result<bool, AllocError>
-    requires grouped { AreGrouped groups.now }
+    requires grouped { AreNodesGrouped groups.now }
     requires node { node < length groups.now }
     requires others { All (λ other. other < length groups.now) others.now }
     ensures { IfOk result (λ small. small ≡ true → AreSmall groups.now node others.now) }

@@ -1,32 +1,33 @@
-// The nodes as they are kept, and as they would be after a change.
+// The stored nodes, and what they would be after a change.
 ghost use Rattle.std.specs.Prelude.{◌≡◌, ◌<◌, length, slice_index_or, false, OnOk, option_copied};
 ghost use Rattle.deprecation_graph.specs.Graph.{successors as successors_of_change};
-ghost use Rattle.deprecation_graph.specs.Indexed.{list_of};
+ghost use Rattle.deprecation_graph.specs.Indexed.{list_of_node};
 ghost use Rattle.deprecation_graph.specs.Kept.{lists_after, marks_after};
 
-use crate::groups::Member;
+use crate::groups::GroupMember;
 use crate::lists::Lists;
 use std::alloc::AllocError;
 
-/// Whether each node is active, its successors, its predecessors, and its group.
+/// For each node: whether it is active, its successors, its predecessors, and its group.
 #[derive(Drop)]
 pub(crate) struct KeptGraph {
     pub(crate) active: Vec<bool>,
     pub(crate) next: Lists,
     pub(crate) before: Lists,
-    // The cell of each edge in `before`, by its cell in `next`: where to look for it first.
+    // For each cell in `next`, the cell in `before` that has the same edge. It is a hint: the search for the edge
+    // begins there.
     pub(crate) mates: Vec<u32>,
-    pub(crate) groups: Vec<Member>,
+    pub(crate) groups: Vec<GroupMember>,
 }
 
-/// A node, and the successors that it is to have; with none it is to be active.
+/// A change of one node: its new successors, or `None` if the node becomes active.
 #[derive(Clone, Copy)]
-pub(crate) struct Change<'a> {
+pub(crate) struct NodeChange<'a> {
     pub(crate) node: u32,
     pub(crate) next: Option<&'a [u32]>,
 }
 
-/// The successors that a node is to have; none where it is to be active.
+/// The new successors of a change; the empty list if the node becomes active.
 pub(crate) fn successors(next: Option<&[u32]>) -> &[u32]
     ensures { result.now ≡ successors_of_change (option_copied next.entry) }
 {
@@ -36,15 +37,15 @@ pub(crate) fn successors(next: Option<&[u32]>) -> &[u32]
     }
 }
 
-/// Copies the list of a number, after the change if there is one.
+/// Copies the successor list of a node into `into`. If a change is given, the list is that after the change.
 pub(crate) fn read_after(
     lists: &Lists,
-    change: Option<Change>,
+    change: Option<NodeChange>,
     node: u32,
     into: &mut Vec<u32>,
 ) -> Result<(), AllocError>
     requires { node < length lists.now.lists }
-    ensures { OnOk result (into.new.items ≡ list_of (lists_after lists.now.lists change.entry) node) }
+    ensures { OnOk result (into.new.items ≡ list_of_node (lists_after lists.now.lists change.entry) node) }
 {
     if let Some(change) = change {
         if change.node == node {
@@ -56,8 +57,8 @@ pub(crate) fn read_after(
     lists.read(node as usize, into)
 }
 
-/// Whether a node is active after the change, if there is one.
-pub(crate) fn is_active_after(active: &[bool], change: Option<Change>, node: u32) -> bool
+/// Whether a node is active. If a change is given, the result is that after the change.
+pub(crate) fn is_active_after(active: &[bool], change: Option<NodeChange>, node: u32) -> bool
     requires { node < length active.now }
     ensures { result ≡ slice_index_or (marks_after active.now change.entry) node false }
 {

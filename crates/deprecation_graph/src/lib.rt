@@ -1,4 +1,4 @@
-//! A graph of deprecations (NIST IR 7697): which nodes replace a node, and which active nodes are its ends.
+//! A graph of deprecations (NIST IR 7697): each node's successors, and the active nodes at which its paths end.
 //!
 //! Nodes are numbers from 0 without gaps. A node is active, or it is inactive and has a list of successors, which may
 //! be empty. On a path, each node after the first is a successor of the node before it. The chain of a node has the
@@ -12,10 +12,10 @@
 //! is small, a change needs no search.
 //!
 //! [`fill`] makes a graph of given nodes, whose edges may be in any order. It gives a node its successors only after
-//! these have their own successors. So if the last graph is lawful, each graph before it is lawful too. And if a graph
-//! is refused, the given nodes make no lawful graph.
+//! each successor has its own successors. So if the last graph is lawful, each graph before it is lawful too. And if a
+//! graph is refused, the given nodes make no lawful graph.
 //!
-//! Laws are functions without effect: [`chains_are_paths`](law::chains_are_paths),
+//! Three functions do nothing, and their contracts are laws: [`chains_are_paths`](law::chains_are_paths),
 //! [`changes_are_local`](law::changes_are_local), [`additions_are_local`](law::additions_are_local).
 #![tactic(auto)]
 

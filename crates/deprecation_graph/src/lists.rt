@@ -1,7 +1,7 @@
-// Lists of numbers by index, which lie in a pool.
+// Lists of numbers by index, stored in a pool.
 ghost use Rattle.std.specs.Prelude.{◌≡◌, ◌+◌, ◌++◌, ◌∷◌, [], ◌<◌, ◌≤◌, length, slice_get, slice_set, OnOk, Contains};
-ghost use Rattle.list_pool.specs.Pool.{IsLive};
-ghost use Rattle.deprecation_graph.specs.Heads.{values};
+ghost use Rattle.list_pool.specs.Pool.{IsLiveList};
+ghost use Rattle.deprecation_graph.specs.Heads.{heads_values};
 
 use list_pool::{CellName, ListName, MOST_SLOTS, Pool};
 use std::alloc::{AllocError, Global};
@@ -28,7 +28,7 @@ impl Model for Lists {
 }
 
 impl Lists {
-    ghost use Rattle.deprecation_graph.specs.Indexed.{list_of, has_none, without, size_of};
+    ghost use Rattle.deprecation_graph.specs.Indexed.{list_of_node, has_none, without_number, size_of};
     ghost use Rattle.deprecation_graph.specs.Mirror.{Loses};
 
     /// No lists.
@@ -42,7 +42,7 @@ impl Lists {
         }
     }
 
-    /// Makes room for so many lists, and for so many lists and numbers together.
+    /// Makes room for this number of further lists, and for `all` further lists and numbers together.
     pub(crate) fn reserve(&mut self, lists: usize, all: usize) -> Result<(), AllocError>
         requires { size_of self.old.lists + all ≤ MOST_SLOTS }
         ensures lists { self.new.lists ≡ self.old.lists }
@@ -58,7 +58,7 @@ impl Lists {
         }
     }
 
-    /// Adds an empty list, which is the last.
+    /// Adds an empty list at the end.
     pub(crate) fn add_list(&mut self)
         requires room { 1 ≤ self.old.room }
         requires spare { 1 ≤ self.old.spare }
@@ -72,11 +72,11 @@ impl Lists {
         }
     }
 
-    /// Puts a number last in a list.
+    /// Adds a number at the end of a list.
     pub(crate) fn push(&mut self, list: usize, value: u32)
         requires list { list < length self.old.lists }
         requires spare { 1 ≤ self.old.spare }
-        ensures lists { self.new.lists ≡ slice_set self.old.lists list (list_of self.old.lists list ++ value ∷ []) }
+        ensures lists { self.new.lists ≡ slice_set self.old.lists list (list_of_node self.old.lists list ++ value ∷ []) }
         ensures spare { self.new.spare + 1 ≡ self.old.spare }
         ensures room { self.new.room ≡ self.old.room }
     {
@@ -84,11 +84,11 @@ impl Lists {
         self.pool.push(head, value);
     }
 
-    /// Takes out the first of these numbers, which is there.
+    /// Removes the first occurrence of a number from a list that has it.
     pub(crate) fn remove(&mut self, list: usize, value: u32)
         requires list { list < length self.old.lists }
-        requires there { Contains (list_of self.old.lists list) value }
-        ensures lists { self.new.lists ≡ slice_set self.old.lists list (without value (list_of self.old.lists list)) }
+        requires there { Contains (list_of_node self.old.lists list) value }
+        ensures lists { self.new.lists ≡ slice_set self.old.lists list (without_number value (list_of_node self.old.lists list)) }
         ensures spare { self.new.spare ≡ self.old.spare + 1 }
         ensures room { self.new.room ≡ self.old.room }
     {
@@ -98,11 +98,12 @@ impl Lists {
         }
     }
 
-    /// Takes out one of these numbers, which is there. Where this cell of the list has it, that takes a constant time: the first
-    /// number of the list takes its place, and is answered. Else the list is walked.
+    /// Removes one occurrence of a number from a list that has it. If the given cell is in the list and has the number,
+    /// this costs constant time. The first number of the list is then moved into the cell, and is returned. Otherwise
+    /// the list is searched.
     pub(crate) fn remove_at(&mut self, list: usize, value: u32, cell: CellName) -> Option<u32>
         requires list { list < length self.old.lists }
-        requires there { Contains (list_of self.old.lists list) value }
+        requires there { Contains (list_of_node self.old.lists list) value }
         ensures lists { Loses self.old.lists self.new.lists list value }
         ensures spare { self.new.spare ≡ self.old.spare + 1 }
         ensures room { self.new.room ≡ self.old.room }
@@ -139,7 +140,7 @@ impl Lists {
         }
     }
 
-    /// Below which the numbers of all cells are that are there or may be put in.
+    /// A bound above the numbers of all cells that are used or may be used without taking memory.
     pub(crate) fn most_cells(&self) -> usize {
         self.pool.lawful();
         self.pool.size() + self.pool.spare()
@@ -148,7 +149,7 @@ impl Lists {
     /// The first number of a list.
     pub(crate) fn first(&self, list: usize) -> Option<u32>
         requires { list < length self.now.lists }
-        ensures { result ≡ slice_get (list_of self.now.lists list) 0 }
+        ensures { result ≡ slice_get (list_of_node self.now.lists list) 0 }
     {
         let head = self.heads[list];
         match self.pool.first(head) {
@@ -157,7 +158,7 @@ impl Lists {
         }
     }
 
-    /// Whether a list has no number.
+    /// Whether a list is empty.
     pub(crate) fn is_empty(&self, list: usize) -> bool
         requires { list < length self.now.lists }
         ensures { result ≡ has_none self.now.lists list }
@@ -165,26 +166,26 @@ impl Lists {
         self.first(list).is_none()
     }
 
-    /// How many lists there are.
+    /// The number of lists.
     pub(crate) fn len(&self) -> usize
         ensures { result ≡ length self.now.lists }
     {
         self.heads.len()
     }
 
-    /// Copies a list.
+    /// Copies a list into `into`.
     pub(crate) fn read(&self, list: usize, into: &mut Vec<u32>) -> Result<(), AllocError>
         requires { list < length self.now.lists }
-        ensures { OnOk result (into.new.items ≡ list_of self.now.lists list) }
+        ensures { OnOk result (into.new.items ≡ list_of_node self.now.lists list) }
     {
         read_list(&self.pool, self.heads[list], into)
     }
 }
 
-// Copies a list of a pool.
+// Copies a list of a pool into `into`.
 fn read_list(pool: &Pool, head: ListName, into: &mut Vec<u32>) -> Result<(), AllocError>
-    requires { IsLive pool.now.lists head.0 }
-    ensures { OnOk result (into.new.items ≡ values pool.now.lists head.0) }
+    requires { IsLiveList pool.now.lists head.0 }
+    ensures { OnOk result (into.new.items ≡ heads_values pool.now.lists head.0) }
 {
     into.clear();
     let mut next = pool.first(head);

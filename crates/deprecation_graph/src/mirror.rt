@@ -1,12 +1,13 @@
-// Edges that are kept both ways: the successors of each node, and its predecessors.
+// Edges stored in both directions: the successors and the predecessors of each node.
 ghost use Rattle.std.specs.Prelude.{◌≡◌, ◌+◌, ◌++◌, ◌∷◌, [], ◌<◌, ◌≤◌, length, slice_set, Contains, All};
-ghost use Rattle.deprecation_graph.specs.Indexed.{list_of, without};
+ghost use Rattle.deprecation_graph.specs.Indexed.{list_of_node, without_number};
 ghost use Rattle.deprecation_graph.specs.Mirror.{IsMirror};
 
 use crate::lists::Lists;
 use list_pool::CellName;
 
-// The cell that is noted for another. Any answer will do where none is, as no proof rests on what is noted.
+// The mate of a cell in `next`: the cell in `before` that is noted for the same edge. If none is noted, any cell is
+// returned. Mates are hints, and no proof depends on them.
 fn mate(mates: &[u32], cell: Option<CellName>) -> CellName {
     match cell {
         Some(cell) => match mates.get(cell.0 as usize) {
@@ -17,7 +18,7 @@ fn mate(mates: &[u32], cell: Option<CellName>) -> CellName {
     }
 }
 
-// Notes a cell for another.
+// Notes the mate of a cell.
 fn set_mate(mates: &mut [u32], cell: Option<CellName>, mate: Option<CellName>) {
     let (Some(cell), Some(mate)) = (cell, mate) else {
         return;
@@ -27,7 +28,8 @@ fn set_mate(mates: &mut [u32], cell: Option<CellName>, mate: Option<CellName>) {
     }
 }
 
-// Notes the cell for the edge that moved into it, if one did. Its node has few others.
+// Notes the new mate of the edge that was moved into `cell`, if an edge was moved. The edge's node has few edges, so
+// the edge is found soon.
 fn move_mate(next: &Lists, mates: &mut [u32], moved: Option<u32>, to: u32, cell: CellName) {
     if let Some(from) = moved {
         set_mate(mates, next.cell_of(from as usize, to), Some(cell));
@@ -41,8 +43,8 @@ fn link(next: &mut Lists, before: &mut Lists, mates: &mut [u32], from: u32, to: 
     requires next_spare { 1 ≤ next.old.spare }
     requires before_spare { 1 ≤ before.old.spare }
     requires mirror { IsMirror next.old.lists before.old.lists }
-    ensures next { next.new.lists ≡ slice_set next.old.lists from (list_of next.old.lists from ++ to ∷ []) }
-    ensures before { before.new.lists ≡ slice_set before.old.lists to (list_of before.old.lists to ++ from ∷ []) }
+    ensures next { next.new.lists ≡ slice_set next.old.lists from (list_of_node next.old.lists from ++ to ∷ []) }
+    ensures before { before.new.lists ≡ slice_set before.old.lists to (list_of_node before.old.lists to ++ from ∷ []) }
     ensures mirror { IsMirror next.new.lists before.new.lists }
     ensures next_spare { next.new.spare + 1 ≡ next.old.spare }
     ensures before_spare { before.new.spare + 1 ≡ before.old.spare }
@@ -58,13 +60,13 @@ fn link(next: &mut Lists, before: &mut Lists, mates: &mut [u32], from: u32, to: 
     );
 }
 
-// Takes out an edge. Where it is the first of its node, its mate is noted.
+// Removes an edge. If it is the first edge of the node `from`, its mate is known, and the removal costs constant time.
 fn unlink(next: &mut Lists, before: &mut Lists, mates: &mut [u32], from: u32, to: u32)
     requires from { from < length next.old.lists }
     requires to { to < length before.old.lists }
-    requires there { Contains (list_of next.old.lists from) to }
+    requires there { Contains (list_of_node next.old.lists from) to }
     requires mirror { IsMirror next.old.lists before.old.lists }
-    ensures next { next.new.lists ≡ slice_set next.old.lists from (without to (list_of next.old.lists from)) }
+    ensures next { next.new.lists ≡ slice_set next.old.lists from (without_number to (list_of_node next.old.lists from)) }
     ensures before { length before.new.lists ≡ length before.old.lists }
     ensures mirror { IsMirror next.new.lists before.new.lists }
     ensures next_spare { next.new.spare ≡ next.old.spare + 1 }
@@ -78,16 +80,16 @@ fn unlink(next: &mut Lists, before: &mut Lists, mates: &mut [u32], from: u32, to
     move_mate(next, mates, moved, to, cell);
 }
 
-/// Takes out all edges from a number.
+/// Removes all edges that start at a number.
 pub(crate) fn unlink_all(next: &mut Lists, before: &mut Lists, mates: &mut [u32], from: u32)
     requires from { from < length next.old.lists }
-    requires closed { All (λ to. to < length before.old.lists) (list_of next.old.lists from) }
+    requires closed { All (λ to. to < length before.old.lists) (list_of_node next.old.lists from) }
     requires mirror { IsMirror next.old.lists before.old.lists }
     ensures next { next.new.lists ≡ slice_set next.old.lists from [] }
     ensures before { length before.new.lists ≡ length before.old.lists }
     ensures mirror { IsMirror next.new.lists before.new.lists }
-    ensures next_spare { next.new.spare ≡ next.old.spare + length (list_of next.old.lists from) }
-    ensures before_spare { before.new.spare ≡ before.old.spare + length (list_of next.old.lists from) }
+    ensures next_spare { next.new.spare ≡ next.old.spare + length (list_of_node next.old.lists from) }
+    ensures before_spare { before.new.spare ≡ before.old.spare + length (list_of_node next.old.lists from) }
     ensures next_room { next.new.room ≡ next.old.room }
     ensures before_room { before.new.room ≡ before.old.room }
 {
@@ -96,7 +98,7 @@ pub(crate) fn unlink_all(next: &mut Lists, before: &mut Lists, mates: &mut [u32]
     }
 }
 
-/// Adds edges from a number to these.
+/// Adds an edge from the number `from` to each of these numbers.
 pub(crate) fn link_all(
     next: &mut Lists,
     before: &mut Lists,
@@ -109,7 +111,7 @@ pub(crate) fn link_all(
     requires mirror { IsMirror next.old.lists before.old.lists }
     requires next_spare { length all.now ≤ next.old.spare }
     requires before_spare { length all.now ≤ before.old.spare }
-    ensures next { next.new.lists ≡ slice_set next.old.lists from (list_of next.old.lists from ++ all.now) }
+    ensures next { next.new.lists ≡ slice_set next.old.lists from (list_of_node next.old.lists from ++ all.now) }
     ensures before { length before.new.lists ≡ length before.old.lists }
     ensures mirror { IsMirror next.new.lists before.new.lists }
     ensures next_spare { next.new.spare + length all.now ≡ next.old.spare }

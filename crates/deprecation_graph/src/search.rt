@@ -1,20 +1,21 @@
-// A search along lists, of successors or of predecessors. It takes time and memory for what it finds, and not for all nodes.
+// A search along lists of successors or predecessors. Time and memory depend on what it finds, not on the number of
+// nodes.
 ghost use Rattle.std.specs.Prelude.{◌≡◌, ◌<◌, ◌∷◌, [], length, IfOk, OnOk};
 ghost use Rattle.std.specs.Ordering.{nat_cmp};
 ghost use Rattle.std.specs.BTreeSet as set;
 ghost use Rattle.deprecation_graph.specs.Paths.{IsClosed};
 ghost use Rattle.deprecation_graph.specs.Chains.{IsChain};
 ghost use Rattle.deprecation_graph.specs.Searches.{Visits, IsReached};
-ghost use Rattle.deprecation_graph.specs.Indexed.{list_of};
+ghost use Rattle.deprecation_graph.specs.Indexed.{list_of_node};
 ghost use Rattle.deprecation_graph.specs.Kept.{lists_after};
 
 use crate::few::find_few;
-use crate::kept::{Change, read_after};
+use crate::kept::{NodeChange, read_after};
 use crate::lists::Lists;
 use std::alloc::{AllocError, Global};
 use std::collections::BTreeSet;
 
-// A number is found, and is to be looked into unless it was found before.
+// Adds a number to the found numbers. If it is new, it is also added to the numbers whose lists are still to be read.
 fn visit(found: &mut BTreeSet<u32>, todo: &mut Vec<u32>, node: u32) -> Result<(), AllocError>
     ensures ordered { OnOk result (set.IsOrdered nat_cmp found.new) }
     ensures visits { OnOk result (Visits found.old found.new todo.old.items todo.new.items (node ∷ [])) }
@@ -25,7 +26,7 @@ fn visit(found: &mut BTreeSet<u32>, todo: &mut Vec<u32>, node: u32) -> Result<()
     Ok(())
 }
 
-// These numbers are found, one after the other.
+// Adds each of these numbers to the found numbers, like `visit`.
 fn visit_all(
     found: &mut BTreeSet<u32>,
     todo: &mut Vec<u32>,
@@ -41,16 +42,16 @@ fn visit_all(
     Ok(())
 }
 
-// The numbers to which a path leads along the lists, after the change if there is one.
+// The numbers to which a path leads along the lists. If a change is given, the lists are those after it.
 fn find_reached(
     alloc: Global,
     lists: &Lists,
-    change: Option<Change>,
+    change: Option<NodeChange>,
     start: u32,
 ) -> Result<BTreeSet<u32>, AllocError>
-    requires closed { IsClosed (list_of (lists_after lists.now.lists change)) (length lists.now.lists) }
+    requires closed { IsClosed (list_of_node (lists_after lists.now.lists change)) (length lists.now.lists) }
     requires start { start < length lists.now.lists }
-    ensures { IfOk result (IsReached (list_of (lists_after lists.now.lists change.entry)) start) }
+    ensures { IfOk result (IsReached (list_of_node (lists_after lists.now.lists change.entry)) start) }
 {
     let mut found = BTreeSet::new(alloc);
     let mut todo = Vec::new(alloc);
@@ -63,23 +64,24 @@ fn find_reached(
     Ok(found)
 }
 
-// The numbers of a set, rising.
+// The numbers of a set, in increasing order.
 fn keys(alloc: Global, found: &BTreeSet<u32>) -> Result<Vec<u32>, AllocError>
     ensures { IfOk result (λ v. v.items ≡ found.now.keys) }
 {
     found.iter().copied().collect(alloc)
 }
 
-/// The numbers to which a path leads along the lists, after the change if there is one, rising.
+/// The numbers to which a path leads along the lists, in increasing order. If a change is given, the lists are those
+/// after it.
 pub(crate) fn find_all(
     alloc: Global,
     lists: &Lists,
-    change: Option<Change>,
+    change: Option<NodeChange>,
     start: u32,
 ) -> Result<Vec<u32>, AllocError>
-    requires closed { IsClosed (list_of (lists_after lists.now.lists change)) (length lists.now.lists) }
+    requires closed { IsClosed (list_of_node (lists_after lists.now.lists change)) (length lists.now.lists) }
     requires start { start < length lists.now.lists }
-    ensures { IfOk result (λ v. IsChain (list_of (lists_after lists.now.lists change.entry)) start v.items) }
+    ensures { IfOk result (λ v. IsChain (list_of_node (lists_after lists.now.lists change.entry)) start v.items) }
 {
     if let Some(few) = find_few(alloc, lists, change, start)? {
         return Ok(few);

@@ -12,7 +12,7 @@ use Rattle.std.proofs.lemmas.Option.{none-some}
 use Rattle.cpe_rows.specs.cpe_name.Eleven.{Values}
 use Rattle.name_index.specs.product_orders.Elements.{SameElements}
 use Rattle.name_index.specs.declared.table.NameId.{NameId}
-use Rattle.name_index.specs.Table.{AreNames, find_kept, Holds, IsLive, kept_at, kept_or, Names, Releases}
+use Rattle.name_index.specs.Table.{IsNameTable, find_kept, HoldsName, IsLive, kept_at, kept_or, Names, Releases}
 use Rattle.fact_laws.specs.Shown.{holds_in, IsKnown, name_at, names_at, Shows, times_named}
 use Rattle.fact_laws.proofs.Shown.{live_is, named_first, named_both, same_names}
 use Rattle.fact_laws.proofs.Tables.{keeps, keeps_live, name_stays, was_live}
@@ -26,10 +26,10 @@ use Rattle.cpe_rows.specs.declared.test.Test.{Test, Logic}
 use Rattle.cpe_rows.specs.declared.test.Test.TheFolds.{fold-roll-Test}
 use Rattle.cpe_rows.specs.declared.test.Test.TheOpen.{Test-F}
 use Rattle.cpe_rows.specs.declared.test.Test.TheVariants.{rolls-Logic}
-use Rattle.fact_laws.specs.Asked.{entry_names, names_kept}
-use Rattle.verdicts.specs.cpe_registry.Registered.{AreHeld, AreLive, Registered}
+use Rattle.fact_laws.specs.Asked.{entry_names, names_of_rows}
+use Rattle.verdicts.specs.name_registry.Registered.{AreHeld, AreRegistryNames, Registered}
 use Rattle.verdicts.specs.Verdicts.{HasVerdicts, VerdictsNow}
-use Rattle.engine_edits.specs.Holding.{AreFew, Grows}
+use Rattle.engine_edits.specs.Holding.{AreFewNames, Grows}
 use Rattle.engine_edits.specs.Parts.{AreOf}
 
 -- ---- lists with the same elements in another order
@@ -61,33 +61,33 @@ last_second xs ys zs ws f =
 
 -- ---- a name that is held
 
-live_still : (old new : Names) (id : ℕ) (name : Values) → Holds old new id name → (ids : List NameId) → AreLive old ids → AreLive new ids
+live_still : (old new : Names) (id : ℕ) (name : Values) → HoldsName old new id name → (ids : List NameId) → AreRegistryNames old ids → AreRegistryNames new ids
 live_still old new id name h [] live = tt
 live_still old new id name h (x ∷ xs) live =
     let l = keeps old new id name h x.0 (kept_at old x.0) (live_is old x.0 live.0) in
     (subst IsSome (sym l.1) refl, live_still old new id name h xs live.1)
 
-names_still : (old new : Names) (id : ℕ) (name : Values) → Holds old new id name → (ids : List NameId) → AreLive old ids → names_at new ids ≡ names_at old ids
+names_still : (old new : Names) (id : ℕ) (name : Values) → HoldsName old new id name → (ids : List NameId) → AreRegistryNames old ids → names_at new ids ≡ names_at old ids
 names_still old new id name h [] live = refl
 names_still old new id name h (x ∷ xs) live = λ k. name_stays old new id name h x live.0 k ∷ names_still old new id name h xs live.1 k
 
-live_both : (table : Names) (xs : List NameId) (id : NameId) → AreLive table xs → IsLive table id.0 → AreLive table (xs ++ id ∷ [])
+live_both : (table : Names) (xs : List NameId) (id : NameId) → AreRegistryNames table xs → IsLive table id.0 → AreRegistryNames table (xs ++ id ∷ [])
 live_both table [] id live one = (one, tt)
 live_both table (x ∷ xs) id live one = (live.0, live_both table xs id live.1 one)
 
-pub names_more : (old new : Names) (id : NameId) (name : Values) (ids : List NameId) → Holds old new id.0 name → name_at new id ≡ name → AreLive old ids → names_at new (ids ++ id ∷ []) ≡ names_at old ids ++ name ∷ []
+pub names_more : (old new : Names) (id : NameId) (name : Values) (ids : List NameId) → HoldsName old new id.0 name → name_at new id ≡ name → AreRegistryNames old ids → names_at new (ids ++ id ∷ []) ≡ names_at old ids ++ name ∷ []
 names_more old new id name ids h named live = map-append (name_at new) ids (id ∷ []) ∙ (λ k. names_still old new id.0 name h ids live k ++ named k ∷ [])
 
-pub few_more : (old new : Names) (name : Values) (n : ℕ) → ((list : List Values) → Shows old (holds_in old) list → Shows new (holds_in new) (name ∷ list)) → AreFew old (1 + n) → AreFew new n
+pub few_more : (old new : Names) (name : Values) (n : ℕ) → ((list : List Values) → Shows old (holds_in old) list → Shows new (holds_in new) (name ∷ list)) → AreFewNames old (1 + n) → AreFewNames new n
 few_more old new name n held few = (name ∷ few.0, held few.0 few.1, omega (arith, few.2, length_more few.0))
   where
     length_more : (list : List Values) → length (name ∷ list) ≡ 1 + length list
     length_more list = omega arith
 
-pub few_less : (table : Names) (n m : ℕ) → n ≤ m → AreFew table m → AreFew table n
+pub few_less : (table : Names) (n m : ℕ) → n ≤ m → AreFewNames table m → AreFewNames table n
 few_less table n m less few = (few.0, few.1, omega (arith, few.2, less))
 
-pub grows_none : (r : Registered) (ids : List NameId) → AreLive r.table ids → Grows r r ids ids
+pub grows_none : (r : Registered) (ids : List NameId) → AreRegistryNames r.table ids → Grows r r ids ids
 grows_none r ids live = record { entries = refl; items = refl; live = live; are = λ v rows others a. a }
 
 pub grows_both : (a b c : Registered) (xs ys zs : List NameId) → Grows a b xs ys → Grows b c ys zs → Grows a c xs zs
@@ -98,11 +98,11 @@ grows_both a b c xs ys zs g h = record {
   are = λ v rows others are. h.are v rows others (g.are v rows others are);
 }
 
-module _ (old new : Registered) (id : NameId) (name : Values) (ids : List NameId) (holds : Holds old.table new.table id.0 name) (named : name_at new.table id ≡ name) (one : IsLive new.table id.0)
-    (entries : new.entries ≡ old.entries) (items : new.items ≡ old.items) (live : AreLive old.table ids)
+module _ (old new : Registered) (id : NameId) (name : Values) (ids : List NameId) (holds : HoldsName old.table new.table id.0 name) (named : name_at new.table id ≡ name) (one : IsLive new.table id.0)
+    (entries : new.entries ≡ old.entries) (items : new.items ≡ old.items) (live : AreRegistryNames old.table ids)
     (order : (list other : List Values) → SameElements list other → Shows new.table (holds_in new.table) list → Shows new.table (holds_in new.table) other)
     (held : (list : List Values) → Shows old.table (holds_in old.table) list → Shows new.table (holds_in new.table) (name ∷ list))
-    (stands : (v : VerdictsNow) (rows : Rows) → HasVerdicts old.table v rows → HasVerdicts new.table v rows) where
+    (present : (v : VerdictsNow) (rows : Rows) → HasVerdicts old.table v rows → HasVerdicts new.table v rows) where
   pub grows_one : Grows old new ids (ids ++ id ∷ [])
   grows_one = record {
     entries = entries;
@@ -117,10 +117,10 @@ module _ (old new : Registered) (id : NameId) (name : Values) (ids : List NameId
           record {
             entries = entries ∙ a.entries;
             items = items ∙ a.items;
-            held = subst (λ (ns : List Values). Shows new.table (holds_in new.table) ((ns ++ others) ++ names_kept rows)) (sym more)
-                (order (name ∷ ((names_at old.table ids ++ others) ++ names_kept rows)) (((names_at old.table ids ++ name ∷ []) ++ others) ++ names_kept rows)
-                (last_in_first name (names_at old.table ids) others (names_kept rows)) (held ((names_at old.table ids ++ others) ++ names_kept rows) a.held));
-            verdicts = stands v rows a.verdicts;
+            held = subst (λ (ns : List Values). Shows new.table (holds_in new.table) ((ns ++ others) ++ names_of_rows rows)) (sym more)
+                (order (name ∷ ((names_at old.table ids ++ others) ++ names_of_rows rows)) (((names_at old.table ids ++ name ∷ []) ++ others) ++ names_of_rows rows)
+                (last_in_first name (names_at old.table ids) others (names_of_rows rows)) (held ((names_at old.table ids ++ others) ++ names_of_rows rows) a.held));
+            verdicts = present v rows a.verdicts;
           }
 
 -- ---- a name that is released
@@ -139,7 +139,7 @@ are_held r v rows name others order a =
           (subst (λ (ns : List Values). Shows r.table (holds_in r.table) (name ∷ ((others ++ facts) ++ (es ++ ns)))) (sym a.items) list),
     )
 
-module _ (old new : Names) (id : ℕ) (are : AreNames old) (r : Releases old new id) (list : List Values) (shows : Shows new (holds_in new) list) where
+module _ (old new : Names) (id : ℕ) (are : IsNameTable old) (r : Releases old new id) (list : List Values) (shows : Shows new (holds_in new) list) where
   still_one : (y : NameId) → IsLive old y.0 → 1 ≤ times_named (name_at old y) list → IsLive new y.0 × (name_at new y ≡ name_at old y)
   still_one y live some =
       let at = live_is old y.0 live in
@@ -151,7 +151,7 @@ module _ (old new : Names) (id : ℕ) (are : AreNames old) (r : Releases old new
       let kept = keeps_live old new id r y.0 (kept_at old y.0) at not_gone in
       (subst IsSome (sym kept.1) refl, ap (λ o. (kept_or o).name) kept.1 ∙ kept.2)
 
-  pub still : (rest : List NameId) → AreLive old rest → ((n : Values) → times_named n (names_at old rest) ≤ times_named n list) → AreLive new rest × (names_at new rest ≡ names_at old rest)
+  pub still : (rest : List NameId) → AreRegistryNames old rest → ((n : Values) → times_named n (names_at old rest) ≤ times_named n list) → AreRegistryNames new rest × (names_at new rest ≡ names_at old rest)
   still [] live among = (tt, refl)
   still (y ∷ ys) live among =
       let n = name_at old y in
@@ -161,22 +161,22 @@ module _ (old new : Names) (id : ℕ) (are : AreNames old) (r : Releases old new
       ((one.0, more.0), λ k. one.1 k ∷ more.1 k)
 
 -- the names that are still held
-module _ (old new : Registered) (id : NameId) (are : AreNames old.table) (live : IsLive old.table id.0) (r : Releases old.table new.table id.0) (entries : new.entries ≡ old.entries) (items : new.items ≡ old.items)
+module _ (old new : Registered) (id : NameId) (are : IsNameTable old.table) (live : IsLive old.table id.0) (r : Releases old.table new.table id.0) (entries : new.entries ≡ old.entries) (items : new.items ≡ old.items)
     (released : (list : List Values) → Shows old.table (holds_in old.table) (name_at old.table id ∷ list) → Shows new.table (holds_in new.table) list)
-    (stands : (v : VerdictsNow) (rows : Rows) → ((n : Values) → 1 ≤ times_named n (names_kept rows) → IsKnown new.table n) → HasVerdicts old.table v rows → HasVerdicts new.table v rows) where
-  pub left : (v : VerdictsNow) (rows : Rows) (others : List Values) (rest : List NameId) → AreLive old.table rest → AreOf old v rows (name_at old.table id ∷ (names_at old.table rest ++ others))
-      → AreLive new.table rest × AreOf new v rows (names_at new.table rest ++ others)
+    (present : (v : VerdictsNow) (rows : Rows) → ((n : Values) → 1 ≤ times_named n (names_of_rows rows) → IsKnown new.table n) → HasVerdicts old.table v rows → HasVerdicts new.table v rows) where
+  pub left : (v : VerdictsNow) (rows : Rows) (others : List Values) (rest : List NameId) → AreRegistryNames old.table rest → AreOf old v rows (name_at old.table id ∷ (names_at old.table rest ++ others))
+      → AreRegistryNames new.table rest × AreOf new v rows (names_at new.table rest ++ others)
   left v rows others rest lives a =
       let ns = names_at old.table rest in
-      let list = (ns ++ others) ++ names_kept rows in
+      let list = (ns ++ others) ++ names_of_rows rows in
       let shows = released list a.held in
-      let s = still old.table new.table id.0 are r list shows rest lives (λ n. omega (arith, named_both n (ns ++ others) (names_kept rows), named_both n ns others)) in (
+      let s = still old.table new.table id.0 are r list shows rest lives (λ n. omega (arith, named_both n (ns ++ others) (names_of_rows rows), named_both n ns others)) in (
         s.0,
         subst (λ (xs : List Values). AreOf new v rows (xs ++ others)) (sym s.1) (record {
           entries = entries ∙ a.entries;
           items = items ∙ a.items;
           held = shows;
-          verdicts = stands v rows (λ n some. shows.known n (omega (arith, some, named_both n (ns ++ others) (names_kept rows)))) a.verdicts;
+          verdicts = present v rows (λ n some. shows.known n (omega (arith, some, named_both n (ns ++ others) (names_of_rows rows)))) a.verdicts;
         }),
       )
 

@@ -19,8 +19,8 @@ use Rattle.cpe_rows.specs.cpe_name.Eleven.{Values}
 use Rattle.name_index.specs.Table.{kept_at, Names}
 use Rattle.name_index.specs.declared.table.NameId.{NameId}
 use Rattle.fact_laws.specs.Shown.{holds_in, name_at, names_at, Shows}
-use Rattle.fact_laws.specs.Asked.{names_kept}
-use Rattle.verdicts.specs.cpe_registry.Registered.{AreLive, Registered}
+use Rattle.fact_laws.specs.Asked.{names_of_rows}
+use Rattle.verdicts.specs.name_registry.Registered.{AreRegistryNames, Registered}
 use Rattle.verdicts.specs.facts.Facts.{LeadsTo}
 use Rattle.cpe_rows.specs.declared.statement.Mode.TheVariants.{Follow}
 use Rattle.verdicts.specs.Verdicts.{HasVerdicts, known_in, VerdictsNow}
@@ -32,19 +32,19 @@ at_err (Ok x) p = tt
 at_err (Err e) p = p
 
 -- registry and verdicts belong to other rows, if entries, items and names are the same and the verdicts are theirs
-pub by_moved : (r : Registered) (v w : VerdictsNow) (rows next : Rows) (others : List Values) → next.entries ≡ rows.entries → next.items ≡ rows.items → names_kept next ≡ names_kept rows
+pub by_moved : (r : Registered) (v w : VerdictsNow) (rows next : Rows) (others : List Values) → next.entries ≡ rows.entries → next.items ≡ rows.items → names_of_rows next ≡ names_of_rows rows
     → HasVerdicts r.table w next → AreOf r v rows others → AreOf r w next others
-by_moved r v w rows next others entries items names stands a = record {
+by_moved r v w rows next others entries items names present a = record {
   entries = a.entries ∙ sym entries;
   items = a.items ∙ sym items;
   held = subst (λ (ns : List Values). Shows r.table (holds_in r.table) (others ++ ns)) (sym names) a.held;
-  verdicts = stands;
+  verdicts = present;
 }
 
 -- the changes are the differences from the known verdicts, if the statements are the same
-pub told : (rows next : Rows) (v : VerdictsNow) (cs : List Changed) → cs ≡ differing 0 (known_in v) (map (verdict next) next.statements) → known_in v ≡ map (verdict rows) rows.statements
+pub reported : (rows next : Rows) (v : VerdictsNow) (cs : List Changed) → cs ≡ differing 0 (known_in v) (map (verdict next) next.statements) → known_in v ≡ map (verdict rows) rows.statements
     → next.statements ≡ rows.statements → cs ≡ others rows next rows.statements
-told rows next v cs is known same = is ∙ (λ k. differing 0 (known k) (map (verdict next) (same k)))
+reported rows next v cs is known same = is ∙ (λ k. differing 0 (known k) (map (verdict next) (same k)))
 
 pub few_ends : (table : Names) (ids : List NameId) (ns : List Values) → names_at table ids ≡ ns → length ns ≤ 256 → length ids ≤ 256
 few_ends table ids ns e few = omega (arith, ap length e, length-map ids (name_at table), few)
@@ -58,19 +58,19 @@ found_some {A = A} p (x ∷ xs) h = by (p x) refl (found_some p xs)
     by false e more = let y = more (sym (ap (λ (c : Bool). c || list_any p xs) e) ∙ h) in (y.0, ap (λ (c : Bool). if c then Some x else find p xs) e ∙ y.1)
 
 -- the ends of a name, by a reference to the table and by copied numbers
-pub are_ends : (table lent : Names) (es : List Entry) (id : ℕ) (ids numbers : List NameId) → lent ≡ table → numbers ≡ ids → AreLive table ids → names_at table ids ≡ ends es (kept_at table id).name
+pub are_ends : (table lent : Names) (es : List Entry) (id : ℕ) (ids numbers : List NameId) → lent ≡ table → numbers ≡ ids → AreRegistryNames table ids → names_at table ids ≡ ends es (kept_at table id).name
     → LeadsTo lent es Follow id numbers
 are_ends table lent es id ids numbers at same live names = subst (λ (t : Names). LeadsTo t es Follow id numbers) (sym at) (subst (LeadsTo table es Follow id) (sym same) (record { live = live; names = names }))
 
 -- an item is removed, and its name is still held
 pub item_dropped : (old new : Registered) (w : VerdictsNow) (rows : Rows) (id : NameId) (t : Names) → new.table ≡ old.table → new.entries ≡ rows.entries → new.items ≡ without_first (is_same (name_at old.table id)) rows.items
-    → Shows old.table (holds_in old.table) (name_at old.table id ∷ names_kept (after rows (edit.DropItem (name_at old.table id)))) → t ≡ old.table → HasVerdicts t w (after rows (edit.DropItem (name_at t id)))
+    → Shows old.table (holds_in old.table) (name_at old.table id ∷ names_of_rows (after rows (edit.DropItem (name_at old.table id)))) → t ≡ old.table → HasVerdicts t w (after rows (edit.DropItem (name_at t id)))
     → AreOf new w (after rows (edit.DropItem (name_at old.table id))) (name_at new.table id ∷ [])
-item_dropped old new w rows id t table entries items held at stands =
+item_dropped old new w rows id t table entries items held at present =
     let n = name_at old.table id in
     let next = after rows (edit.DropItem n) in
     subst (λ (x : Names). AreOf new w next (name_at x id ∷ [])) (sym table)
-    (by_lists old new w next (n ∷ []) table entries items held (subst (λ (x : Names). HasVerdicts x w (after rows (edit.DropItem (name_at x id)))) at stands))
+    (by_lists old new w next (n ∷ []) table entries items held (subst (λ (x : Names). HasVerdicts x w (after rows (edit.DropItem (name_at x id)))) at present))
 
 -- a row that is to be removed is there, if the removal isn't refused
 pub is_there : (found : Bool) → first_some (when (not found) fault.Unknown ∷ []) ≡ None → found ≡ true

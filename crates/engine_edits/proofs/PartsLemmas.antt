@@ -20,16 +20,16 @@ use Rattle.cpe_rows.specs.declared.fault.EditFault.{EditFault}
 use Rattle.cpe_rows.specs.declared.fault.EditFault.TheVariants as fault
 use Rattle.cpe_rows.specs.declared.fault.Which.TheVariants as limit
 use Rattle.cpe_rows.proofs.Limited.{each_within}
-use Rattle.cpe_weight.specs.Capped.{capped}
+use Rattle.row_weight.specs.Capped.{capped}
 use Rattle.cpe_rows.specs.cpe_name.Eleven.{Values}
 use Rattle.name_index.specs.Table.{kept_at, Names}
 use Rattle.name_index.specs.declared.table.NameId.{NameId}
 use Rattle.fact_laws.specs.Shown.{holds_in, name_at, names_at, Shows}
-use Rattle.fact_laws.specs.Asked.{names_kept}
-use Rattle.verdicts.specs.cpe_registry.Registered.{Registered}
+use Rattle.fact_laws.specs.Asked.{names_of_rows}
+use Rattle.verdicts.specs.name_registry.Registered.{Registered}
 use Rattle.verdicts.specs.Verdicts.{checks_in, HasVerdicts, statements_in, VerdictsNow}
-use Rattle.engine_edits.specs.Parts.{AreKept, AreOf, rows_in}
-use Rattle.engine_edits.specs.declared.parts.Parts.{Parts}
+use Rattle.engine_edits.specs.Parts.{AreLawfulParts, AreOf, rows_in}
+use Rattle.engine_edits.specs.declared.parts.EngineParts.{EngineParts}
 
 -- if no cause applies, this one doesn't, and none after it does
 pub none_here : (b : Bool) (f : EditFault) (os : List (Option EditFault)) → first_some (when b f ∷ os) ≡ None → b ≡ false
@@ -72,11 +72,11 @@ is_light next n counted below =
 
 -- ---- registry and verdicts of rows
 
-pub rows_are : (p : Parts) (rows : Rows) (others : List Values) → AreOf p.registry p.verdicts rows others → rows_in p ≡ rows
+pub rows_are : (p : EngineParts) (rows : Rows) (others : List Values) → AreOf p.registry p.verdicts rows others → rows_in p ≡ rows
 rows_are p rows others a = λ k. record { entries = a.entries k; items = a.items k; statements = a.verdicts.statements k; checks = a.verdicts.checks k }
 
 -- the parts keep lawful rows, and the weight that was counted for them
-pub stay_kept : (made : Parts) (rows : Rows) (n : ℕ) → IsLawful rows → made.weight ≡ n → n ≡ weight rows → AreOf made.registry made.verdicts rows [] → AreKept made
+pub stay_kept : (made : EngineParts) (rows : Rows) (n : ℕ) → IsLawful rows → made.weight ≡ n → n ≡ weight rows → AreOf made.registry made.verdicts rows [] → AreLawfulParts made
 stay_kept made rows n lawful weighed weighs are =
     let same = rows_are made rows [] are in
     record {
@@ -87,23 +87,23 @@ stay_kept made rows n lawful weighed weighs are =
 
 -- the registry with other verdicts of the same rows
 pub by_verdicts : (r : Registered) (v w : VerdictsNow) (rows : Rows) (others : List Values) → HasVerdicts r.table w rows → AreOf r v rows others → AreOf r w rows others
-by_verdicts r v w rows others stands a = record { entries = a.entries; items = a.items; held = a.held; verdicts = stands }
+by_verdicts r v w rows others present a = record { entries = a.entries; items = a.items; held = a.held; verdicts = present }
 
 -- the same table belongs to other rows, if these have the same names
 pub by_lists : (old new : Registered) (v : VerdictsNow) (rows : Rows) (others : List Values) → new.table ≡ old.table → new.entries ≡ rows.entries → new.items ≡ rows.items
-    → Shows old.table (holds_in old.table) (others ++ names_kept rows) → HasVerdicts old.table v rows → AreOf new v rows others
+    → Shows old.table (holds_in old.table) (others ++ names_of_rows rows) → HasVerdicts old.table v rows → AreOf new v rows others
 by_lists old new v rows others table entries items held verdicts = record {
   entries = entries;
   items = items;
-  held = subst (λ (t : Names). Shows t (holds_in t) (others ++ names_kept rows)) (sym table) held;
+  held = subst (λ (t : Names). Shows t (holds_in t) (others ++ names_of_rows rows)) (sym table) held;
   verdicts = subst (λ (t : Names). HasVerdicts t v rows) (sym table) verdicts;
 }
 
 -- one name is held besides the names of the rows
 pub by_hold : (old new : Registered) (v : VerdictsNow) (rows : Rows) (id : NameId) (name : Values) → name_at new.table id ≡ name → new.entries ≡ old.entries → new.items ≡ old.items
-    → Shows new.table (holds_in new.table) (name ∷ names_kept rows) → HasVerdicts new.table v rows → AreOf old v rows [] → AreOf new v rows (name_at new.table id ∷ [])
-by_hold old new v rows id name named entries items held stands a =
-    subst (λ (n : Values). AreOf new v rows (n ∷ [])) (sym named) (record { entries = entries ∙ a.entries; items = items ∙ a.items; held = held; verdicts = stands })
+    → Shows new.table (holds_in new.table) (name ∷ names_of_rows rows) → HasVerdicts new.table v rows → AreOf old v rows [] → AreOf new v rows (name_at new.table id ∷ [])
+by_hold old new v rows id name named entries items held present a =
+    subst (λ (n : Values). AreOf new v rows (n ∷ [])) (sym named) (record { entries = entries ∙ a.entries; items = items ∙ a.items; held = held; verdicts = present })
 
 -- besides the names of the rows, only the names of these numbers are held
 pub no_others : (r : Registered) (v : VerdictsNow) (rows : Rows) (ids lent : List NameId) → lent ≡ ids → AreOf r v rows (names_at r.table ids) → AreOf r v rows (names_at r.table lent ++ [])
@@ -111,7 +111,7 @@ no_others r v rows ids lent same a = subst (λ (ns : List Values). AreOf r v row
 
 -- ---- no name is held too often
 
-pub few_holds : (table : Names) (rows : Rows) → length (names_kept rows) ≤ 4000000 → ((id : ℕ) → holds_in table id ≤ length (names_kept rows)) → (id : ℕ) → (kept_at table id).holds < 4294967295
+pub few_holds : (table : Names) (rows : Rows) → length (names_of_rows rows) ≤ 4000000 → ((id : ℕ) → holds_in table id ≤ length (names_of_rows rows)) → (id : ℕ) → (kept_at table id).holds < 4294967295
 few_holds table rows kept few id = omega (arith, few id, kept)
 
 -- the rows are the same, if their statements and results of checks are

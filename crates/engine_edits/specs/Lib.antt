@@ -6,6 +6,6 @@ pub mod Checked
 pub mod Moved
 pub mod Prelude
 pub mod Ready
-pub mod Told
+pub mod ChangedVerdicts
 pub mod Looks
 pub use Rattle.fact_laws.specs as fact_laws

@@ -13,8 +13,8 @@ abbrev pub HasPlan : List Entry → Values → Option Deprecation → Option Pla
 HasPlan es n d None = ⊥
 HasPlan es n d (Some p) = IsPlan es n d p
 
-abbrev pub IsPlanned : List Entry → Edit → Option Plan → Type 0
-IsPlanned es (edit.Deprecate n d date comment) o = HasPlan es n (Some d) o
-IsPlanned es (edit.Amend n d date comment) o = HasPlan es n (Some d) o
-IsPlanned es (edit.Restore n date comment) o = HasPlan es n None o
-IsPlanned es e o = ⊤
+abbrev pub IsPlanOfEdit : List Entry → Edit → Option Plan → Type 0
+IsPlanOfEdit es (edit.Deprecate n d date comment) o = HasPlan es n (Some d) o
+IsPlanOfEdit es (edit.Amend n d date comment) o = HasPlan es n (Some d) o
+IsPlanOfEdit es (edit.Restore n date comment) o = HasPlan es n None o
+IsPlanOfEdit es e o = ⊤

@@ -16,7 +16,7 @@ use Rattle.cpe_rows.specs.declared.statement.Mode.TheVariants.{Follow}
 use Rattle.cpe_rows.specs.declared.statement.Statement.{Statement}
 use Rattle.cpe_dictionary.specs.Kept.{new_entry}
 use Rattle.cpe_dictionary.specs.Plans.{IsPlan}
-use Rattle.fact_laws.specs.Asked.{names_kept}
+use Rattle.fact_laws.specs.Asked.{names_of_rows}
 use Rattle.fact_laws.specs.Shown.{holds_in, names_at, Shows}
 use Rattle.name_index.specs.declared.table.NameId.{NameId}
 use Rattle.name_index.specs.Table.{IsLive, Names}
@@ -25,15 +25,15 @@ use Rattle.verdicts.specs.Items.{HasRoomForItem}
 use Rattle.verdicts.specs.Leads.{IsReadyLead}
 use Rattle.verdicts.specs.Removal.{IsRemoval}
 use Rattle.verdicts.specs.Verdicts.{known_in}
-use Rattle.verdicts.specs.statement_rows.State.{IsReadyResult}
-use Rattle.verdicts.specs.cpe_registry.Registered.{HasChangeRoom, HasEntryRoom, HasItemRoom, name_in}
+use Rattle.verdicts.specs.statement_rows.State.{IsReadyTruth}
+use Rattle.verdicts.specs.name_registry.Registered.{HasChangeRoom, HasEntryRoom, HasItemRoom, name_in}
 use Rattle.verdicts.specs.declared.addition.Addition.{Addition}
 use Rattle.verdicts.specs.declared.removal.Removal.{Removal}
 use Rattle.verdicts.specs.facts.Facts.{LeadsTo}
-use Rattle.verdicts.specs.cpe_registry.cpe_inventory.declared.ready_result.ReadyResult.{ReadyResult}
-use Rattle.engine_edits.specs.Numbered.{AreNumbered, given, turned}
+use Rattle.verdicts.specs.name_registry.check_results.declared.ready_result.ReadyResult.{ReadyResult}
+use Rattle.engine_edits.specs.Numbered.{AreFactNumbers, given, turned_entry}
 use Rattle.engine_edits.specs.Parts.{AreOf, rows_in}
-use Rattle.engine_edits.specs.declared.parts.Parts.{Parts}
+use Rattle.engine_edits.specs.declared.parts.EngineParts.{EngineParts}
 use Rattle.engine_edits.specs.declared.ready.Ready.{Ready}
 use Rattle.engine_edits.specs.declared.ready.Ready.TheVariants as ready
 use Rattle.engine_edits.specs.declared.ready.ReadyChange.{ReadyChange}
@@ -48,20 +48,20 @@ abbrev pub edit_ready : Names → Ready → Edit
 edit_ready table (ready.Entry id title provenance) = edit.Entry (new_entry (name_in table id) title provenance)
 edit_ready table (ready.Item id ends) = edit.Item (name_in table id)
 edit_ready table (ready.DropItem id ends) = edit.DropItem (name_in table id)
-edit_ready table (ready.Change c) = turned (name_in table c.change.id) c.change.turn c.change.date c.change.comment
+edit_ready table (ready.Change c) = turned_entry (name_in table c.change.id) c.change.turn c.change.date c.change.comment
 edit_ready table (ready.PutStatement addition ids) = edit.PutStatement (added addition)
 edit_ready table (ready.DropStatement id removal) = edit.DropStatement id
 edit_ready table (ready.SetCheck result truth) = edit.SetCheck result.key truth
 edit_ready table (ready.DropCheck key) = edit.DropCheck key
 
 -- The table holds the name of a new entry, and there is room for the entry.
-pub record IsReadyEntry (p : Parts) (id : NameId) : Type 0 where
+pub record IsReadyEntry (p : EngineParts) (id : NameId) : Type 0 where
   pub are : AreOf p.registry p.verdicts (rows_in p) (name_in p.registry.table id ∷ [])
   pub live : IsLive p.registry.table id.0
   pub room : HasEntryRoom p.registry id
 
 -- The table holds the name of a new item. The name leads to these ends, and there is room for the item.
-pub record IsReadyItem (p : Parts) (id : NameId) (its_ends : List NameId) : Type 0 where
+pub record IsReadyItem (p : EngineParts) (id : NameId) (its_ends : List NameId) : Type 0 where
   pub are : AreOf p.registry p.verdicts (rows_in p) (name_in p.registry.table id ∷ [])
   pub live : IsLive p.registry.table id.0
   pub ends : LeadsTo p.registry.table (rows_in p).entries Follow id.0 its_ends
@@ -69,13 +69,13 @@ pub record IsReadyItem (p : Parts) (id : NameId) (its_ends : List NameId) : Type
   pub boards : HasRoomForItem p.verdicts.facts p.registry.table (length its_ends)
 
 -- The table holds only the names of the rows. The name of the item leads to these ends.
-pub record IsReadyDrop (p : Parts) (id : NameId) (its_ends : List NameId) : Type 0 where
+pub record IsReadyDrop (p : EngineParts) (id : NameId) (its_ends : List NameId) : Type 0 where
   pub are : AreOf p.registry p.verdicts (rows_in p) []
   pub live : IsLive p.registry.table id.0
   pub ends : LeadsTo p.registry.table (rows_in p).entries Follow id.0 its_ends
 
 -- A change of a deprecation has its plan, the ends that it changes, and room for its edges and its note.
-pub record IsReadyChange (p : Parts) (c : ReadyChange) : Type 0 where
+pub record IsReadyChange (p : EngineParts) (c : ReadyChange) : Type 0 where
   pub are : AreOf p.registry p.verdicts (rows_in p) []
   pub live : IsLive p.registry.table c.change.id.0
   pub plan : IsPlan (rows_in p).entries (name_in p.registry.table c.change.id) (given c.change.turn) c.plan
@@ -83,24 +83,24 @@ pub record IsReadyChange (p : Parts) (c : ReadyChange) : Type 0 where
   pub room : HasChangeRoom p.registry c.plan c.note
 
 -- The table holds the names of a new statement's facts, under these numbers. All memory for the statement is taken.
-pub record IsReadyStatement (p : Parts) (a : Addition) (ids : List NameId) : Type 0 where
-  pub numbered : AreNumbered p.registry.table (added a) ids
-  pub held : Shows p.registry.table (holds_in p.registry.table) (names_at p.registry.table ids ++ names_kept (rows_in p))
+pub record IsReadyStatement (p : EngineParts) (a : Addition) (ids : List NameId) : Type 0 where
+  pub numbered : AreFactNumbers p.registry.table (added a) ids
+  pub held : Shows p.registry.table (holds_in p.registry.table) (names_at p.registry.table ids ++ names_of_rows (rows_in p))
   pub addition : IsAddition p.verdicts p.registry.table (rows_in p).entries (added a) ids a
   pub verdicts : HasVerdictsBeside p.registry.table p.verdicts (rows_in p) (added a) a
 
 -- The table holds only the names of the rows. All memory for the result of the check is taken.
-pub record IsReadyCheck (p : Parts) (r : ReadyResult) : Type 0 where
+pub record IsReadyCheck (p : EngineParts) (r : ReadyResult) : Type 0 where
   pub are : AreOf p.registry p.verdicts (rows_in p) []
-  pub room : IsReadyResult p.verdicts.statements r.key r
+  pub room : IsReadyTruth p.verdicts.statements r.key r
 
 -- The table holds only the names of the rows. This is what is removed with the statement.
-pub record IsReadyRemoval (p : Parts) (id : List ℕ) (r : Removal) : Type 0 where
+pub record IsReadyRemoval (p : EngineParts) (id : List ℕ) (r : Removal) : Type 0 where
   pub are : AreOf p.registry p.verdicts (rows_in p) []
   pub removal : IsRemoval p.verdicts id r
 
 -- what was found and taken is all that the edit needs, by its kind
-abbrev pub HasAll : Parts → Ready → Type 0
+abbrev pub HasAll : EngineParts → Ready → Type 0
 HasAll p (ready.Entry id title provenance) = IsReadyEntry p id
 HasAll p (ready.Item id ends) = IsReadyItem p id ends.items
 HasAll p (ready.DropItem id ends) = IsReadyDrop p id ends.items
@@ -112,25 +112,25 @@ HasAll p (ready.DropCheck key) = AreOf p.registry p.verdicts (rows_in p) []
 
 -- The number of places for changed verdicts. A new entry needs none. A statement that is added or removed needs one. Any other edit needs
 -- one for each statement.
-abbrev pub places : Rows → Edit → ℕ
-places rows (edit.Entry e) = 0
-places rows (edit.PutStatement s) = 1
-places rows (edit.DropStatement id) = 1
-places rows e = length rows.statements
+abbrev pub places_of_edit : Rows → Edit → ℕ
+places_of_edit rows (edit.Entry e) = 0
+places_of_edit rows (edit.PutStatement s) = 1
+places_of_edit rows (edit.DropStatement id) = 1
+places_of_edit rows e = length rows.statements
 
 -- The edit is ready. The rows are lawful, and callers know their verdicts. The edit has no fault, enough empty places for changed
 -- verdicts, and all that it needs.
-pub record IsReady (p : Parts) (r : Ready) (room : Filling Changed) : Type 0 where
+pub record IsReady (p : EngineParts) (r : Ready) (room : Filling Changed) : Type 0 where
   pub lawful : IsLawful (rows_in p)
   pub accepted : IsAccepted (rows_in p) (edit_ready p.registry.table r) (after (rows_in p) (edit_ready p.registry.table r))
   pub none : first_some (causes (rows_in p) (edit_ready p.registry.table r)) ≡ None
   pub known : known_in p.verdicts ≡ map (verdict (rows_in p)) (rows_in p).statements
   pub empty : room.list ≡ []
-  pub spare : places (rows_in p) (edit_ready p.registry.table r) ≤ room.spare
+  pub spare : places_of_edit (rows_in p) (edit_ready p.registry.table r) ≤ room.spare
   pub all : HasAll p r
 
 -- What is ready is this edit, and its weight is the weight of the rows after the edit.
-pub record IsReadyEdit (p : Parts) (e : Edit) (r : ReadyEdit) : Type 0 where
+pub record IsReadyEdit (p : EngineParts) (e : Edit) (r : ReadyEdit) : Type 0 where
   pub is : edit_ready p.registry.table r.edit ≡ e
   pub ready : IsReady p r.edit r.room
   pub weight : r.weight ≡ weight (after (rows_in p) e)

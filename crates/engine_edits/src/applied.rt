@@ -1,22 +1,22 @@
 // An edit in two stages: the first takes all memory that the edit needs, and the second makes it.
 ghost use Rattle.std.specs.Prelude.{◌≡◌, ◌≤◌, [], IfErr, IfOk, OnErr, map, true};
-ghost use Rattle.name_index.specs.cpe_steps.Within.{StepsWithin};
-ghost use Rattle.cpe_rows.specs.Prelude.{after, Applied, changes, is_valid_edit, Refuses, step, verdict};
+ghost use Rattle.name_index.specs.step_count.Within.{StepsWithin};
+ghost use Rattle.cpe_rows.specs.Prelude.{after, Applied, changes, is_valid_edit, RefusesEdit, step, verdict};
 ghost use Rattle.cpe_rows.specs.declared.edit.Edit.{Edit};
 ghost use Rattle.verdicts.specs.Verdicts.{known_in};
-ghost use Rattle.engine_edits.specs.Checked.{IsChecked};
+ghost use Rattle.engine_edits.specs.Checked.{IsCheckedEdit};
 ghost use Rattle.engine_edits.specs.Moved.{MadeReady, MayBeReady};
-ghost use Rattle.engine_edits.specs.Parts.{AreBeside, AreKept, AreOf, edit_in, rows_in};
-ghost use Rattle.engine_edits.specs.Planned.{IsPlanned};
+ghost use Rattle.engine_edits.specs.Parts.{AreBeside, AreLawfulParts, AreOf, edit_in, rows_in};
+ghost use Rattle.engine_edits.specs.Planned.{IsPlanOfEdit};
 ghost use Rattle.engine_edits.specs.Looks.{edit_looks, made_looks};
-ghost use Rattle.engine_edits.specs.Ready.{edit_ready, IsReady, IsReadyEdit, places};
+ghost use Rattle.engine_edits.specs.Ready.{edit_ready, IsReady, IsReadyEdit, places_of_edit};
 
-use crate::checked::Checked;
+use crate::checked::CheckedEdit;
 use crate::checks::{make_check, make_dropped_check, ready_check};
 use crate::entries::{make_change, make_entry, ready_change, ready_entry};
 use crate::items::{make_drop, make_item, ready_drop, ready_item};
-use crate::numbered::Numbered;
-use crate::parts::Parts;
+use crate::numbered::NumberedEdit;
+use crate::parts::EngineParts;
 use crate::ready::{Ready, ReadyEdit};
 use crate::statements::{make_removal, make_statement, ready_removal, ready_statement};
 use cpe_dictionary::Plan;
@@ -25,19 +25,19 @@ use name_index::Steps;
 use std::alloc::Global;
 use std::sync::ledger::Ledger;
 
-impl Parts {
-    /// The edit, after all memory for it is taken. The rows are unchanged. The verdicts that callers know are then the current
-    /// ones. It looks at no name.
+impl EngineParts {
+    /// The edit, after all memory for it is taken. The rows are unchanged. Later verdicts are compared with
+    /// those that statements have after this call. It looks at no name.
     ///
     /// # Errors
     /// The first fault of the edit in the order of [`EditFault`], or that memory ran out. No name is then held for the edit.
     pub fn ready(&mut self, alloc: Global, edit: Edit) -> Result<ReadyEdit, EditFault>
-        requires kept { AreKept self.old }
+        requires kept { AreLawfulParts self.old }
         requires valid { is_valid_edit edit ≡ true }
         ensures rows { rows_in self.new ≡ rows_in self.old }
         ensures ready { IfOk result (IsReadyEdit self.new edit) }
-        ensures kept { OnErr result (AreKept self.new) }
-        ensures err { IfErr result (λ f. Refuses f (step (rows_in self.old) edit)) }
+        ensures kept { OnErr result (AreLawfulParts self.new) }
+        ensures err { IfErr result (λ f. RefusesEdit f (step (rows_in self.old) edit)) }
     {
         self.forget_changes();
         let numbered = self.number(alloc, edit)?;
@@ -50,7 +50,7 @@ impl Parts {
     /// The verdicts that a ready edit changes. It makes the edit, and can't fail. Allocates: no.
     pub fn make<L: Ledger>(&mut self, ready: ReadyEdit, steps: &mut Steps<L>) -> List<Changed>
         requires { (e : Edit) × IsReadyEdit self.old e ready }
-        ensures kept { AreKept self.new }
+        ensures kept { AreLawfulParts self.new }
         ensures rows { (e : Edit) → IsReadyEdit self.old e ready → rows_in self.new ≡ after (rows_in self.old) e }
         ensures changes { (e : Edit) → IsReadyEdit self.old e ready → result ≡ changes (rows_in self.old) e }
         ensures steps { (e : Edit) → IsReadyEdit self.old e ready → StepsWithin steps.old steps.new (made_looks (rows_in self.old) e) }
@@ -62,7 +62,7 @@ impl Parts {
         changes
     }
 
-    /// The verdicts that an edit changes. It makes the edit in both stages: [`Parts::ready`] and [`Parts::make`]. A refused edit
+    /// The verdicts that an edit changes. It makes the edit in both stages: [`EngineParts::ready`] and [`EngineParts::make`]. A refused edit
     /// takes no step.
     ///
     /// # Errors
@@ -74,9 +74,9 @@ impl Parts {
         edit: Edit,
         steps: &mut Steps<L>,
     ) -> Result<List<Changed>, EditFault>
-        requires kept { AreKept self.old }
+        requires kept { AreLawfulParts self.old }
         requires valid { is_valid_edit edit ≡ true }
-        ensures kept { AreKept self.new }
+        ensures kept { AreLawfulParts self.new }
         ensures applied { Applied (rows_in self.old) (rows_in self.new) edit result }
         ensures changes { IfOk result (λ cs. cs ≡ changes (rows_in self.old) edit) }
         ensures steps { StepsWithin steps.old steps.new (edit_looks (rows_in self.old) edit) }
@@ -94,15 +94,15 @@ impl Parts {
 // # Errors
 // The first fault of the edit, or that memory ran out.
 fn foresee(
-    parts: &Parts,
+    parts: &EngineParts,
     alloc: Global,
-    numbered: &Numbered,
-) -> Result<(Checked, Room<Changed>), EditFault>
+    numbered: &NumberedEdit,
+) -> Result<(CheckedEdit, Room<Changed>), EditFault>
     requires { AreBeside parts.now numbered.now }
-    ensures checked { IfOk result (λ r. IsChecked (rows_in parts.now) (edit_in parts.now numbered.now) r.0) }
+    ensures checked { IfOk result (λ r. IsCheckedEdit (rows_in parts.now) (edit_in parts.now numbered.now) r.0) }
     ensures empty { IfOk result (λ r. r.1.list ≡ []) }
-    ensures spare { IfOk result (λ r. places (rows_in parts.now) (edit_in parts.now numbered.now) ≤ r.1.spare) }
-    ensures err { IfErr result (λ f. Refuses f (step (rows_in parts.now) (edit_in parts.now numbered.now))) }
+    ensures spare { IfOk result (λ r. places_of_edit (rows_in parts.now) (edit_in parts.now numbered.now) ≤ r.1.spare) }
+    ensures err { IfErr result (λ f. RefusesEdit f (step (rows_in parts.now) (edit_in parts.now numbered.now))) }
 {
     let checked = parts.check(numbered)?;
     let room = room(parts, alloc, numbered)?;
@@ -113,21 +113,25 @@ fn foresee(
 //
 // # Errors
 // Only that memory ran out.
-fn room(parts: &Parts, alloc: Global, numbered: &Numbered) -> Result<Room<Changed>, Memory>
+fn room(
+    parts: &EngineParts,
+    alloc: Global,
+    numbered: &NumberedEdit,
+) -> Result<Room<Changed>, Memory>
     ensures empty { IfOk result (λ r. r.list ≡ []) }
-    ensures spare { IfOk result (λ r. places (rows_in parts.now) (edit_in parts.now numbered.now) ≤ r.spare) }
+    ensures spare { IfOk result (λ r. places_of_edit (rows_in parts.now) (edit_in parts.now numbered.now) ≤ r.spare) }
 {
     let mut room = Room::new(alloc);
     room.reserve(places(parts, numbered))?;
     Ok(room)
 }
 
-fn places(parts: &Parts, numbered: &Numbered) -> usize
-    ensures { result ≡ places (rows_in parts.now) (edit_in parts.now numbered.now) }
+fn places(parts: &EngineParts, numbered: &NumberedEdit) -> usize
+    ensures { result ≡ places_of_edit (rows_in parts.now) (edit_in parts.now numbered.now) }
 {
     match numbered {
-        Numbered::Entry { .. } => 0,
-        Numbered::PutStatement { .. } | Numbered::DropStatement(_) => 1,
+        NumberedEdit::Entry { .. } => 0,
+        NumberedEdit::PutStatement { .. } | NumberedEdit::DropStatement(_) => 1,
         _ => parts.verdicts.len(),
     }
 }
@@ -137,22 +141,22 @@ fn places(parts: &Parts, numbered: &Numbered) -> usize
 // # Errors
 // Only that memory ran out. The names that are held for the edit are then released.
 fn ready_checked(
-    parts: &mut Parts,
+    parts: &mut EngineParts,
     alloc: Global,
-    numbered: Numbered,
-    checked: Checked,
+    numbered: NumberedEdit,
+    checked: CheckedEdit,
     room: Room<Changed>,
 ) -> Result<ReadyEdit, Memory>
     requires beside { AreBeside parts.old numbered }
-    requires checked { IsChecked (rows_in parts.old) (edit_in parts.old numbered) checked }
+    requires checked { IsCheckedEdit (rows_in parts.old) (edit_in parts.old numbered) checked }
     requires known { known_in parts.old.verdicts ≡ map (verdict (rows_in parts.old)) (rows_in parts.old).statements }
     requires empty { room.list ≡ [] }
-    requires spare { places (rows_in parts.old) (edit_in parts.old numbered) ≤ room.spare }
+    requires spare { places_of_edit (rows_in parts.old) (edit_in parts.old numbered) ≤ room.spare }
     ensures rows { rows_in parts.new ≡ rows_in parts.old }
     ensures ready { IfOk result (IsReadyEdit parts.new (edit_in parts.old numbered)) }
-    ensures kept { OnErr result (AreKept parts.new) }
+    ensures kept { OnErr result (AreLawfulParts parts.new) }
 {
-    let Checked { plan, weight } = checked;
+    let CheckedEdit { plan, weight } = checked;
     match ready_by_kind(parts, alloc, numbered, plan) {
         Ok(edit) => Ok(ReadyEdit { edit, weight, room }),
         Err(memory) => {
@@ -164,37 +168,39 @@ fn ready_checked(
 
 // Takes the memory that the edit needs by its kind.
 fn ready_by_kind(
-    parts: &mut Parts,
+    parts: &mut EngineParts,
     alloc: Global,
-    numbered: Numbered,
+    numbered: NumberedEdit,
     plan: Option<Plan>,
 ) -> Result<Ready, Memory>
     requires ready { MayBeReady parts.old numbered }
-    requires planned { IsPlanned (rows_in parts.old).entries (edit_in parts.old numbered) plan }
+    requires planned { IsPlanOfEdit (rows_in parts.old).entries (edit_in parts.old numbered) plan }
     ensures { MadeReady parts.old parts.new numbered result }
 {
     match numbered {
-        Numbered::Entry {
+        NumberedEdit::Entry {
             id,
             title,
             provenance,
         } => ready_entry(parts, id, title, provenance),
-        Numbered::Item(id) => ready_item(parts, alloc, id),
-        Numbered::DropItem(id) => ready_drop(parts, alloc, id),
-        Numbered::Change(change) => match plan {
+        NumberedEdit::Item(id) => ready_item(parts, alloc, id),
+        NumberedEdit::DropItem(id) => ready_drop(parts, alloc, id),
+        NumberedEdit::Change(change) => match plan {
             Some(plan) => ready_change(parts, alloc, change, plan),
             None => unreachable!(),
         },
-        Numbered::PutStatement { statement, ids } => ready_statement(parts, alloc, statement, ids),
-        Numbered::DropStatement(id) => ready_removal(parts, alloc, id),
-        Numbered::SetCheck { key, result } => ready_check(parts, key, result),
-        Numbered::DropCheck(key) => Ok(Ready::DropCheck(key)),
+        NumberedEdit::PutStatement { statement, ids } => ready_statement(
+            parts, alloc, statement, ids,
+        ),
+        NumberedEdit::DropStatement(id) => ready_removal(parts, alloc, id),
+        NumberedEdit::SetCheck { key, result } => ready_check(parts, key, result),
+        NumberedEdit::DropCheck(key) => Ok(Ready::DropCheck(key)),
     }
 }
 
 // The verdicts that a ready edit changes. It makes the edit by its kind. The caller sets the weight.
 fn make<L: Ledger>(
-    parts: &mut Parts,
+    parts: &mut EngineParts,
     edit: Ready,
     room: Room<Changed>,
     steps: &mut Steps<L>,

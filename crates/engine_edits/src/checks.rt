@@ -5,8 +5,8 @@ ghost use Rattle.engine_edits.specs.Moved.{MadeReady, MayBeReady};
 ghost use Rattle.engine_edits.specs.Parts.{AreOf, rows_in};
 ghost use Rattle.engine_edits.specs.Ready.{edit_ready, IsReady};
 
-use crate::numbered::Numbered;
-use crate::parts::Parts;
+use crate::numbered::NumberedEdit;
+use crate::parts::EngineParts;
 use crate::ready::Ready;
 use cpe_rows::{Changed, CheckKey, List, Memory, Room, Truth};
 use verdicts::ReadyResult;
@@ -15,9 +15,13 @@ use verdicts::ReadyResult;
 ///
 /// # Errors
 /// Only that memory ran out.
-pub(crate) fn ready_check(parts: &mut Parts, key: CheckKey, truth: Truth) -> Result<Ready, Memory>
-    requires { MayBeReady parts.old (Numbered.SetCheck key truth) }
-    ensures { MadeReady parts.old parts.new (Numbered.SetCheck key truth) result }
+pub(crate) fn ready_check(
+    parts: &mut EngineParts,
+    key: CheckKey,
+    truth: Truth,
+) -> Result<Ready, Memory>
+    requires { MayBeReady parts.old (NumberedEdit.SetCheck key truth) }
+    ensures { MadeReady parts.old parts.new (NumberedEdit.SetCheck key truth) result }
 {
     match parts.verdicts.ready_result(key) {
         Ok(key) => Ok(Ready::SetCheck { key, truth }),
@@ -27,7 +31,7 @@ pub(crate) fn ready_check(parts: &mut Parts, key: CheckKey, truth: Truth) -> Res
 
 /// Sets the result of a check, and returns the verdicts that change.
 pub(crate) fn make_check(
-    parts: &mut Parts,
+    parts: &mut EngineParts,
     key: ReadyResult,
     truth: Truth,
     room: Room<Changed>,
@@ -42,7 +46,7 @@ pub(crate) fn make_check(
 
 /// Removes the result of a check, and returns the verdicts that change.
 pub(crate) fn make_dropped_check(
-    parts: &mut Parts,
+    parts: &mut EngineParts,
     key: CheckKey,
     room: Room<Changed>,
 ) -> List<Changed>

@@ -4,40 +4,40 @@ ghost use Rattle.cpe_rows.specs.Prelude.{causes, first_some, is_named, is_valid_
 ghost use Rattle.cpe_rows.specs.declared.edit.Edit.TheVariants as edit;
 ghost use Rattle.cpe_rows.specs.declared.fault.Which.TheVariants as limit;
 ghost use Rattle.name_index.specs.Table.{IsLive};
-ghost use Rattle.cpe_weight.specs.Gain.{deprecated_weight, weight_of_first};
-ghost use Rattle.verdicts.specs.cpe_registry.Registered.{name_in};
-ghost use Rattle.engine_edits.specs.Numbered.{given, IsFound, names_coming, turned};
-ghost use Rattle.engine_edits.specs.Parts.{AreKept, AreOf, edit_in, rows_in};
+ghost use Rattle.row_weight.specs.Gain.{deprecated_weight, weight_of_first};
+ghost use Rattle.verdicts.specs.name_registry.Registered.{name_in};
+ghost use Rattle.engine_edits.specs.Numbered.{given, IsFound, names_coming, turned_entry};
+ghost use Rattle.engine_edits.specs.Parts.{AreLawfulParts, AreOf, edit_in, rows_in};
 ghost use Rattle.engine_edits.specs.Planned.{HasPlan};
-ghost use Rattle.name_index.specs.cpe_steps.Within.{StepsWithin};
+ghost use Rattle.name_index.specs.step_count.Within.{StepsWithin};
 ghost use Rattle.engine_edits.specs.Prelude.{IsReadyLead, known_in};
 ghost use Rattle.cpe_dictionary.specs.Plans.{IsPlan};
-ghost use Rattle.verdicts.specs.cpe_registry.Registered.{HasChangeRoom};
+ghost use Rattle.verdicts.specs.name_registry.Registered.{HasChangeRoom};
 ghost use Rattle.engine_edits.specs.Looks.{made_looks};
 ghost use Rattle.engine_edits.specs.Moved.{MadeReady, MayBeReady, SameParts};
 ghost use Rattle.engine_edits.specs.Ready.{edit_ready, IsReady};
 
 use crate::holds::release_all;
-use crate::numbered::{Change, Numbered, Turn};
-use crate::parts::Parts;
+use crate::numbered::{EntryChange, NumberedEdit, Turn};
+use crate::parts::EngineParts;
 use crate::ready::{Ready, ReadyChange};
 use cpe_dictionary::{NoteRoom, Plan, edits_by_number};
 use cpe_rows::{Changed, Date, EditFault, Entry, List, Memory, Provenance, Room, Text, Wfn};
-use cpe_weight::with_deprecation;
 use name_index::{NameId, Steps};
+use row_weight::with_deprecation;
 use std::alloc::Global;
 use std::sync::ledger::Ledger;
 use verdicts::Lead;
 
 // ---- numbers
 
-impl Parts {
+impl EngineParts {
     /// A new entry with the number of its name. The table then holds the name.
     ///
     /// # Errors
     /// Only that memory ran out. Rows, verdicts and weight are then unchanged, and the name isn't held.
-    pub(crate) fn number_entry(&mut self, entry: Entry) -> Result<Numbered, Memory>
-        requires kept { AreKept self.old }
+    pub(crate) fn number_entry(&mut self, entry: Entry) -> Result<NumberedEdit, Memory>
+        requires kept { AreLawfulParts self.old }
         requires valid { is_valid_edit (edit.Entry entry) ≡ true }
         ensures rows { rows_in self.new ≡ rows_in self.old }
         ensures verdicts { self.new.verdicts ≡ self.old.verdicts }
@@ -54,12 +54,12 @@ impl Parts {
             deprecation: _,
         } = entry;
         match self.hold_name(name) {
-            Ok(id) => Ok(Numbered::Entry {
+            Ok(id) => Ok(NumberedEdit::Entry {
                 id,
                 title,
                 provenance,
             }),
-            Err(memory) => Err(let_go(title, provenance, memory)),
+            Err(memory) => Err(discard(title, provenance, memory)),
         }
     }
 
@@ -73,16 +73,16 @@ impl Parts {
         turn: Turn,
         date: Date,
         comment: Text,
-    ) -> Result<Numbered, EditFault>
-        ensures edit { IfOk result (λ n. edit_in self.now n ≡ turned name turn date comment) }
+    ) -> Result<NumberedEdit, EditFault>
+        ensures edit { IfOk result (λ n. edit_in self.now n ≡ turned_entry name turn date comment) }
         ensures found { IfOk result (IsFound self.now.registry.table) }
         ensures coming { IfOk result (λ n. names_coming self.now.registry.table n ≡ []) }
-        ensures err { IfErr result (λ f. IsCause f (first_some (causes (rows_in self.now) (turned name turn date comment)))) }
+        ensures err { IfErr result (λ f. IsCause f (first_some (causes (rows_in self.now) (turned_entry name turn date comment)))) }
     {
         let found = self.registry.find(&name);
         drop(name);
         match found {
-            Some(id) => Ok(Numbered::Change(Change {
+            Some(id) => Ok(NumberedEdit::Change(EntryChange {
                 id,
                 turn,
                 date,
@@ -99,16 +99,16 @@ impl Parts {
 
 // ---- faults and weight
 
-impl Parts {
+impl EngineParts {
     /// The plan of a change of a deprecation.
     ///
     /// # Errors
     /// The first fault of the edit except a too large weight, or that memory ran out.
-    pub(crate) fn plan_change(&self, change: &Change) -> Result<Option<Plan>, EditFault>
+    pub(crate) fn plan_change(&self, change: &EntryChange) -> Result<Option<Plan>, EditFault>
         requires { IsLive self.now.registry.table change.now.id.0 }
         ensures planned { IfOk result (HasPlan (rows_in self.now).entries (name_in self.now.registry.table change.now.id) (given change.now.turn)) }
-        ensures ok { IfOk result (λ p. first_some (causes (rows_in self.now) (turned (name_in self.now.registry.table change.now.id) change.now.turn change.now.date change.now.comment)) ≡ None) }
-        ensures err { IfErr result (λ f. IsCause f (first_some (causes (rows_in self.now) (turned (name_in self.now.registry.table change.now.id) change.now.turn change.now.date change.now.comment)))) }
+        ensures ok { IfOk result (λ p. first_some (causes (rows_in self.now) (turned_entry (name_in self.now.registry.table change.now.id) change.now.turn change.now.date change.now.comment)) ≡ None) }
+        ensures err { IfErr result (λ f. IsCause f (first_some (causes (rows_in self.now) (turned_entry (name_in self.now.registry.table change.now.id) change.now.turn change.now.date change.now.comment)))) }
     {
         let number = self.registry.entry_number(change.id);
         let name = self.registry.name(change.id);
@@ -138,7 +138,7 @@ impl Parts {
 }
 
 // Drops the rest of an entry after memory ran out.
-fn let_go(title: Text, provenance: Provenance, memory: Memory) -> Memory {
+fn discard(title: Text, provenance: Provenance, memory: Memory) -> Memory {
     drop(title);
     drop(provenance);
     memory
@@ -151,13 +151,13 @@ fn let_go(title: Text, provenance: Provenance, memory: Memory) -> Memory {
 /// # Errors
 /// Only that memory ran out. The name is then released.
 pub(crate) fn ready_entry(
-    parts: &mut Parts,
+    parts: &mut EngineParts,
     id: NameId,
     title: Text,
     provenance: Provenance,
 ) -> Result<Ready, Memory>
-    requires { MayBeReady parts.old (Numbered.Entry id title provenance) }
-    ensures { MadeReady parts.old parts.new (Numbered.Entry id title provenance) result }
+    requires { MayBeReady parts.old (NumberedEdit.Entry id title provenance) }
+    ensures { MadeReady parts.old parts.new (NumberedEdit.Entry id title provenance) result }
 {
     match parts.registry.reserve_entry(id) {
         Ok(()) => Ok(Ready::Entry {
@@ -167,7 +167,7 @@ pub(crate) fn ready_entry(
         }),
         Err(memory) => {
             release_all(&mut parts.registry, &[id]);
-            Err(let_go(title, provenance, memory))
+            Err(discard(title, provenance, memory))
         }
     }
 }
@@ -177,14 +177,14 @@ pub(crate) fn ready_entry(
 /// # Errors
 /// Only that memory ran out.
 pub(crate) fn ready_change(
-    parts: &mut Parts,
+    parts: &mut EngineParts,
     alloc: Global,
-    change: Change,
+    change: EntryChange,
     plan: Plan,
 ) -> Result<Ready, Memory>
-    requires ready { MayBeReady parts.old (Numbered.Change change) }
+    requires ready { MayBeReady parts.old (NumberedEdit.Change change) }
     requires plan { IsPlan (rows_in parts.old).entries (name_in parts.old.registry.table change.id) (given change.turn) plan }
-    ensures { MadeReady parts.old parts.new (Numbered.Change change) result }
+    ensures { MadeReady parts.old parts.new (NumberedEdit.Change change) result }
 {
     cpe_rows::law::rows_stay_lawful();
     match reserve_change(parts, alloc, &change, &plan) {
@@ -204,9 +204,9 @@ pub(crate) fn ready_change(
 
 // Room for the note of a change, and what the change does to items and facts.
 fn reserve_change(
-    parts: &mut Parts,
+    parts: &mut EngineParts,
     alloc: Global,
-    change: &Change,
+    change: &EntryChange,
     plan: &Plan,
 ) -> Result<(NoteRoom, Lead), Memory>
     requires live { IsLive parts.old.registry.table change.now.id.0 }
@@ -217,7 +217,7 @@ fn reserve_change(
     ensures table { parts.new.registry.table ≡ parts.old.registry.table }
     ensures are { AreOf parts.new.registry parts.new.verdicts (rows_in parts.old) [] }
     ensures room { IfOk result (λ r. HasChangeRoom parts.new.registry plan.now r.0) }
-    ensures lead { IfOk result (λ r. IsReadyLead parts.new.verdicts parts.new.registry.table (rows_in parts.old) (after (rows_in parts.old) (edit_in parts.old (Numbered.Change change.now))).entries (name_in parts.old.registry.table change.now.id) r.1) }
+    ensures lead { IfOk result (λ r. IsReadyLead parts.new.verdicts parts.new.registry.table (rows_in parts.old) (after (rows_in parts.old) (edit_in parts.old (NumberedEdit.Change change.now))).entries (name_in parts.old.registry.table change.now.id) r.1) }
 {
     edits_by_number();
     let note = parts.registry.reserve_change(plan)?;
@@ -231,7 +231,7 @@ fn reserve_change(
 
 /// Adds an entry. The table holds its name already, and from now on holds it for the entry. No verdict changes.
 pub(crate) fn make_entry(
-    parts: &mut Parts,
+    parts: &mut EngineParts,
     id: NameId,
     title: Text,
     provenance: Provenance,
@@ -252,7 +252,7 @@ pub(crate) fn make_entry(
 
 /// Changes the deprecation of an entry, and returns the verdicts that change.
 pub(crate) fn make_change<L: Ledger>(
-    parts: &mut Parts,
+    parts: &mut EngineParts,
     change: ReadyChange,
     room: Room<Changed>,
     steps: &mut Steps<L>,
@@ -275,8 +275,8 @@ pub(crate) fn make_change<L: Ledger>(
 
 // Changes the deprecation of an entry. The caller collects the changed verdicts.
 fn lead_change<L: Ledger>(
-    parts: &mut Parts,
-    change: Change,
+    parts: &mut EngineParts,
+    change: EntryChange,
     plan: &Plan,
     lead: Lead,
     note_room: NoteRoom,
@@ -285,12 +285,12 @@ fn lead_change<L: Ledger>(
     requires lawful { IsLawful (rows_in parts.old) }
     requires are { AreOf parts.old.registry parts.old.verdicts (rows_in parts.old) [] }
     requires plan { IsPlan (rows_in parts.old).entries (name_in parts.old.registry.table change.id) (given change.turn) plan.now }
-    requires left { IsLawful (after (rows_in parts.old) (edit_in parts.old (Numbered.Change change))) }
-    requires lead { IsReadyLead parts.old.verdicts parts.old.registry.table (rows_in parts.old) (after (rows_in parts.old) (edit_in parts.old (Numbered.Change change))).entries (name_in parts.old.registry.table change.id) lead }
+    requires left { IsLawful (after (rows_in parts.old) (edit_in parts.old (NumberedEdit.Change change))) }
+    requires lead { IsReadyLead parts.old.verdicts parts.old.registry.table (rows_in parts.old) (after (rows_in parts.old) (edit_in parts.old (NumberedEdit.Change change))).entries (name_in parts.old.registry.table change.id) lead }
     requires room { HasChangeRoom parts.old.registry plan.now note_room }
-    ensures are { AreOf parts.new.registry parts.new.verdicts (after (rows_in parts.old) (edit_in parts.old (Numbered.Change change))) [] }
+    ensures are { AreOf parts.new.registry parts.new.verdicts (after (rows_in parts.old) (edit_in parts.old (NumberedEdit.Change change))) [] }
     ensures known { known_in parts.new.verdicts ≡ known_in parts.old.verdicts }
-    ensures steps { StepsWithin steps.old steps.new (made_looks (rows_in parts.old) (edit_in parts.old (Numbered.Change change))) }
+    ensures steps { StepsWithin steps.old steps.new (made_looks (rows_in parts.old) (edit_in parts.old (NumberedEdit.Change change))) }
 {
     edits_by_number();
     cpe_rows::touching::deprecations_touch();

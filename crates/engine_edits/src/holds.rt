@@ -4,10 +4,10 @@ ghost use Rattle.cpe_rows.specs.Prelude.{fact_names, is_lower, Rows, Values};
 ghost use Rattle.cpe_rows.specs.Shape.{is_sound};
 ghost use Rattle.name_index.specs.Table.{IsLive};
 ghost use Rattle.fact_laws.specs.Shown.{names_at};
-ghost use Rattle.verdicts.specs.cpe_registry.Registered.{AreLive, name_in};
+ghost use Rattle.verdicts.specs.name_registry.Registered.{AreRegistryNames, name_in};
 ghost use Rattle.verdicts.specs.Verdicts.{VerdictsNow};
-ghost use Rattle.engine_edits.specs.Holding.{AreFew, Grows};
-ghost use Rattle.engine_edits.specs.Numbered.{numbers_of};
+ghost use Rattle.engine_edits.specs.Holding.{AreFewNames, Grows};
+ghost use Rattle.engine_edits.specs.Numbered.{numbers_held};
 ghost use Rattle.engine_edits.specs.Parts.{AreOf};
 
 use crate::numbered::Coming;
@@ -24,12 +24,12 @@ pub(crate) fn hold_facts(
     test: &Test,
     ids: &mut Vec<NameId>,
 ) -> Result<(), Memory>
-    requires live { AreLive registry.old.table ids.old.items }
+    requires live { AreRegistryNames registry.old.table ids.old.items }
     requires sound { is_sound test.now ≡ true }
-    requires few { AreFew registry.old.table (length (fact_names test.now)) }
+    requires few { AreFewNames registry.old.table (length (fact_names test.now)) }
     ensures grows { Grows registry.old registry.new ids.old.items ids.new.items }
     ensures names { OnOk result (names_at registry.new.table ids.new.items ≡ names_at registry.old.table ids.old.items ++ fact_names test.now) }
-    ensures few { (n : ℕ) → AreFew registry.old.table (length (fact_names test.now) + n) → OnOk result (AreFew registry.new.table n) }
+    ensures few { (n : ℕ) → AreFewNames registry.old.table (length (fact_names test.now) + n) → OnOk result (AreFewNames registry.new.table n) }
 {
     match test {
         Test::Logic { of, .. } => {
@@ -45,12 +45,12 @@ pub(crate) fn hold_facts(
 
 // Holds one name, and puts its number last.
 fn hold_fact(registry: &mut Registry, name: &Wfn, ids: &mut Vec<NameId>) -> Result<(), Memory>
-    requires live { AreLive registry.old.table ids.old.items }
+    requires live { AreRegistryNames registry.old.table ids.old.items }
     requires lower { is_lower name.now ≡ true }
-    requires few { AreFew registry.old.table 1 }
+    requires few { AreFewNames registry.old.table 1 }
     ensures grows { Grows registry.old registry.new ids.old.items ids.new.items }
     ensures names { OnOk result (names_at registry.new.table ids.new.items ≡ names_at registry.old.table ids.old.items ++ name.now ∷ []) }
-    ensures few { (n : ℕ) → AreFew registry.old.table (1 + n) → OnOk result (AreFew registry.new.table n) }
+    ensures few { (n : ℕ) → AreFewNames registry.old.table (1 + n) → OnOk result (AreFewNames registry.new.table n) }
 {
     cpe_rows::law::names_are_equal();
     fact_laws::law::lists_are_shown();
@@ -86,9 +86,9 @@ fn put_last(ids: &mut Vec<NameId>, id: NameId)
 
 /// Releases the names that are held for an edit.
 pub(crate) fn release_coming(registry: &mut Registry, coming: Coming)
-    requires live { AreLive registry.old.table (numbers_of coming) }
-    requires are { (v : VerdictsNow) × (rows : Rows) × (others : List Values) × AreOf registry.old v rows (names_at registry.old.table (numbers_of coming) ++ others) }
-    ensures { (v : VerdictsNow) (rows : Rows) (others : List Values) → AreOf registry.old v rows (names_at registry.old.table (numbers_of coming) ++ others) → AreOf registry.new v rows others }
+    requires live { AreRegistryNames registry.old.table (numbers_held coming) }
+    requires are { (v : VerdictsNow) × (rows : Rows) × (others : List Values) × AreOf registry.old v rows (names_at registry.old.table (numbers_held coming) ++ others) }
+    ensures { (v : VerdictsNow) (rows : Rows) (others : List Values) → AreOf registry.old v rows (names_at registry.old.table (numbers_held coming) ++ others) → AreOf registry.new v rows others }
 {
     match coming {
         Coming::Nothing => {}
@@ -99,7 +99,7 @@ pub(crate) fn release_coming(registry: &mut Registry, coming: Coming)
 
 /// Releases the names of these numbers. The table holds each of them besides the names of the rows.
 pub(crate) fn release_all(registry: &mut Registry, ids: &[NameId])
-    requires live { AreLive registry.old.table ids.now }
+    requires live { AreRegistryNames registry.old.table ids.now }
     requires are { (v : VerdictsNow) × (rows : Rows) × (others : List Values) × AreOf registry.old v rows (names_at registry.old.table ids.now ++ others) }
     ensures { (v : VerdictsNow) (rows : Rows) (others : List Values) → AreOf registry.old v rows (names_at registry.old.table ids.now ++ others) → AreOf registry.new v rows others }
 {
@@ -112,9 +112,9 @@ pub(crate) fn release_all(registry: &mut Registry, ids: &[NameId])
 fn release_one(registry: &mut Registry, id: NameId)
     requires live { IsLive registry.old.table id.0 }
     requires are { (v : VerdictsNow) × (rows : Rows) × (others : List Values) × AreOf registry.old v rows (name_in registry.old.table id ∷ others) }
-    ensures { (v : VerdictsNow) (rows : Rows) (others : List Values) (rest : List NameId) → AreLive registry.old.table rest
+    ensures { (v : VerdictsNow) (rows : Rows) (others : List Values) (rest : List NameId) → AreRegistryNames registry.old.table rest
         → AreOf registry.old v rows (name_in registry.old.table id ∷ (names_at registry.old.table rest ++ others))
-        → AreLive registry.new.table rest × AreOf registry.new v rows (names_at registry.new.table rest ++ others) }
+        → AreRegistryNames registry.new.table rest × AreOf registry.new v rows (names_at registry.new.table rest ++ others) }
 {
     fact_laws::law::lists_are_shown();
     fact_laws::law::tables_are_lists();

@@ -3,11 +3,11 @@ ghost use Rattle.std.specs.Prelude.{◌≡◌, ◌∷◌, [], IfErr, IfOk, OnErr
 ghost use Rattle.cpe_rows.specs.Prelude.{causes, first_some, is_lower, IsCause, after, changes, is_same, IsLawful};
 ghost use Rattle.cpe_rows.specs.declared.edit.Edit.TheVariants as edit;
 ghost use Rattle.name_index.specs.Table.{IsLive};
-ghost use Rattle.verdicts.specs.cpe_registry.Registered.{name_in};
+ghost use Rattle.verdicts.specs.name_registry.Registered.{name_in};
 ghost use Rattle.engine_edits.specs.Numbered.{IsFound, names_coming};
-ghost use Rattle.engine_edits.specs.Parts.{AreKept, AreOf, edit_in, rows_in};
+ghost use Rattle.engine_edits.specs.Parts.{AreLawfulParts, AreOf, edit_in, rows_in};
 ghost use Rattle.std.specs.List.{list_any};
-ghost use Rattle.name_index.specs.cpe_steps.Within.{StepsWithin};
+ghost use Rattle.name_index.specs.step_count.Within.{StepsWithin};
 ghost use Rattle.engine_edits.specs.Prelude.{known_in};
 ghost use Rattle.verdicts.specs.facts.Looks.{item_looks};
 ghost use Rattle.engine_edits.specs.Looks.{made_looks};
@@ -15,21 +15,21 @@ ghost use Rattle.engine_edits.specs.Moved.{MadeReady, MayBeReady, SameParts};
 ghost use Rattle.engine_edits.specs.Ready.{edit_ready, IsReady, IsReadyItem};
 
 use crate::holds::release_all;
-use crate::numbered::Numbered;
-use crate::parts::Parts;
+use crate::numbered::NumberedEdit;
+use crate::parts::EngineParts;
 use crate::ready::Ready;
 use cpe_rows::{Changed, EditFault, List, Memory, Room, Wfn};
 use name_index::{NameId, Steps};
 use std::alloc::Global;
 use std::sync::ledger::Ledger;
 
-impl Parts {
+impl EngineParts {
     /// Holds the name of a new entry or a new item, and returns its number.
     ///
     /// # Errors
     /// Only that memory ran out. Rows, verdicts and weight are then unchanged, and the name isn't held.
     pub(crate) fn hold_name(&mut self, name: Wfn) -> Result<NameId, Memory>
-        requires kept { AreKept self.old }
+        requires kept { AreLawfulParts self.old }
         requires lower { is_lower name ≡ true }
         ensures rows { rows_in self.new ≡ rows_in self.old }
         ensures verdicts { self.new.verdicts ≡ self.old.verdicts }
@@ -52,7 +52,7 @@ impl Parts {
     ///
     /// # Errors
     /// That the table has no such name.
-    pub(crate) fn number_dropped_item(&self, name: Wfn) -> Result<Numbered, EditFault>
+    pub(crate) fn number_dropped_item(&self, name: Wfn) -> Result<NumberedEdit, EditFault>
         ensures edit { IfOk result (λ n. edit_in self.now n ≡ edit.DropItem name) }
         ensures found { IfOk result (IsFound self.now.registry.table) }
         ensures coming { IfOk result (λ n. names_coming self.now.registry.table n ≡ []) }
@@ -61,7 +61,7 @@ impl Parts {
         let found = self.registry.find(&name);
         drop(name);
         match found {
-            Some(id) => Ok(Numbered::DropItem(id)),
+            Some(id) => Ok(NumberedEdit::DropItem(id)),
             None => Err(EditFault::Unknown),
         }
     }
@@ -73,9 +73,13 @@ impl Parts {
 ///
 /// # Errors
 /// Only that memory ran out. The name is then released.
-pub(crate) fn ready_item(parts: &mut Parts, alloc: Global, id: NameId) -> Result<Ready, Memory>
-    requires { MayBeReady parts.old (Numbered.Item id) }
-    ensures { MadeReady parts.old parts.new (Numbered.Item id) result }
+pub(crate) fn ready_item(
+    parts: &mut EngineParts,
+    alloc: Global,
+    id: NameId,
+) -> Result<Ready, Memory>
+    requires { MayBeReady parts.old (NumberedEdit.Item id) }
+    ensures { MadeReady parts.old parts.new (NumberedEdit.Item id) result }
 {
     match reserve_item(parts, alloc, id) {
         Ok(ends) => Ok(Ready::Item { id, ends }),
@@ -88,7 +92,7 @@ pub(crate) fn ready_item(parts: &mut Parts, alloc: Global, id: NameId) -> Result
 
 // The ends of a new item, after room is made for it in the registry and on the boards. If memory runs out, its name is still
 // held.
-fn reserve_item(parts: &mut Parts, alloc: Global, id: NameId) -> Result<Vec<NameId>, Memory>
+fn reserve_item(parts: &mut EngineParts, alloc: Global, id: NameId) -> Result<Vec<NameId>, Memory>
     requires live { IsLive parts.old.registry.table id.0 }
     requires lawful { IsLawful (rows_in parts.old) }
     requires are { AreOf parts.old.registry parts.old.verdicts (rows_in parts.old) (name_in parts.old.registry.table id ∷ []) }
@@ -108,9 +112,9 @@ fn reserve_item(parts: &mut Parts, alloc: Global, id: NameId) -> Result<Vec<Name
 ///
 /// # Errors
 /// Only that memory ran out.
-pub(crate) fn ready_drop(parts: &Parts, alloc: Global, id: NameId) -> Result<Ready, Memory>
-    requires { MayBeReady parts.now (Numbered.DropItem id) }
-    ensures { MadeReady parts.now parts.now (Numbered.DropItem id) result }
+pub(crate) fn ready_drop(parts: &EngineParts, alloc: Global, id: NameId) -> Result<Ready, Memory>
+    requires { MayBeReady parts.now (NumberedEdit.DropItem id) }
+    ensures { MadeReady parts.now parts.now (NumberedEdit.DropItem id) result }
 {
     match parts.registry.ends_of(alloc, id) {
         Ok(ends) => Ok(Ready::DropItem { id, ends }),
@@ -122,7 +126,7 @@ pub(crate) fn ready_drop(parts: &Parts, alloc: Global, id: NameId) -> Result<Rea
 
 /// Adds an item, and returns the verdicts that change. The table holds its name already, and from now on holds it for the item.
 pub(crate) fn make_item<L: Ledger>(
-    parts: &mut Parts,
+    parts: &mut EngineParts,
     id: NameId,
     ends: Vec<NameId>,
     room: Room<Changed>,
@@ -144,7 +148,7 @@ pub(crate) fn make_item<L: Ledger>(
 
 /// Removes an item, releases its name, and returns the verdicts that change.
 pub(crate) fn make_drop<L: Ledger>(
-    parts: &mut Parts,
+    parts: &mut EngineParts,
     id: NameId,
     ends: Vec<NameId>,
     room: Room<Changed>,

@@ -1,13 +1,13 @@
 // Edits with numbers in place of names: the numbers of the names in the engine's table.
 ghost use Rattle.std.specs.Prelude.{◌≡◌, option_copied};
-ghost use Rattle.engine_edits.specs.Numbered.{coming, given, is_first, note_kind, note_of, numbers_of};
+ghost use Rattle.engine_edits.specs.Numbered.{coming, given, is_first, note_kind, note_of, numbers_held};
 
 use cpe_rows::{CheckKey, Date, Deprecation, Note, NoteKind, Provenance, Statement, Text, Truth};
 use name_index::NameId;
 
 /// An edit with the numbers of the names of entries, items and facts. The table holds each new name for the edit.
 #[derive(Drop)]
-pub(crate) enum Numbered {
+pub(crate) enum NumberedEdit {
     /// Adds an entry.
     Entry {
         id: NameId,
@@ -19,7 +19,7 @@ pub(crate) enum Numbered {
     /// Removes an item.
     DropItem(NameId),
     /// Changes the deprecation of an entry.
-    Change(Change),
+    Change(EntryChange),
     /// Adds a statement. These are the numbers of its facts, in the order of its test.
     PutStatement {
         statement: Statement,
@@ -49,7 +49,7 @@ pub(crate) enum Coming {
 
 /// A change of the deprecation of an entry, with the date and the comment of its note.
 #[derive(Drop)]
-pub(crate) struct Change {
+pub(crate) struct EntryChange {
     /// The number of the entry's name.
     pub id: NameId,
     /// How the deprecation changes.
@@ -71,14 +71,14 @@ pub(crate) enum Turn {
     TakeAway,
 }
 
-impl Numbered {
+impl NumberedEdit {
     /// The numbers of the names that are held for the edit. The rest of the edit is dropped.
     pub(crate) fn into_coming(self) -> Coming
-        ensures { numbers_of result ≡ coming self }
+        ensures { numbers_held result ≡ coming self }
     {
         match self {
-            Numbered::Entry { id, .. } | Numbered::Item(id) => Coming::One(id),
-            Numbered::PutStatement { ids, .. } => Coming::Many(ids),
+            NumberedEdit::Entry { id, .. } | NumberedEdit::Item(id) => Coming::One(id),
+            NumberedEdit::PutStatement { ids, .. } => Coming::Many(ids),
             _ => Coming::Nothing,
         }
     }
@@ -115,13 +115,13 @@ impl Turn {
     }
 }
 
-impl Change {
+impl EntryChange {
     /// The deprecation of the entry after the change, if it has one, and the note.
     pub(crate) fn into_parts(self) -> (Option<Deprecation>, Note)
         ensures deprecation { result.0 ≡ given self.turn }
         ensures note { result.1 ≡ note_of self.turn self.date self.comment }
     {
-        let Change {
+        let EntryChange {
             id: _,
             turn,
             date,

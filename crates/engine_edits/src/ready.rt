@@ -1,11 +1,11 @@
 // Edits for which all memory is taken.
-use crate::numbered::Change;
+use crate::numbered::EntryChange;
 use cpe_dictionary::{NoteRoom, Plan};
 use cpe_rows::{Changed, CheckKey, Provenance, Room, Text, Truth};
 use name_index::NameId;
 use verdicts::{Addition, Lead, ReadyResult, Removal};
 
-/// An edit without a fault, for which all memory is taken. [`Parts::make`](crate::Parts::make) makes it. It isn't `Drop`, so that
+/// An edit without a fault, for which all memory is taken. [`EngineParts::make`](crate::EngineParts::make) makes it. It isn't `Drop`, so that
 /// it can't be discarded by mistake.
 pub struct ReadyEdit {
     // The edit, with what was found and taken for it.
@@ -57,7 +57,7 @@ pub(crate) enum Ready {
 
 /// A change of a deprecation: its plan, what it does to items and facts, and the memory for its note.
 pub(crate) struct ReadyChange {
-    pub change: Change,
+    pub change: EntryChange,
     pub plan: Plan,
     pub lead: Lead,
     pub note: NoteRoom,

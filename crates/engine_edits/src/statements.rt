@@ -5,29 +5,29 @@ ghost use Rattle.cpe_rows.specs.Prelude.{causes, first_some, has_id, is_valid_ed
 ghost use Rattle.cpe_rows.specs.declared.edit.Edit.TheVariants as edit;
 ghost use Rattle.cpe_rows.specs.declared.fault.Which.TheVariants as limit;
 ghost use Rattle.cpe_rows.specs.Weight.{statement_weight};
-ghost use Rattle.cpe_weight.specs.Gain.{weight_of_first};
+ghost use Rattle.row_weight.specs.Gain.{weight_of_first};
 ghost use Rattle.engine_edits.specs.Numbered.{IsFound, names_coming};
-ghost use Rattle.engine_edits.specs.Parts.{AreKept, AreOf, edit_in, rows_in};
+ghost use Rattle.engine_edits.specs.Parts.{AreLawfulParts, AreOf, edit_in, rows_in};
 ghost use Rattle.name_index.specs.Prelude.{Names, StepsWithin};
 ghost use Rattle.verdicts.specs.Verdicts.{HasVerdicts};
 ghost use Rattle.verdicts.specs.Removal.{IsRemoval};
 ghost use Rattle.engine_edits.specs.Looks.{made_looks};
 ghost use Rattle.engine_edits.specs.Moved.{MadeReady, MayBeReady};
 ghost use Rattle.engine_edits.specs.Ready.{edit_ready, IsReady};
-ghost use Rattle.engine_edits.specs.Told.{dropped_by, put_by};
+ghost use Rattle.engine_edits.specs.ChangedVerdicts.{dropped_by, put_by};
 
 use crate::holds::{hold_facts, release_all};
-use crate::numbered::Numbered;
-use crate::parts::Parts;
+use crate::numbered::NumberedEdit;
+use crate::parts::EngineParts;
 use crate::ready::Ready;
 use cpe_rows::{Changed, EditFault, List, Memory, Room, Statement, Text, Truth};
-use cpe_weight::with_statement;
 use name_index::{NameId, Steps};
+use row_weight::with_statement;
 use std::alloc::Global;
 use std::sync::ledger::Ledger;
 use verdicts::{Addition, Removal, Verdicts};
 
-impl Parts {
+impl EngineParts {
     /// A new statement with the numbers of its facts. The table then holds the names of these facts.
     ///
     /// # Errors
@@ -37,8 +37,8 @@ impl Parts {
         &mut self,
         alloc: Global,
         statement: Statement,
-    ) -> Result<Numbered, EditFault>
-        requires kept { AreKept self.old }
+    ) -> Result<NumberedEdit, EditFault>
+        requires kept { AreLawfulParts self.old }
         requires valid { is_valid_edit (edit.PutStatement statement) ≡ true }
         ensures rows { rows_in self.new ≡ rows_in self.old }
         ensures verdicts { self.new.verdicts ≡ self.old.verdicts }
@@ -59,8 +59,12 @@ impl Parts {
     }
 
     // A new statement without a fault, with the numbers of its facts. The table then holds the names of these facts.
-    fn hold_statement(&mut self, alloc: Global, statement: Statement) -> Result<Numbered, Memory>
-        requires kept { AreKept self.old }
+    fn hold_statement(
+        &mut self,
+        alloc: Global,
+        statement: Statement,
+    ) -> Result<NumberedEdit, Memory>
+        requires kept { AreLawfulParts self.old }
         requires valid { is_valid_edit (edit.PutStatement statement) ≡ true }
         requires none { first_some (causes (rows_in self.old) (edit.PutStatement statement)) ≡ None }
         ensures rows { rows_in self.new ≡ rows_in self.old }
@@ -74,7 +78,7 @@ impl Parts {
         fact_laws::law::lawful_rows_ask_few();
         let mut ids = Vec::new(alloc);
         match hold_facts(&mut self.registry, &statement.test, &mut ids) {
-            Ok(()) => Ok(Numbered::PutStatement { statement, ids }),
+            Ok(()) => Ok(NumberedEdit::PutStatement { statement, ids }),
             Err(memory) => {
                 drop(statement);
                 release_all(&mut self.registry, &ids);
@@ -109,13 +113,13 @@ impl Parts {
 /// # Errors
 /// Only that memory ran out. The names are then released.
 pub(crate) fn ready_statement(
-    parts: &mut Parts,
+    parts: &mut EngineParts,
     alloc: Global,
     statement: Statement,
     ids: Vec<NameId>,
 ) -> Result<Ready, Memory>
-    requires { MayBeReady parts.old (Numbered.PutStatement statement ids) }
-    ensures { MadeReady parts.old parts.new (Numbered.PutStatement statement ids) result }
+    requires { MayBeReady parts.old (NumberedEdit.PutStatement statement ids) }
+    ensures { MadeReady parts.old parts.new (NumberedEdit.PutStatement statement ids) result }
 {
     match parts
         .verdicts
@@ -133,9 +137,9 @@ pub(crate) fn ready_statement(
 ///
 /// # Errors
 /// Only that memory ran out.
-pub(crate) fn ready_removal(parts: &Parts, alloc: Global, id: Text) -> Result<Ready, Memory>
-    requires { MayBeReady parts.now (Numbered.DropStatement id) }
-    ensures { MadeReady parts.now parts.now (Numbered.DropStatement id) result }
+pub(crate) fn ready_removal(parts: &EngineParts, alloc: Global, id: Text) -> Result<Ready, Memory>
+    requires { MayBeReady parts.now (NumberedEdit.DropStatement id) }
+    ensures { MadeReady parts.now parts.now (NumberedEdit.DropStatement id) result }
 {
     match parts.verdicts.ready_removal(alloc, &id) {
         Ok(removal) => Ok(Ready::DropStatement { id, removal }),
@@ -150,7 +154,7 @@ pub(crate) fn ready_removal(parts: &Parts, alloc: Global, id: Text) -> Result<Re
 
 /// Adds a statement, and returns the changed verdict. Only the new statement's verdict changes: before, it had none.
 pub(crate) fn make_statement<L: Ledger>(
-    parts: &mut Parts,
+    parts: &mut EngineParts,
     addition: Addition,
     ids: Vec<NameId>,
     room: Room<Changed>,
@@ -162,7 +166,7 @@ pub(crate) fn make_statement<L: Ledger>(
     ensures steps { StepsWithin steps.old steps.new (made_looks (rows_in parts.old) (edit_ready parts.old.registry.table (Ready.PutStatement addition ids))) }
 {
     fact_laws::law::statements_ask();
-    cpe_rows::law::statements_stand_alone();
+    cpe_rows::law::statements_are_independent();
     fact_laws::law::lists_are_shown();
     let place = parts.verdicts.len();
     let table = parts.registry.table();
@@ -174,7 +178,7 @@ pub(crate) fn make_statement<L: Ledger>(
 /// Removes the statement of an id, and returns the changed verdict. The names of its facts are released. Only its own verdict
 /// changes: after that, it has none.
 pub(crate) fn make_removal<L: Ledger>(
-    parts: &mut Parts,
+    parts: &mut EngineParts,
     id: Text,
     removal: Removal,
     room: Room<Changed>,
@@ -185,7 +189,7 @@ pub(crate) fn make_removal<L: Ledger>(
     ensures changes { result ≡ changes (rows_in parts.old) (edit_ready parts.old.registry.table (Ready.DropStatement id removal)) }
     ensures steps { StepsWithin steps.old steps.new (made_looks (rows_in parts.old) (edit_ready parts.old.registry.table (Ready.DropStatement id removal))) }
 {
-    cpe_rows::law::statements_stand_alone();
+    cpe_rows::law::statements_are_independent();
     let place = parts.verdicts.place_of(&id);
     let truth = parts.verdicts.verdict(&id);
     take_statement(parts, &id, removal, steps);
@@ -193,7 +197,12 @@ pub(crate) fn make_removal<L: Ledger>(
 }
 
 // Removes the statement, and releases the names of its facts. The caller makes the changed verdict.
-fn take_statement<L: Ledger>(parts: &mut Parts, id: &Text, removal: Removal, steps: &mut Steps<L>)
+fn take_statement<L: Ledger>(
+    parts: &mut EngineParts,
+    id: &Text,
+    removal: Removal,
+    steps: &mut Steps<L>,
+)
     requires lawful { IsLawful (rows_in parts.old) }
     requires are { AreOf parts.old.registry parts.old.verdicts (rows_in parts.old) [] }
     requires has { list_any (has_id id.now) (rows_in parts.old).statements ≡ true }

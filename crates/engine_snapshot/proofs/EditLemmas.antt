@@ -3,7 +3,7 @@ use Rattle.std.proofs.Common.{◌≡◌, true, List, ◌∷◌, Option, Some, No
 use Rattle.std.specs.Prelude.{IfErr, IsErrAnd, Result, Ok, Err}
 use Rattle.std.proofs.lemmas.Result.{err_from_is_err_and}
 use Rattle.cpe_rows.specs.After.{after}
-use Rattle.cpe_rows.specs.Applied.{Refuses}
+use Rattle.cpe_rows.specs.Applied.{RefusesEdit}
 use Rattle.cpe_rows.specs.Faults.{faults}
 use Rattle.cpe_rows.specs.Rows.{Rows}
 use Rattle.cpe_rows.specs.Step.{first_some, step, unless}
@@ -12,7 +12,7 @@ use Rattle.cpe_rows.specs.declared.edit.Edit.{Edit}
 use Rattle.cpe_rows.specs.declared.fault.EditFault.{EditFault}
 use Rattle.cpe_rows.specs.declared.fault.EditFault.TheVariants as fault
 use Rattle.cpe_engine.specs.declared.adopting.AdoptFault.TheVariants.{Unlawful, Memory}
-use Rattle.engine_snapshot.specs.Begun.{adopt_fault, IsTaken}
+use Rattle.engine_snapshot.specs.Begun.{adopt_fault, IsLawfulEdit}
 
 unrefused : (o : Option EditFault) (left next : Rows) → unless o left ≡ Ok next → next ≡ left
 unrefused (Some f) left next e = absurd cc
@@ -22,7 +22,7 @@ pub applied_is : (rows next : Rows) (e : Edit) → step rows e ≡ Ok next → n
 applied_is rows next e stepped = unrefused (first_some (faults rows e)) (after rows e) next stepped
 
 -- an edit that is made is valid and has no fault
-pub applied_taken : (rows next : Rows) (e : Edit) → is_valid_edit e ≡ true → step rows e ≡ Ok next → IsTaken rows e
+pub applied_taken : (rows next : Rows) (e : Edit) → is_valid_edit e ≡ true → step rows e ≡ Ok next → IsLawfulEdit rows e
 applied_taken rows next e valid stepped = record { valid = valid; taken = stepped ∙ ap Ok (applied_is rows next e stepped) }
 
 both_ways : (f : EditFault) (rows next : Rows) → ◌≡◌ {A = Result Rows EditFault} (Err f) (Ok next) → ⊥
@@ -32,7 +32,7 @@ memory_is_none : Memory ≡ Unlawful → ⊥
 memory_is_none e = cc
 
 -- an edit with a fault isn't taken
-pub refused_is : (f : EditFault) (rows : Rows) (e : Edit) → Refuses f (step rows e) → adopt_fault f ≡ Unlawful → IsTaken rows e → ⊥
+pub refused_is : (f : EditFault) (rows : Rows) (e : Edit) → RefusesEdit f (step rows e) → adopt_fault f ≡ Unlawful → IsLawfulEdit rows e → ⊥
 refused_is fault.NotIdentifier rows e refused is taken = both_ways fault.NotIdentifier rows (after rows e) (sym refused ∙ taken.taken)
 refused_is fault.Wildcards rows e refused is taken = both_ways fault.Wildcards rows (after rows e) (sym refused ∙ taken.taken)
 refused_is fault.Exists rows e refused is taken = both_ways fault.Exists rows (after rows e) (sym refused ∙ taken.taken)

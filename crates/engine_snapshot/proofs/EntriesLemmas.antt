@@ -7,10 +7,10 @@ use Rattle.cpe_rows.specs.Rows.{no_rows, Rows}
 use Rattle.cpe_rows.specs.declared.entry.Deprecation.{Deprecation}
 use Rattle.cpe_rows.specs.declared.entry.Entry.{Entry}
 use Rattle.cpe_engine.specs.Adopting.{each_deprecated, IsBare, with_deprecations}
-use Rattle.cpe_snapshot.specs.States.{AreMeantEntries}
-use Rattle.cpe_snapshot.specs.declared.rows.PlacedDeprecation.{PlacedDeprecation}
-use Rattle.cpe_snapshot.specs.declared.rows.PlacedEntry.{PlacedEntry}
-use Rattle.cpe_snapshot.proofs.Readers.{some_is}
+use Rattle.snapshot_bytes.specs.States.{AreMeantEntries}
+use Rattle.snapshot_bytes.specs.declared.rows.PlacedDeprecation.{PlacedDeprecation}
+use Rattle.snapshot_bytes.specs.declared.rows.PlacedEntry.{PlacedEntry}
+use Rattle.snapshot_bytes.proofs.Readers.{some_is}
 use Rattle.engine_snapshot.specs.Begun.{AreFine}
 use Rattle.engine_snapshot.specs.Meant.{active_placed, AreGiven, AreMeantDeprecations, undeprecated}
 use Rattle.engine_snapshot.specs.Begun.{entries_alone}

@@ -8,22 +8,22 @@ use Rattle.cpe_rows.specs.cpe_name.Eleven.{Values}
 use Rattle.cpe_rows.specs.declared.entry.Deprecation.{Deprecation}
 use Rattle.cpe_rows.specs.declared.entry.Entry.{Entry}
 use Rattle.cpe_engine.specs.Adopting.{each_deprecated}
-use Rattle.cpe_snapshot.specs.States.{AreMeantEntries, AreNamed, IsMeantDeprecation}
-use Rattle.cpe_snapshot.specs.declared.rows.PlacedDeprecation.{PlacedDeprecation}
-use Rattle.cpe_snapshot.specs.declared.rows.PlacedEntry.{PlacedEntry}
-use Rattle.cpe_snapshot.proofs.StateLemmas.{deprecation_once, name_at}
-use Rattle.engine_snapshot.specs.Meant.{active_placed, AreMeantDeprecations, name_in, undeprecated}
+use Rattle.snapshot_bytes.specs.States.{AreMeantEntries, AreNamed, IsMeantDeprecation}
+use Rattle.snapshot_bytes.specs.declared.rows.PlacedDeprecation.{PlacedDeprecation}
+use Rattle.snapshot_bytes.specs.declared.rows.PlacedEntry.{PlacedEntry}
+use Rattle.snapshot_bytes.proofs.StateLemmas.{deprecation_once, name_at}
+use Rattle.engine_snapshot.specs.Meant.{active_placed, AreMeantDeprecations, entry_name_in, undeprecated}
 use Rattle.engine_snapshot.proofs.RowLemmas.{AreActive}
 
 -- ---- names
 
-pub name_there : (es : List Entry) (k : ℕ) → name_at (map undeprecated es) k ≡ name_in es k
+pub name_there : (es : List Entry) (k : ℕ) → name_at (map undeprecated es) k ≡ entry_name_in es k
 name_there [] zero = refl
 name_there [] (suc k) = refl
 name_there (e ∷ es) zero = refl
 name_there (e ∷ es) (suc k) = name_there es k
 
-placed_name : (ps : List PlacedEntry) (k : ℕ) → name_in (map active_placed ps) k ≡ name_at ps k
+placed_name : (ps : List PlacedEntry) (k : ℕ) → entry_name_in (map active_placed ps) k ≡ name_at ps k
 placed_name [] zero = refl
 placed_name [] (suc k) = refl
 placed_name (p ∷ ps) zero = refl

@@ -2,10 +2,10 @@
 use Rattle.std.proofs.Common.{◌≡◌, ℕ, List, [], Option, Some, map, sym, ap, subst, ◌∙◌}
 use Rattle.cpe_rows.specs.Lawful.{IsLawful}
 use Rattle.cpe_rows.specs.Rows.{Rows}
-use Rattle.cpe_snapshot.specs.Reading.{many, name_at, result_at, statement_at}
-use Rattle.cpe_snapshot.specs.States.{pair_of}
-use Rattle.cpe_snapshot.specs.declared.load.Head.{Head}
-use Rattle.cpe_snapshot.proofs.Readers.{some_is}
+use Rattle.snapshot_bytes.specs.Reading.{many, name_at, result_at, statement_at}
+use Rattle.snapshot_bytes.specs.States.{pair_of_result}
+use Rattle.snapshot_bytes.specs.declared.load.Head.{Head}
+use Rattle.snapshot_bytes.proofs.Readers.{some_is}
 use Rattle.engine_snapshot.specs.Begun.{with_items, with_statements}
 use Rattle.engine_snapshot.specs.Read.{ArePut, Others, with_others, with_results}
 use Rattle.engine_snapshot.proofs.Taken.{lawful_before_checks, lawful_before_statements}
@@ -32,7 +32,7 @@ module _ {A : Type 0} (put : Rows → List A → Rows) (read : Option (List A ×
 
 module _ (head : Head) (bytes : List ℕ) (old : Rows) (others : Others head bytes) (lawful : IsLawful (with_others old others)) where
   pub lawful_statements : IsLawful (with_statements (with_items old others.items) others.statements)
-  lawful_statements = lawful_before_checks (with_statements (with_items old others.items) others.statements) (map pair_of others.results) lawful
+  lawful_statements = lawful_before_checks (with_statements (with_items old others.items) others.statements) (map pair_of_result others.results) lawful
 
   pub lawful_items : IsLawful (with_items old others.items)
   lawful_items = lawful_before_statements (with_items old others.items) others.statements lawful_statements

@@ -13,7 +13,7 @@ use Rattle.cpe_rows.specs.Formed.{IsFormedEntry, IsFormedStatement}
 use Rattle.cpe_rows.specs.Lawful.{are_different, IsDictionary, IsLawful, is_lawful_statement}
 use Rattle.cpe_rows.specs.Names.{is_lower, is_same}
 use Rattle.cpe_rows.specs.Rows.{Rows, has_id, has_key}
-use Rattle.cpe_rows.specs.Weight.{total, entry_weight, name_weight, statement_weight, check_weight}
+use Rattle.cpe_rows.specs.Weight.{total_weight, entry_weight, name_weight, statement_weight, check_weight}
 use Rattle.cpe_rows.specs.declared.entry.Entry.{Entry}
 use Rattle.cpe_rows.specs.declared.fault.Which.TheVariants as limit
 use Rattle.cpe_rows.proofs.Limited.{AreFewer, still_within}
@@ -57,7 +57,7 @@ module _ {A : Type 0} where
   every_prefix P [] ys h = All-nil P
   every_prefix P (x ∷ xs) ys h = All-cons P x xs (All-head P x (xs ++ ys) h) (every_prefix P xs ys (All-tail P x (xs ++ ys) h))
 
-  pub total_prefix : (w : A → ℕ) (xs ys : List A) → total (map w xs) ≤ total (map w (xs ++ ys))
+  pub total_prefix : (w : A → ℕ) (xs ys : List A) → total_weight (map w xs) ≤ total_weight (map w (xs ++ ys))
   total_prefix w [] ys = omega arith
   total_prefix w (x ∷ xs) ys = omega (arith, total_prefix w xs ys)
 
@@ -84,8 +84,8 @@ pub record IsPart (part whole : Rows) : Type 0 where
   pub checks : IsFront part.checks whole.checks
 
 module _ {A : Type 0} (xs whole : List A) (f : IsFront xs whole) where
-  prefix_total : (w : A → ℕ) → total (map w xs) ≤ total (map w whole)
-  prefix_total w = subst (λ l. total (map w xs) ≤ total (map w l)) (sym f.1) (total_prefix w xs f.0)
+  prefix_total : (w : A → ℕ) → total_weight (map w xs) ≤ total_weight (map w whole)
+  prefix_total w = subst (λ l. total_weight (map w xs) ≤ total_weight (map w l)) (sym f.1) (total_prefix w xs f.0)
 
   prefix_length : length xs ≤ length whole
   prefix_length = subst (λ (l : List A). length xs ≤ length l) (sym f.1) (length_prefix xs f.0)

@@ -3,10 +3,10 @@ use Rattle.std.proofs.Common.{◌≡◌, ℕ, List, Option, Some, true, ap, subs
 use Rattle.cpe_rows.specs.cpe_name.Eleven.{Values}
 use Rattle.cpe_rows.specs.cpe_fs.Unbound.{read_fs}
 use Rattle.cpe_rows.specs.Names.{is_lower}
-use Rattle.cpe_snapshot.specs.Reading.{◌>>=◌, both, counted_at, details_at, entry_at, entry_from, name_at, name_of, named_by, when}
-use Rattle.cpe_snapshot.specs.declared.rows.PlacedEntry.{PlacedEntry}
-use Rattle.cpe_snapshot.proofs.PartReaders.{when_some}
-use Rattle.cpe_snapshot.proofs.Readers.{bind_some, some_is}
+use Rattle.snapshot_bytes.specs.Reading.{◌>>=◌, read_both, counted_at, details_at, entry_at, placed_entry_from, name_at, name_of, named_by, read_when}
+use Rattle.snapshot_bytes.specs.declared.rows.PlacedEntry.{PlacedEntry}
+use Rattle.snapshot_bytes.proofs.PartReaders.{when_some}
+use Rattle.snapshot_bytes.proofs.Readers.{bind_some, some_is}
 
 -- ---- parts one after another
 
@@ -15,7 +15,7 @@ pub record InBoth {A B : Type 0} (first : List ℕ → Option (A × List ℕ)) (
   pub first_is : first bytes ≡ Some (z.0.0, left)
   pub second_is : second left ≡ Some (z.0.1, z.1)
 
-pub in_both : {A B : Type 0} (first : List ℕ → Option (A × List ℕ)) (second : List ℕ → Option (B × List ℕ)) (bytes : List ℕ) (z : (A × B) × List ℕ) → both first second bytes ≡ Some z
+pub in_both : {A B : Type 0} (first : List ℕ → Option (A × List ℕ)) (second : List ℕ → Option (B × List ℕ)) (bytes : List ℕ) (z : (A × B) × List ℕ) → read_both first second bytes ≡ Some z
     → InBoth first second bytes z
 in_both {A} {B} first second bytes z e =
     let a = bind_some (first bytes) (λ x. second x.1 >>= λ y. Some ((x.0, y.0), y.1)) z e in
@@ -35,7 +35,7 @@ unfolding name_at name_of
 name_lower bytes n rest e =
     let a = bind_some (counted_at bytes) (λ x. name_of x.0 >>= λ y. Some (y, x.1)) (n, rest) e in
     let b = bind_some (name_of a.0.0) (λ y. Some (y, a.0.1)) (n, rest) a.2 in
-    let c = bind_some (named_by (read_fs a.0.0)) (λ m. when is_lower m) b.0 b.1 in
+    let c = bind_some (named_by (read_fs a.0.0)) (λ m. read_when is_lower m) b.0 b.1 in
     let w = when_some is_lower c.0 b.0 c.2 in
     let read : Values × List ℕ = (b.0, a.0.1) in
     subst (λ (q : Values × List ℕ). is_lower q.0 ≡ true) (some_is read (n, rest) b.2) w.1
@@ -43,7 +43,7 @@ name_lower bytes n rest e =
 pub entry_lower : (bytes : List ℕ) (p : PlacedEntry) (rest : List ℕ) → entry_at bytes ≡ Some (p, rest) → is_lower p.name ≡ true
 unfolding entry_at
 entry_lower bytes p rest e =
-    let a = bind_some (both name_at details_at bytes) (λ x. Some (entry_from x.0, x.1)) (p, rest) e in
+    let a = bind_some (read_both name_at details_at bytes) (λ x. Some (placed_entry_from x.0, x.1)) (p, rest) e in
     let m = in_both name_at details_at bytes a.0 a.1 in
-    let read : PlacedEntry × List ℕ = (entry_from a.0.0, a.0.1) in
+    let read : PlacedEntry × List ℕ = (placed_entry_from a.0.0, a.0.1) in
     subst (λ (q : PlacedEntry × List ℕ). is_lower q.0.name ≡ true) (some_is read (p, rest) a.2) (name_lower bytes a.0.0.0 m.left m.first_is)

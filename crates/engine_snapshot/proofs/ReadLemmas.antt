@@ -7,14 +7,14 @@ use Rattle.cpe_rows.specs.declared.entry.Entry.{Entry}
 use Rattle.cpe_rows.specs.declared.statement.Statement.{Statement}
 use Rattle.cpe_rows.specs.declared.test.CheckKey.{CheckKey}
 use Rattle.cpe_rows.specs.declared.truth.Truth.{Truth}
-use Rattle.cpe_snapshot.specs.Reading.{many, Took}
-use Rattle.cpe_snapshot.specs.States.{pair_of}
-use Rattle.cpe_snapshot.specs.declared.fault.LoadFault.{LoadFault}
-use Rattle.cpe_snapshot.specs.declared.fault.LoadFault.TheVariants.{NotSnapshot}
-use Rattle.cpe_snapshot.specs.declared.rows.KeptResult.{KeptResult}
-use Rattle.cpe_snapshot.specs.declared.rows.PlacedDeprecation.{PlacedDeprecation}
-use Rattle.cpe_snapshot.specs.declared.rows.PlacedEntry.{PlacedEntry}
-use Rattle.cpe_snapshot.proofs.Loop.{ends, goes_on, is_done, with_prefix}
+use Rattle.snapshot_bytes.specs.Reading.{many, Took}
+use Rattle.snapshot_bytes.specs.States.{pair_of_result}
+use Rattle.snapshot_bytes.specs.declared.fault.LoadFault.{LoadFault}
+use Rattle.snapshot_bytes.specs.declared.fault.LoadFault.TheVariants.{NotSnapshot}
+use Rattle.snapshot_bytes.specs.declared.rows.KeptResult.{KeptResult}
+use Rattle.snapshot_bytes.specs.declared.rows.PlacedDeprecation.{PlacedDeprecation}
+use Rattle.snapshot_bytes.specs.declared.rows.PlacedEntry.{PlacedEntry}
+use Rattle.snapshot_bytes.proofs.Loop.{ends, is_continued, is_done, with_prefix}
 use Rattle.engine_snapshot.specs.Begun.{with_items, with_statements}
 use Rattle.engine_snapshot.specs.Meant.{active_placed}
 use Rattle.engine_snapshot.specs.Read.{ArePut, NonePut, NotAfter, with_placed, with_results}
@@ -39,7 +39,7 @@ no_results rows = ap (λ (cs : List (CheckKey × Truth)). record rows { checks =
 pub more_results : (rows : Rows) (xs ys : List KeptResult) → with_results (with_results rows xs) ys ≡ with_results rows (xs ++ ys)
 more_results rows xs ys =
     ap (λ (cs : List (CheckKey × Truth)). record rows { checks = cs })
-    (append_assoc rows.checks (map pair_of xs) (map pair_of ys) ∙ ap (λ (cs : List (CheckKey × Truth)). rows.checks ++ cs) (sym (map-append pair_of xs ys)))
+    (append_assoc rows.checks (map pair_of_result xs) (map pair_of_result ys) ∙ ap (λ (cs : List (CheckKey × Truth)). rows.checks ++ cs) (sym (map-append pair_of_result xs ys)))
 
 pub no_placed : (rows : Rows) → with_placed rows [] ≡ rows
 no_placed rows = ap (λ (es : List Entry). record rows { entries = es }) (append-nil rows.entries)
@@ -83,7 +83,7 @@ module _ {A : Type 0} (read : List ℕ → Option (A × List ℕ)) {put : Rows �
   abbrev pub steps : {next : Rows} {x : A} {after : List ℕ} → i < count → read bytes ≡ Some (x, after) → next ≡ put now (x ∷ []) → ArePutSoFar put total (many read (count - (i + 1)) after) old next
   steps {x = x} {after = after} below is put_is = record {
     rows = so_far.rows ++ x ∷ [];
-    so_far = goes_on read so_far.rows count i bytes x after total below is so_far.so_far;
+    so_far = is_continued read so_far.rows count i bytes x after total below is so_far.so_far;
     are_put = put_is ∙ ap (λ r. put r (x ∷ [])) so_far.are_put ∙ more_of old so_far.rows (x ∷ []);
   }
 
@@ -98,7 +98,7 @@ module _ {A : Type 0} (read : List ℕ → Option (A × List ℕ)) {put : Rows �
   pub unput : (Fits : Rows → Type 0) {f : LoadFault} {x : A} {after : List ℕ} → i < count → read bytes ≡ Some (x, after) → NotAfter put Fits now x f → NonePut put Fits total old f
   unput Fits {x = x} {after = after} below here not_after is xs end found fit =
       let prefix : List A = so_far.rows ++ x ∷ [] in
-      let next = goes_on read so_far.rows count i bytes x after total below here so_far.so_far in
+      let next = is_continued read so_far.rows count i bytes x after total below here so_far.so_far in
       let b = behind prefix (many read (count - (i + 1)) after) xs end (next ∙ found) in
       let all : put old xs ≡ put now (x ∷ b.0) =
       ap (put old) (b.1 ∙ append_assoc so_far.rows (x ∷ []) b.0) ∙ sym (more_of old so_far.rows (x ∷ b.0)) ∙ ap (λ r. put r (x ∷ b.0)) (sym so_far.are_put) in

@@ -5,7 +5,7 @@ use Rattle.std.specs.Option.{option_map_or}
 use Rattle.cpe_rows.specs.cpe_name.Eleven.{Values}
 use Rattle.cpe_rows.specs.Lawful.{are_different, IsLawful, is_entry_name}
 use Rattle.cpe_rows.specs.Names.{is_same}
-use Rattle.cpe_rows.specs.Weight.{total, deprecation_weight, entry_weight}
+use Rattle.cpe_rows.specs.Weight.{total_weight, deprecation_weight, entry_weight}
 use Rattle.cpe_rows.specs.declared.entry.Deprecation.{Deprecation}
 use Rattle.cpe_rows.specs.declared.entry.Entry.{Entry}
 use Rattle.cpe_rows.specs.declared.fault.Which.TheVariants as limit
@@ -43,7 +43,7 @@ each_length (e ∷ es) (d ∷ ds) = omega (arith, each_length es ds)
 lighter : (e : Entry) (d : Option Deprecation) → e.deprecation ≡ None → entry_weight e ≤ entry_weight (record e { deprecation = d })
 lighter e d active = let none : option_map_or deprecation_weight e.deprecation 0 ≡ 0 = ap (λ o. option_map_or deprecation_weight o 0) active in omega (arith, none)
 
-each_weight : (es : List Entry) (ds : List (Option Deprecation)) → AreActive es → total (map entry_weight es) ≤ total (map entry_weight (each_deprecated es ds))
+each_weight : (es : List Entry) (ds : List (Option Deprecation)) → AreActive es → total_weight (map entry_weight es) ≤ total_weight (map entry_weight (each_deprecated es ds))
 each_weight [] ds active = omega arith
 each_weight (e ∷ es) [] active = omega arith
 each_weight (e ∷ es) (d ∷ ds) active = omega (arith, lighter e d active.0, each_weight es ds active.1)

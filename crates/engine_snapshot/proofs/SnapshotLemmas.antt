@@ -6,15 +6,15 @@ use Rattle.cpe_rows.specs.cpe_name.Eleven.{Values}
 use Rattle.cpe_rows.specs.Lawful.{IsLawful}
 use Rattle.cpe_rows.specs.Rows.{Rows}
 use Rattle.cpe_rows.specs.declared.statement.Statement.{Statement}
-use Rattle.cpe_snapshot.specs.Reading.{◌>>=◌, both, entry_at, head_at, many, name_at, result_at, rows_at, rows_from, rows_of, statement_at, whole}
-use Rattle.cpe_snapshot.specs.States.{AreMeant, AreMeantEntries, Snap}
-use Rattle.cpe_snapshot.specs.declared.load.Head.{Head}
-use Rattle.cpe_snapshot.specs.declared.rows.KeptResult.{KeptResult}
-use Rattle.cpe_snapshot.specs.declared.rows.PlacedEntry.{PlacedEntry}
-use Rattle.cpe_snapshot.specs.declared.rows.PlacedRows.{PlacedRows}
-use Rattle.cpe_snapshot.proofs.Readers.{bind_some, IsBytes, some_is}
-use Rattle.cpe_snapshot.proofs.RowsReader.{rows_spelled, spelled_are_read}
-use Rattle.cpe_snapshot.proofs.StateLemmas.{one_state}
+use Rattle.snapshot_bytes.specs.Reading.{◌>>=◌, read_both, entry_at, head_at, many, name_at, result_at, rows_at, rows_from, rows_of, statement_at, read_whole}
+use Rattle.snapshot_bytes.specs.States.{AreMeant, AreMeantEntries, Snap}
+use Rattle.snapshot_bytes.specs.declared.load.Head.{Head}
+use Rattle.snapshot_bytes.specs.declared.rows.KeptResult.{KeptResult}
+use Rattle.snapshot_bytes.specs.declared.rows.PlacedEntry.{PlacedEntry}
+use Rattle.snapshot_bytes.specs.declared.rows.PlacedRows.{PlacedRows}
+use Rattle.snapshot_bytes.proofs.Readers.{bind_some, IsBytes, some_is}
+use Rattle.snapshot_bytes.proofs.RowsReader.{rows_spelled, spelled_are_read}
+use Rattle.snapshot_bytes.proofs.StateLemmas.{one_state}
 use Rattle.engine_snapshot.specs.Begun.{with_items, with_statements}
 use Rattle.engine_snapshot.specs.Begun.{entries_alone}
 use Rattle.engine_snapshot.specs.Read.{AreEntriesLoaded, NoEntries, Others, with_others}
@@ -23,7 +23,7 @@ use Rattle.engine_snapshot.proofs.Taken.{lawful_before_checks, lawful_before_ite
 
 -- ---- the end
 
-whole_some : {A : Type 0} (x : A × List ℕ) (y : A) → whole x ≡ Some y → (x.0 ≡ y) × (x.1 ≡ [])
+whole_some : {A : Type 0} (x : A × List ℕ) (y : A) → read_whole x ≡ Some y → (x.0 ≡ y) × (x.1 ≡ [])
 whole_some x y e = go (eqb (length x.1) 0) refl e where
   go : (b : Bool) → eqb (length x.1) 0 ≡ b → cond b (Some x.0) None ≡ Some y → (x.0 ≡ y) × (x.1 ≡ [])
   go true is e = (some_is x.0 y e, nil_from_length x.1 (eqb-true (length x.1) 0 is))
@@ -31,7 +31,7 @@ whole_some x y e = go (eqb (length x.1) 0) refl e where
 
 -- ---- the head
 
-after_head : (bytes : List ℕ) (head : Head) (left : List ℕ) → head_at bytes ≡ Some (head, left) → rows_of bytes ≡ (rows_at head left >>= λ x. whole x)
+after_head : (bytes : List ℕ) (head : Head) (left : List ℕ) → head_at bytes ≡ Some (head, left) → rows_of bytes ≡ (rows_at head left >>= λ x. read_whole x)
 unfolding rows_of
 after_head bytes head left is = rw is refl
 
@@ -45,7 +45,7 @@ abbrev Rest : Type 0
 Rest = List Values × (List Statement × List KeptResult)
 
 abbrev rest_at : Head → List ℕ → Option (Rest × List ℕ)
-rest_at h bytes = both (many name_at h.items) (both (many statement_at h.statements) (many result_at h.results)) bytes
+rest_at h bytes = read_both (many name_at h.items) (read_both (many statement_at h.statements) (many result_at h.results)) bytes
 
 -- The rows of all parts, to the end of the bytes.
 record InRows (head : Head) (bytes : List ℕ) (p : PlacedRows) : Type 0 where
@@ -56,12 +56,12 @@ record InRows (head : Head) (bytes : List ℕ) (p : PlacedRows) : Type 0 where
   pub rest_is : rest_at head after_entries ≡ Some (rest, [])
   pub rows_are : rows_from (entries, rest) ≡ p
 
-in_rows : (head : Head) (bytes : List ℕ) (p : PlacedRows) → (rows_at head bytes >>= λ x. whole x) ≡ Some p → InRows head bytes p
+in_rows : (head : Head) (bytes : List ℕ) (p : PlacedRows) → (rows_at head bytes >>= λ x. read_whole x) ≡ Some p → InRows head bytes p
 unfolding rows_at
 in_rows head bytes p e =
-    let b = bind_some (rows_at head bytes) (λ x. whole x) p e in
+    let b = bind_some (rows_at head bytes) (λ x. read_whole x) p e in
     let w = whole_some b.0 p b.2 in
-    let c = bind_some (both (many entry_at head.entries) (rest_at head) bytes) (λ x. Some (rows_from x.0, x.1)) b.0 b.1 in
+    let c = bind_some (read_both (many entry_at head.entries) (rest_at head) bytes) (λ x. Some (rows_from x.0, x.1)) b.0 b.1 in
     let rows : PlacedRows × List ℕ = (rows_from c.0.0, c.0.1) in
     let is : rows ≡ b.0 = some_is rows b.0 c.2 in
     let m = in_both (many entry_at head.entries) (rest_at head) bytes c.0 c.1 in
@@ -77,7 +77,7 @@ in_rows head bytes p e =
 in_others : (head : Head) (bytes : List ℕ) (rest : Rest) → rest_at head bytes ≡ Some (rest, [])
     → (others : Others head bytes) × ((others.items, (others.statements, others.results)) ≡ rest)
 in_others head bytes rest e =
-    let m = in_both (many name_at head.items) (both (many statement_at head.statements) (many result_at head.results)) bytes (rest, []) e in
+    let m = in_both (many name_at head.items) (read_both (many statement_at head.statements) (many result_at head.results)) bytes (rest, []) e in
     let n = in_both (many statement_at head.statements) (many result_at head.results) m.left (rest.1, []) m.second_is in (
       record {
         items = rest.0;

@@ -24,7 +24,7 @@ use Rattle.cpe_rows.proofs.KeyTests.{other_bytes, other_key}
 use Rattle.cpe_rows.proofs.Limited.{each_within, still_within}
 use Rattle.cpe_rows.proofs.NameTests.{not_same}
 use Rattle.cpe_rows.proofs.Refused.{light_accepted}
-use Rattle.engine_snapshot.specs.Begun.{AreFine, IsTaken, with_checks, with_entries, with_items, with_statements}
+use Rattle.engine_snapshot.specs.Begun.{AreFine, IsLawfulEdit, with_checks, rows_with_entries, with_items, with_statements}
 use Rattle.engine_snapshot.proofs.PartLemmas.{all_middle, all_of_it, apart_before, fewer, lawful_part}
 
 -- rows within their limits aren't too heavy
@@ -40,9 +40,9 @@ regroup xs x ys = sym (append_assoc xs (x ∷ []) ys)
 
 -- ---- entries
 
-module _ (rows : Rows) (e : Entry) (more : List Entry) (active : e.deprecation ≡ None) (fine : AreFine (with_entries rows (e ∷ more))) where
+module _ (rows : Rows) (e : Entry) (more : List Entry) (active : e.deprecation ≡ None) (fine : AreFine (rows_with_entries rows (e ∷ more))) where
   abbrev all_entries : Rows
-  all_entries = with_entries rows (e ∷ more)
+  all_entries = rows_with_entries rows (e ∷ more)
 
   abbrev next_entries : Rows
   next_entries = after rows (edit.Entry e)
@@ -73,7 +73,7 @@ module _ (rows : Rows) (e : Entry) (more : List Entry) (active : e.deprecation �
       let few = no_more (most limit.Entries) rows.entries e (each_within next_entries within_after limit.Entries) in
       λ i. first_some (when (not (identifier i)) fault.NotIdentifier ∷ when (plain i) fault.Wildcards ∷ when (new i) fault.Exists ∷ when (few i) (fault.Full limit.Entries) ∷ [])
 
-  pub entry_taken : IsTaken rows (edit.Entry e)
+  pub entry_taken : IsLawfulEdit rows (edit.Entry e)
   entry_taken = record {
     valid = and_from (is_lower e.name) (is_none e.deprecation) sure.0 (ap is_none active);
     taken = light_accepted rows (edit.Entry e) within_before no_cause (light next_entries within_after);
@@ -99,7 +99,7 @@ module _ (rows : Rows) (n : Values) (more : List Values) (h : IsLawful (with_ite
   lawful_items : IsLawful (after rows (edit.Item n))
   lawful_items = lawful_before_items (after rows (edit.Item n)) more (subst IsLawful (ap (λ (ns : List Values). record rows { items = ns }) (regroup rows.items n more)) h)
 
-  pub item_taken : IsTaken rows (edit.Item n)
+  pub item_taken : IsLawfulEdit rows (edit.Item n)
   item_taken =
       let new = apart_before is_same not_same rows.items n more h.items_differ in
       let few = no_more (most limit.Items) rows.items n (each_within (after rows (edit.Item n)) lawful_items.within limit.Items) in
@@ -117,7 +117,7 @@ module _ (rows : Rows) (s : Statement) (more : List Statement) (h : IsLawful (wi
   lawful_statements : IsLawful (after rows (edit.PutStatement s))
   lawful_statements = lawful_before_statements (after rows (edit.PutStatement s)) more (subst IsLawful (ap (λ (ss : List Statement). record rows { statements = ss }) (regroup rows.statements s more)) h)
 
-  pub statement_taken : IsTaken rows (edit.PutStatement s)
+  pub statement_taken : IsLawfulEdit rows (edit.PutStatement s)
   statement_taken =
       let new = apart_before (λ (x : Statement). has_id x.id) (λ a b. other_bytes b.id a.id) rows.statements s more h.ids_differ in
       let few = no_more (most limit.Statements) rows.statements s (each_within (after rows (edit.PutStatement s)) lawful_statements.within limit.Statements) in
@@ -133,14 +133,14 @@ module _ (rows : Rows) (s : Statement) (more : List Statement) (h : IsLawful (wi
 -- ---- results
 
 -- the result of a new key is added at the end
-pub goes_last : (k : CheckKey) (t : Truth) (cs : List (CheckKey × Truth)) → list_any (has_key k) cs ≡ false → with_check k t cs ≡ cs ++ (k, t) ∷ []
-goes_last k t [] new = refl
-goes_last k t (c ∷ cs) new =
+pub removed_last : (k : CheckKey) (t : Truth) (cs : List (CheckKey × Truth)) → list_any (has_key k) cs ≡ false → with_check k t cs ≡ cs ++ (k, t) ∷ []
+removed_last k t [] new = refl
+removed_last k t (c ∷ cs) new =
     let each = or_parts (has_key k c) (list_any (has_key k) cs) new in
-    (λ i. cond (each.0 i) ((c.0, t) ∷ cs) (c ∷ with_check k t cs)) ∙ ap (λ (l : List (CheckKey × Truth)). c ∷ l) (goes_last k t cs each.1)
+    (λ i. cond (each.0 i) ((c.0, t) ∷ cs) (c ∷ with_check k t cs)) ∙ ap (λ (l : List (CheckKey × Truth)). c ∷ l) (removed_last k t cs each.1)
 
 pub check_put : (rows : Rows) (k : CheckKey) (t : Truth) → list_any (has_key k) rows.checks ≡ false → after rows (edit.SetCheck k t) ≡ with_checks rows ((k, t) ∷ [])
-check_put rows k t new = ap (λ (cs : List (CheckKey × Truth)). record rows { checks = cs }) (goes_last k t rows.checks new)
+check_put rows k t new = ap (λ (cs : List (CheckKey × Truth)). record rows { checks = cs }) (removed_last k t rows.checks new)
 
 pub checks_on : (rows : Rows) (c : CheckKey × Truth) (more : List (CheckKey × Truth)) → with_checks rows (c ∷ more) ≡ with_checks (with_checks rows (c ∷ [])) more
 checks_on rows c more = ap (λ (cs : List (CheckKey × Truth)). record rows { checks = cs }) (regroup rows.checks c more)
@@ -155,7 +155,7 @@ module _ (rows : Rows) (k : CheckKey) (t : Truth) (more : List (CheckKey × Trut
   lawful_set : IsLawful (after rows (edit.SetCheck k t))
   lawful_set = subst IsLawful (sym (check_put rows k t new_key)) lawful_checks
 
-  pub check_taken : IsTaken rows (edit.SetCheck k t)
+  pub check_taken : IsLawfulEdit rows (edit.SetCheck k t)
   check_taken =
       let few = each_within (after rows (edit.SetCheck k t)) lawful_set.within limit.Checks in
       record {

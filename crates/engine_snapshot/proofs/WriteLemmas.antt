@@ -10,9 +10,9 @@ use Rattle.std.proofs.lemmas.Option.{none-some, same_Some}
 use Rattle.std.proofs.lemmas.List.Folds.{flat_map-map}
 use Rattle.std.proofs.lemmas.Iterator.Adapters.{position_from-zero}
 use Rattle.cpe_rows.specs.Rows.{Rows}
-use Rattle.cpe_snapshot.specs.Parts.{name, number}
-use Rattle.cpe_snapshot.specs.Snapshot.{entry_row, head, mark, result_row, statement_row}
-use Rattle.cpe_snapshot.specs.States.{placed_entry, placed_rows, result_of, snapshot}
+use Rattle.snapshot_bytes.specs.Parts.{name, number}
+use Rattle.snapshot_bytes.specs.Snapshot.{entry_row, head, mark, result_row, statement_row}
+use Rattle.snapshot_bytes.specs.States.{placed_entry, placed_rows, result_of, snapshot}
 
 -- ---- rows by their places
 

@@ -20,8 +20,8 @@ use Rattle.cpe_engine.specs.declared.adopting.AdoptFault.TheVariants.{Unlawful, 
 
 -- ---- rows with further rows at the end
 
-abbrev pub with_entries : Rows → List Entry → Rows
-with_entries rows es = record rows { entries = rows.entries ++ es }
+abbrev pub rows_with_entries : Rows → List Entry → Rows
+rows_with_entries rows es = record rows { entries = rows.entries ++ es }
 
 abbrev pub with_items : Rows → List Values → Rows
 with_items rows ns = record rows { items = rows.items ++ ns }
@@ -48,7 +48,7 @@ pub record AreFine (rows : Rows) : Type 0 where
 -- ---- an edit that adds one row
 
 -- The edit is valid and has no fault.
-pub record IsTaken (rows : Rows) (e : Edit) : Type 0 where
+pub record IsLawfulEdit (rows : Rows) (e : Edit) : Type 0 where
   pub valid : is_valid_edit e ≡ true
   pub taken : step rows e ≡ Ok (after rows e)
 

@@ -6,9 +6,9 @@ use Rattle.cpe_rows.specs.Rows.{Rows}
 use Rattle.cpe_rows.specs.declared.entry.Deprecation.{Deprecation}
 use Rattle.cpe_rows.specs.declared.entry.Entry.{Entry}
 use Rattle.cpe_engine.specs.Adopting.{with_deprecations}
-use Rattle.cpe_snapshot.specs.States.{IsMeantDeprecation}
-use Rattle.cpe_snapshot.specs.declared.rows.PlacedDeprecation.{PlacedDeprecation}
-use Rattle.cpe_snapshot.specs.declared.rows.PlacedEntry.{PlacedEntry}
+use Rattle.snapshot_bytes.specs.States.{IsMeantDeprecation}
+use Rattle.snapshot_bytes.specs.declared.rows.PlacedDeprecation.{PlacedDeprecation}
+use Rattle.snapshot_bytes.specs.declared.rows.PlacedEntry.{PlacedEntry}
 
 -- the entry as an active one
 abbrev pub active_placed : PlacedEntry → Entry
@@ -19,8 +19,8 @@ abbrev pub undeprecated : Entry → PlacedEntry
 undeprecated e = record { name = e.name; title = e.title; provenance = e.provenance; deprecation = None }
 
 -- the name of the entry at this place, if there is one
-abbrev pub name_in : List Entry → ℕ → Option Values
-name_in entries k = option_map (λ e. e.name) (slice_get entries k)
+abbrev pub entry_name_in : List Entry → ℕ → Option Values
+entry_name_in entries k = option_map (λ e. e.name) (slice_get entries k)
 
 -- each deprecation with names is meant by the deprecation with places, one by one; a place is a place in the list of all entries
 abbrev pub AreMeantDeprecations : List PlacedEntry → List (Option PlacedDeprecation) → List (Option Deprecation) → Type 0

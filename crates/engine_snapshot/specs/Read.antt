@@ -5,15 +5,15 @@ use Rattle.cpe_rows.specs.Lawful.{IsLawful}
 use Rattle.cpe_rows.specs.Rows.{Rows}
 use Rattle.cpe_rows.specs.declared.entry.Entry.{Entry}
 use Rattle.cpe_rows.specs.declared.statement.Statement.{Statement}
-use Rattle.cpe_snapshot.specs.Reading.{many, name_at, result_at, statement_at}
-use Rattle.cpe_snapshot.specs.States.{AreMeantEntries, pair_of}
-use Rattle.cpe_snapshot.specs.declared.fault.LoadFault.{LoadFault}
-use Rattle.cpe_snapshot.specs.declared.fault.LoadFault.TheVariants.{NotSnapshot}
-use Rattle.cpe_snapshot.specs.declared.load.Head.{Head}
-use Rattle.cpe_snapshot.specs.declared.rows.KeptResult.{KeptResult}
-use Rattle.cpe_snapshot.specs.declared.rows.PlacedDeprecation.{PlacedDeprecation}
-use Rattle.cpe_snapshot.specs.declared.rows.PlacedEntry.{PlacedEntry}
-use Rattle.engine_snapshot.specs.Begun.{with_checks, with_entries, with_items, with_statements}
+use Rattle.snapshot_bytes.specs.Reading.{many, name_at, result_at, statement_at}
+use Rattle.snapshot_bytes.specs.States.{AreMeantEntries, pair_of_result}
+use Rattle.snapshot_bytes.specs.declared.fault.LoadFault.{LoadFault}
+use Rattle.snapshot_bytes.specs.declared.fault.LoadFault.TheVariants.{NotSnapshot}
+use Rattle.snapshot_bytes.specs.declared.load.Head.{Head}
+use Rattle.snapshot_bytes.specs.declared.rows.KeptResult.{KeptResult}
+use Rattle.snapshot_bytes.specs.declared.rows.PlacedDeprecation.{PlacedDeprecation}
+use Rattle.snapshot_bytes.specs.declared.rows.PlacedEntry.{PlacedEntry}
+use Rattle.engine_snapshot.specs.Begun.{with_checks, rows_with_entries, with_items, with_statements}
 use Rattle.engine_snapshot.specs.Meant.{active_placed}
 use Rattle.engine_snapshot.specs.Begun.{entries_alone}
 
@@ -21,10 +21,10 @@ use Rattle.engine_snapshot.specs.Begun.{entries_alone}
 
 -- the rows with these entries at the end, as active ones
 abbrev pub with_placed : Rows → List PlacedEntry → Rows
-with_placed rows ps = with_entries rows (map active_placed ps)
+with_placed rows ps = rows_with_entries rows (map active_placed ps)
 
 abbrev pub with_results : Rows → List KeptResult → Rows
-with_results rows ks = with_checks rows (map pair_of ks)
+with_results rows ks = with_checks rows (map pair_of_result ks)
 
 -- ---- one row
 

@@ -2,7 +2,7 @@
 ghost use Rattle.std.specs.Prelude.{◌≡◌, IfOk};
 
 use cpe_rows::Memory;
-use cpe_snapshot::PlacedDeprecation;
+use snapshot_bytes::PlacedDeprecation;
 use std::alloc::Global;
 use std::marker::Model;
 
@@ -15,7 +15,7 @@ pub(crate) struct BoxedDeprecation {
 }
 
 impl Model for BoxedDeprecation {
-    ghost use Rattle.cpe_snapshot.specs.declared.rows.PlacedDeprecation.{PlacedDeprecation as PlacedRow};
+    ghost use Rattle.snapshot_bytes.specs.declared.rows.PlacedDeprecation.{PlacedDeprecation as PlacedRow};
 
     ghost Value = { PlacedRow };
 

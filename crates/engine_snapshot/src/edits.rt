@@ -3,12 +3,12 @@ ghost use Rattle.std.specs.Prelude.{◌≡◌, ◌∷◌, [], IfErr, List as Ite
 ghost use Rattle.cpe_rows.specs.Prelude.{after, is_valid_edit, IsLawful};
 ghost use Rattle.cpe_rows.specs.declared.test.CheckKey.{CheckKey as KeyRow};
 ghost use Rattle.cpe_rows.specs.declared.truth.Truth.{Truth as TruthRow};
-ghost use Rattle.cpe_snapshot.specs.States.{pair_of};
-ghost use Rattle.engine_snapshot.specs.Begun.{adopt_fault, IsTaken, with_checks};
+ghost use Rattle.snapshot_bytes.specs.States.{pair_of_result};
+ghost use Rattle.engine_snapshot.specs.Begun.{adopt_fault, IsLawfulEdit, with_checks};
 
 use cpe_engine::{AdoptFault, Engine, Steps};
 use cpe_rows::{Edit, EditFault};
-use cpe_snapshot::KeptResult;
+use snapshot_bytes::KeptResult;
 use std::sync::ledger::Ledger;
 
 // Drops an edit that isn't valid, or a key for which a result is kept already, and returns that the rows aren't lawful.
@@ -41,10 +41,10 @@ pub(crate) fn make_valid<L: Ledger>(
     steps: &mut Steps<L>,
 ) -> Result<(), AdoptFault>
     requires { is_valid_edit edit ≡ true }
-    ensures taken { OnOk result (IsTaken engine.old edit) }
+    ensures taken { OnOk result (IsLawfulEdit engine.old edit) }
     ensures ok { OnOk result (engine.new ≡ after engine.old edit) }
     ensures err { OnErr result (engine.new ≡ engine.old) }
-    ensures unlawful { IfErr result (λ f. f ≡ AdoptFault.Unlawful → IsTaken engine.old edit → ⊥) }
+    ensures unlawful { IfErr result (λ f. f ≡ AdoptFault.Unlawful → IsLawfulEdit engine.old edit → ⊥) }
 {
     match engine.apply(edit, steps) {
         Ok(changes) => {
@@ -64,10 +64,10 @@ pub(crate) fn make<L: Ledger>(
     edit: Edit,
     steps: &mut Steps<L>,
 ) -> Result<(), AdoptFault>
-    ensures taken { OnOk result (IsTaken engine.old edit) }
+    ensures taken { OnOk result (IsLawfulEdit engine.old edit) }
     ensures ok { OnOk result (engine.new ≡ after engine.old edit) }
     ensures err { OnErr result (engine.new ≡ engine.old) }
-    ensures unlawful { IfErr result (λ f. f ≡ AdoptFault.Unlawful → IsTaken engine.old edit → ⊥) }
+    ensures unlawful { IfErr result (λ f. f ≡ AdoptFault.Unlawful → IsLawfulEdit engine.old edit → ⊥) }
 {
     if edit.valid() {
         make_valid(engine, edit, steps)
@@ -86,9 +86,9 @@ pub(crate) fn add_check<L: Ledger>(
     kept: KeptResult,
     steps: &mut Steps<L>,
 ) -> Result<(), AdoptFault>
-    ensures ok { OnOk result (engine.new ≡ with_checks engine.old (pair_of kept ∷ [])) }
+    ensures ok { OnOk result (engine.new ≡ with_checks engine.old (pair_of_result kept ∷ [])) }
     ensures err { OnErr result (engine.new ≡ engine.old) }
-    ensures unlawful { IfErr result (λ f. f ≡ AdoptFault.Unlawful → (more : Items (KeyRow × TruthRow)) → IsLawful (with_checks engine.old (pair_of kept ∷ more)) → ⊥) }
+    ensures unlawful { IfErr result (λ f. f ≡ AdoptFault.Unlawful → (more : Items (KeyRow × TruthRow)) → IsLawful (with_checks engine.old (pair_of_result kept ∷ more)) → ⊥) }
 {
     let KeptResult { key, result } = kept;
     if engine.has_check(&key) {

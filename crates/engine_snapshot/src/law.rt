@@ -5,6 +5,6 @@ ghost use Rattle.engine_snapshot.specs.Within.{SnapsAreWithin};
 pub fn snapshots_are_within()
     ensures { SnapsAreWithin }
 {
-    cpe_snapshot::law::states_have_snapshots();
-    cpe_snapshot::law::snapshots_are_short();
+    snapshot_bytes::law::states_have_snapshots();
+    snapshot_bytes::law::snapshots_are_short();
 }

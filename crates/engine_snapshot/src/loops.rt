@@ -1,7 +1,7 @@
 // Rows that are read one after another. Each is added before the next is read, so at most one row is kept outside the engine.
 ghost use Rattle.std.specs.Prelude.{◌≡◌, [], IfErr, OnOk};
 ghost use Rattle.cpe_rows.specs.Prelude.{IsLawful};
-ghost use Rattle.cpe_snapshot.specs.Reading.{entry_at, many, name_at, result_at, statement_at};
+ghost use Rattle.snapshot_bytes.specs.Reading.{entry_at, many, name_at, result_at, statement_at};
 ghost use Rattle.engine_snapshot.specs.Begun.{AreFine, with_items, with_statements};
 ghost use Rattle.engine_snapshot.specs.Read.{AreEntriesPut, ArePut, NonePut, with_placed, with_results};
 
@@ -9,7 +9,7 @@ use crate::puts::{put_entry, put_item, put_result, put_statement};
 use crate::runs::PlacedDeprecations;
 use cpe_engine::{Engine, Steps};
 use cpe_rows::{Statement, Wfn};
-use cpe_snapshot::{Cursor, KeptResult, LoadFault, Part, PlacedEntry};
+use snapshot_bytes::{Cursor, KeptResult, LoadFault, Part, PlacedEntry};
 use std::alloc::Global;
 use std::sync::ledger::Ledger;
 

@@ -3,21 +3,21 @@ ghost use Rattle.std.specs.Prelude.{◌≡◌, IfErr, IfOk, List as Items, None,
 ghost use Rattle.cpe_rows.specs.Prelude.{IsLawful, Values};
 ghost use Rattle.cpe_rows.specs.declared.entry.Deprecation.{Deprecation as DeprecationRow};
 ghost use Rattle.cpe_engine.specs.Adopting.{IsBare, with_deprecations};
-ghost use Rattle.cpe_snapshot.specs.States.{AreNamed, IsMeantDeprecation};
-ghost use Rattle.engine_snapshot.specs.Meant.{AreGiven, AreMeantDeprecations, name_in, undeprecated};
+ghost use Rattle.snapshot_bytes.specs.States.{AreNamed, IsMeantDeprecation};
+ghost use Rattle.engine_snapshot.specs.Meant.{AreGiven, AreMeantDeprecations, entry_name_in, undeprecated};
 
 use crate::boxed::BoxedDeprecation;
 use crate::puts::load_fault;
 use crate::runs::PlacedDeprecations;
 use cpe_engine::Engine;
 use cpe_rows::{Deprecation, List, Wfn};
-use cpe_snapshot::{LoadFault, PlacedDeprecation};
+use snapshot_bytes::{LoadFault, PlacedDeprecation};
 use std::alloc::Global;
 
 // A copy of the name of the entry at this place.
 fn name_at(alloc: Global, engine: &Engine, place: u32) -> Result<Wfn, LoadFault>
-    ensures named { IfOk result (λ n. name_in engine.now.entries place ≡ Some n) }
-    ensures refused { IfErr result (λ f. f ≡ LoadFault.NotSnapshot → name_in engine.now.entries place ≡ None) }
+    ensures named { IfOk result (λ n. entry_name_in engine.now.entries place ≡ Some n) }
+    ensures refused { IfErr result (λ f. f ≡ LoadFault.NotSnapshot → entry_name_in engine.now.entries place ≡ None) }
 {
     match engine.entry_at(place as usize) {
         Some(entry) => match entry.name.copy(alloc) {
@@ -74,7 +74,7 @@ fn meant_at(
     }
 }
 
-// The deprecations of all entries, in their order, with names in place of places.
+// The deprecations of all entries, in their order. Each successor is given by its name instead of its place.
 fn deprecations_of(
     alloc: Global,
     engine: &Engine,
@@ -91,7 +91,7 @@ fn deprecations_of(
     Ok(deprecations)
 }
 
-// The deprecations of all entries, in their order, with names in place of places. The list with places is dropped.
+// The deprecations of all entries, in their order. Each successor is given by its name instead of its place. The list with places is dropped.
 fn named_in(
     alloc: Global,
     engine: &Engine,
@@ -105,7 +105,7 @@ fn named_in(
     deprecations
 }
 
-// The deprecations of all entries, in their order, with names in place of places. In `all`, entries without one are only counted.
+// The deprecations of all entries, in their order. Each successor is given by its name instead of its place. In `all`, entries without one are only counted.
 fn named(
     alloc: Global,
     engine: &Engine,
@@ -121,10 +121,10 @@ fn named(
 }
 
 // Drops an engine that has only some of the rows, and returns the given fault.
-fn let_go(engine: Engine, fault: LoadFault) -> LoadFault
+fn discard(engine: Engine, fault: LoadFault) -> LoadFault
     ensures { result ≡ fault }
 {
-    engine.let_go();
+    engine.discard();
     fault
 }
 
@@ -165,6 +165,6 @@ pub(crate) fn give_all(
     }
     match named(alloc, &engine, all) {
         Ok(deprecations) => deprecate_all(engine, deprecations),
-        Err(fault) => Err(let_go(engine, fault)),
+        Err(fault) => Err(discard(engine, fault)),
     }
 }

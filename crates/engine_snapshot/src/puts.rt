@@ -1,14 +1,14 @@
 // Rows that are added to an engine as they are read, one at a time.
 ghost use Rattle.std.specs.Prelude.{◌≡◌, ◌++◌, ◌∷◌, [], IfErr, OnOk, true};
 ghost use Rattle.cpe_rows.specs.Prelude.{after, is_lower, is_valid_edit, IsLawful};
-ghost use Rattle.engine_snapshot.specs.Begun.{AreFine, IsTaken, with_items, with_statements};
+ghost use Rattle.engine_snapshot.specs.Begun.{AreFine, IsLawfulEdit, with_items, with_statements};
 ghost use Rattle.engine_snapshot.specs.Read.{NotAfter, with_placed, with_results};
 
 use crate::edits::{add_check, make, make_valid};
 use crate::runs::PlacedDeprecations;
 use cpe_engine::{AdoptFault, Engine, Steps};
 use cpe_rows::{Edit, Entry, Statement, Wfn};
-use cpe_snapshot::{KeptResult, LoadFault, PlacedDeprecation, PlacedEntry};
+use snapshot_bytes::{KeptResult, LoadFault, PlacedDeprecation, PlacedEntry};
 use std::alloc::Global;
 use std::sync::ledger::Ledger;
 
@@ -26,7 +26,7 @@ pub(crate) fn load_fault(fault: AdoptFault) -> LoadFault
 fn put<L: Ledger>(engine: &mut Engine, edit: Edit, steps: &mut Steps<L>) -> Result<(), LoadFault>
     requires { is_valid_edit edit ≡ true }
     ensures ok { OnOk result (engine.new ≡ after engine.old edit) }
-    ensures refused { IfErr result (λ f. f ≡ LoadFault.NotSnapshot → IsTaken engine.old edit → ⊥) }
+    ensures refused { IfErr result (λ f. f ≡ LoadFault.NotSnapshot → IsLawfulEdit engine.old edit → ⊥) }
 {
     match make_valid(engine, edit, steps) {
         Ok(()) => Ok(()),
@@ -35,7 +35,7 @@ fn put<L: Ledger>(engine: &mut Engine, edit: Edit, steps: &mut Steps<L>) -> Resu
 }
 
 // Drops the deprecation of an entry that isn't added, and returns the given fault.
-fn let_go(deprecation: Option<PlacedDeprecation>, fault: LoadFault) -> LoadFault
+fn discard(deprecation: Option<PlacedDeprecation>, fault: LoadFault) -> LoadFault
     ensures { result ≡ fault }
 {
     drop(deprecation);
@@ -73,7 +73,7 @@ pub(crate) fn put_entry<L: Ledger>(
             Ok(()) => Ok(()),
             Err(_) => Err(LoadFault::Memory),
         },
-        Err(fault) => Err(let_go(deprecation, fault)),
+        Err(fault) => Err(discard(deprecation, fault)),
     }
 }
 

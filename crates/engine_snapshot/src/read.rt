@@ -1,8 +1,8 @@
 // An engine that is read from its snapshot, row by row.
 ghost use Rattle.std.specs.Prelude.{◌≡◌, IfErr, IfOk, OnOk};
 ghost use Rattle.cpe_rows.specs.Prelude.{IsLawful, Rows};
-ghost use Rattle.cpe_snapshot.specs.Reading.{entry_at, many};
-ghost use Rattle.cpe_snapshot.specs.States.{Snap};
+ghost use Rattle.snapshot_bytes.specs.Reading.{entry_at, many};
+ghost use Rattle.snapshot_bytes.specs.States.{Snap};
 ghost use Rattle.engine_snapshot.specs.Read.{AreEntriesLoaded, NoEntries, Others, with_others};
 
 use crate::law;
@@ -10,7 +10,7 @@ use crate::loops::{read_entries, read_items, read_results, read_statements};
 use crate::meant::give_all;
 use crate::runs::PlacedDeprecations;
 use cpe_engine::{Engine, Steps};
-use cpe_snapshot::{Cursor, Head, LoadFault, read_head};
+use snapshot_bytes::{Cursor, Head, LoadFault, read_head};
 use std::alloc::Global;
 use std::sync::ledger::Ledger;
 
@@ -18,10 +18,10 @@ use std::sync::ledger::Ledger;
 pub const MOST_BYTES: usize = 536_870_936;
 
 // Drops an engine that has only some of the rows, and returns the given fault.
-fn let_go(engine: Engine, fault: LoadFault) -> LoadFault
+fn discard(engine: Engine, fault: LoadFault) -> LoadFault
     ensures { result ≡ fault }
 {
-    engine.let_go();
+    engine.discard();
     fault
 }
 
@@ -30,7 +30,7 @@ fn let_both_go(engine: Engine, deprecations: PlacedDeprecations, fault: LoadFaul
     ensures { result ≡ fault }
 {
     drop(deprecations);
-    let_go(engine, fault)
+    discard(engine, fault)
 }
 
 // An engine with the entries that are read next. First all entries are added as active ones, and then they get their deprecations
@@ -95,6 +95,6 @@ pub fn read_snapshot<L: Ledger>(
     let mut engine = load_entries(alloc, &mut cursor, head.entries, steps)?;
     match read_others(alloc, &mut cursor, head, &mut engine, steps) {
         Ok(()) => Ok(engine),
-        Err(fault) => Err(let_go(engine, fault)),
+        Err(fault) => Err(discard(engine, fault)),
     }
 }

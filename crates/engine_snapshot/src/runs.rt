@@ -5,13 +5,13 @@ ghost use Rattle.engine_snapshot.specs.Runs.{deprecations_in, run_of};
 
 use crate::boxed::BoxedDeprecation;
 use cpe_rows::{List, Memory};
-use cpe_snapshot::PlacedDeprecation;
+use snapshot_bytes::PlacedDeprecation;
 use std::alloc::Global;
 use std::marker::Model;
 
 /// A deprecated entry, and the number of active entries between it and the deprecated entry before it.
 #[derive(Drop)]
-pub(crate) struct Run {
+pub(crate) struct EntryRun {
     active: usize,
     deprecation: BoxedDeprecation,
 }
@@ -22,14 +22,14 @@ pub(crate) struct Run {
 /// Contracts see the list of these deprecations.
 #[derive(Drop)]
 pub(crate) struct PlacedDeprecations {
-    runs: List<Run>,
+    runs: List<EntryRun>,
     // The number of active entries after the last deprecated one.
     active: usize,
 }
 
 impl Model for PlacedDeprecations {
     ghost use Rattle.std.specs.Prelude.{List, Option};
-    ghost use Rattle.cpe_snapshot.specs.declared.rows.PlacedDeprecation.{PlacedDeprecation as PlacedRow};
+    ghost use Rattle.snapshot_bytes.specs.declared.rows.PlacedDeprecation.{PlacedDeprecation as PlacedRow};
     ghost use Rattle.engine_snapshot.specs.Runs.{deprecations_in};
 
     ghost Value = { List (Option PlacedRow) };
@@ -48,27 +48,27 @@ fn push_none(all: &mut List<Option<BoxedDeprecation>>, count: usize) -> Result<(
 }
 
 // Adds the entries of a run at the end.
-fn push_run(all: &mut List<Option<BoxedDeprecation>>, run: Run) -> Result<(), Memory>
+fn push_run(all: &mut List<Option<BoxedDeprecation>>, run: EntryRun) -> Result<(), Memory>
     ensures { OnOk result (all.new ≡ all.old ++ run_of run) }
 {
-    let Run {
+    let EntryRun {
         active,
         deprecation,
     } = run;
     match push_none(all, active) {
         Ok(()) => all.push(Some(deprecation)),
-        Err(memory) => Err(let_go(deprecation, memory)),
+        Err(memory) => Err(discard(deprecation, memory)),
     }
 }
 
 // Drops a deprecation after memory ran out.
-fn let_go(deprecation: BoxedDeprecation, memory: Memory) -> Memory {
+fn discard(deprecation: BoxedDeprecation, memory: Memory) -> Memory {
     drop(deprecation);
     memory
 }
 
 // Adds the entries of all runs at the end.
-fn push_runs(all: &mut List<Option<BoxedDeprecation>>, runs: List<Run>) -> Result<(), Memory>
+fn push_runs(all: &mut List<Option<BoxedDeprecation>>, runs: List<EntryRun>) -> Result<(), Memory>
     ensures { OnOk result (all.new ≡ all.old ++ flat_map run_of runs) }
 {
     for run in runs.into_vec() {
@@ -121,7 +121,7 @@ impl PlacedDeprecations {
         ensures { OnOk result (self.new ≡ self.old ++ Some placed ∷ []) }
     {
         let deprecation = BoxedDeprecation::new(alloc, placed)?;
-        self.runs.push(Run {
+        self.runs.push(EntryRun {
             active: self.active,
             deprecation,
         })?;

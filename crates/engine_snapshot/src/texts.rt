@@ -2,7 +2,7 @@
 ghost use Rattle.std.specs.List.{AllByRecursion};
 ghost use Rattle.cpe_rows.specs.Lent.{entry_lent};
 ghost use Rattle.cpe_rows.specs.declared.entry.Note.{Note as NoteRow};
-ghost use Rattle.cpe_snapshot.specs.States.{IsString, IsTextEntry, IsTextKey, IsTextStatement, keys_of};
+ghost use Rattle.snapshot_bytes.specs.States.{IsString, IsTextEntry, IsTextKey, IsTextStatement, keys_of};
 
 use cpe_rows::{CheckKey, EntryRef, Note, Statement, Test, Text};
 

@@ -8,14 +8,14 @@ ghost use Rattle.cpe_rows.specs.Rows.{is_named};
 ghost use Rattle.cpe_rows.specs.declared.entry.Entry.{Entry as EntryRow};
 ghost use Rattle.cpe_rows.specs.declared.test.CheckKey.{CheckKey as KeyRow};
 ghost use Rattle.cpe_rows.specs.declared.truth.Truth.{Truth as TruthRow};
-ghost use Rattle.cpe_snapshot.specs.Parts.{name};
-ghost use Rattle.cpe_snapshot.specs.Snapshot.{entry_row, result_row, statement_row};
-ghost use Rattle.cpe_snapshot.specs.States.{IsTextEntry, IsTextKey, IsTextStatement, place_in, placed_entry, result_of, Snap, snapshot};
+ghost use Rattle.snapshot_bytes.specs.Parts.{name};
+ghost use Rattle.snapshot_bytes.specs.Snapshot.{entry_row, result_row, statement_row};
+ghost use Rattle.snapshot_bytes.specs.States.{IsTextEntry, IsTextKey, IsTextStatement, entry_place_in, placed_entry, result_of, Snap, snapshot};
 
 use crate::texts::{are_entry_texts, are_key_texts, are_statement_texts};
 use cpe_engine::Engine;
 use cpe_rows::{EntryRef, Memory, Wfn};
-use cpe_snapshot::{push_entry, push_head, push_name, push_result, push_statement};
+use snapshot_bytes::{push_entry, push_head, push_name, push_result, push_statement};
 use std::alloc::Global;
 
 // ---- entries
@@ -23,9 +23,9 @@ use std::alloc::Global;
 // The place of the entry of this name.
 fn place_of(engine: &Engine, put: &Wfn) -> u32
     requires { list_any (is_named put.now) engine.now.entries ≡ true }
-    ensures { result ≡ place_in engine.now.entries put.now }
+    ensures { result ≡ entry_place_in engine.now.entries put.now }
 {
-    cpe_snapshot::law::places_are_positions();
+    snapshot_bytes::law::places_are_positions();
     match engine.place_of(put) {
         Some(place) => place,
         None => unreachable!(),
@@ -35,7 +35,7 @@ fn place_of(engine: &Engine, put: &Wfn) -> u32
 // The places of the entries of these names.
 fn places_of(alloc: Global, engine: &Engine, names: &[Wfn]) -> Result<Vec<u32>, Memory>
     requires { list_all (λ s. list_any (is_named s) engine.now.entries) names.now ≡ true }
-    ensures { IfOk result (λ v. v.items ≡ map (place_in engine.now.entries) names.now) }
+    ensures { IfOk result (λ v. v.items ≡ map (entry_place_in engine.now.entries) names.now) }
 {
     let mut places = Vec::with_capacity(alloc, names.len())?;
     for put in names {
@@ -183,7 +183,7 @@ pub fn write_snapshot(alloc: Global, engine: &Engine) -> Result<Vec<u8>, Memory>
     ensures snap { IfOk result (λ b. Snap engine.now b.items) }
 {
     engine.lawful();
-    cpe_snapshot::law::states_have_snapshots();
+    snapshot_bytes::law::states_have_snapshots();
     let room = Vec::with_capacity(alloc, engine.weight() as usize + 24)?;
     let out = push_head(
         room,

@@ -3,8 +3,8 @@
 // `tests/refused-memory.py` refuses each allocation in turn. The tested code is in functions without clauses.
 ghost use Rattle.std.specs.Prelude.{◌≡◌, ◌<◌};
 
-use cpe_drill::{Drilled, Engine, Steps};
 use cpe_rows::{Counts, Truth};
+use drill_lines::{Drilled, Engine, Steps};
 use std::alloc::Global;
 use std::marker::Brand;
 use std::sync::ledger::{Blank, Ledger};
@@ -237,31 +237,31 @@ fn reads_all<L: Ledger>(
 }
 
 // Whether five records were refused in all, the searches found eight entries, and the counts of the rows are right.
-fn is_told(drilled: &Drilled) -> bool {
+fn is_reported(drilled: &Drilled) -> bool {
     drilled.refused == 5 && drilled.found == 8 && counts_of(&drilled.engine) == LEFT
 }
 
 // (The engine is not dropped. Otherwise the drop of all that it owns would be proved here again.)
-fn goes_on_over<L: Ledger>(alloc: Global, blank: Blank) -> bool
+fn continues_over<L: Ledger>(alloc: Global, blank: Blank) -> bool
     requires name { blank.name ≡ L.name }
     requires parts { blank.parts ≡ L.parts }
     requires some { 0 < blank.parts }
 {
     let mut drilled = Drilled::new(Engine::new(alloc));
     let mut steps = Steps::<L>::new(blank);
-    let goes_on = reads_all(alloc, &mut drilled, &FOLLOWED, &mut steps)
+    let is_continued = reads_all(alloc, &mut drilled, &FOLLOWED, &mut steps)
         && reads_all(alloc, &mut drilled, &ASKED, &mut steps)
         && reads_all(alloc, &mut drilled, &DROPPED, &mut steps)
-        && is_told(&drilled);
+        && is_reported(&drilled);
     drilled.into_engine().leave();
-    goes_on
+    is_continued
 }
 
-fn goes_on(alloc: Global) -> bool {
-    goes_on_over::<Brand>(alloc, Blank::new(1))
+fn is_continued(alloc: Global) -> bool {
+    continues_over::<Brand>(alloc, Blank::new(1))
 }
 
 #[test]
-fn an_engine_goes_on_after_memory_ran_out(rt: HostRuntime) {
-    assert!(rt; goes_on(rt.alloc()));
+fn an_engine_continues_after_memory_ran_out(rt: HostRuntime) {
+    assert!(rt; is_continued(rt.alloc()));
 }

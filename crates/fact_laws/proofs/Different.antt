@@ -1,4 +1,4 @@
--- An index that holds each number that is somewhere, once, holds the different names.
+-- Lemmas: an index that holds each number with a count above 0 once has the different names.
 use Rattle.std.proofs.Common.{◌≡◌, ℕ, zero, suc, ◌+◌, ◌≤◌, Bool, true, false, cond, ◌||◌, List, [], ◌∷◌, length, count_by, Option, Some, None, refl, sym, ap, subst, ◌∙◌, inl, inr, arith, eq-eqb, eqb-true}
 use Rattle.std.specs.Prelude.{nat_eq}
 use Rattle.std.specs.List.{sum_by, list_any, AllByRecursion}
@@ -10,13 +10,13 @@ use Rattle.cpe_rows.specs.cpe_name.Equal.{same_name, same_name-Decides}
 use Rattle.name_index.specs.product_orders.declared.products.Side.{Side}
 use Rattle.name_index.specs.product_orders.Elements.{SameElements}
 use Rattle.name_index.specs.declared.table.NameId.{NameId}
-use Rattle.name_index.specs.Table.{AreNames, IsLive, Names, Kept, find_kept, kept_at, kept_or}
+use Rattle.name_index.specs.Table.{IsNameTable, IsLive, Names, Kept, find_kept, kept_at, kept_or}
 use Rattle.name_index.specs.Index.{ids, name_id, times_held}
 use Rattle.name_index.proofs.Postings.{sum_map}
-use Rattle.fact_laws.specs.Shown.{different, IsKnown, is_met_on, meets_on, near_names, names_at, names_in, one_if_some, Shows, times_in, times_named}
+use Rattle.fact_laws.specs.Shown.{different, IsKnown, is_met_on, meets_on, near_names, names_at, names_in, one_if_some, Shows, times_in_list, times_named}
 use Rattle.fact_laws.proofs.Shown.{all_known, first_passing, named_first, same_names, other_names, times_agree}
 
--- ---- lists in which each name stands equally often
+-- ---- lists that have each name equally often
 
 abbrev pub removed : Values → List Values → List Values
 removed n [] = []
@@ -107,8 +107,8 @@ less_different f (m ∷ list) = by (list_any (same_name m) list) (less_different
 
 -- ---- numbers, each once
 
-pub once_different : (names : Names) (numbers once : List NameId) → AreNames names → AllByRecursion (λ (x : NameId). IsLive names x.0) numbers → AllByRecursion (λ (x : NameId). IsLive names x.0) once
-    → ((id : ℕ) → times_in id once ≡ one_if_some (times_in id numbers)) → SameElements (names_at names once) (different (names_at names numbers))
+pub once_different : (names : Names) (numbers once : List NameId) → IsNameTable names → AllByRecursion (λ (x : NameId). IsLive names x.0) numbers → AllByRecursion (λ (x : NameId). IsLive names x.0) once
+    → ((id : ℕ) → times_in_list id once ≡ one_if_some (times_in_list id numbers)) → SameElements (names_at names once) (different (names_at names numbers))
 once_different names numbers once are live live_once each = counts_same (names_at names once) (different (names_at names numbers)) (λ n. by n (times_named n (names_at names numbers)) refl ∙ sym (one_once n (names_at names numbers)))
   where
     known : (n : Values) → IsKnown names n → times_named n (names_at names once) ≡ one_if_some (times_named n (names_at names numbers))
@@ -127,9 +127,9 @@ once_different names numbers once are live live_once each = counts_same (names_a
         none zero f = f ∙ sym (ap one_if_some e)
         none (suc t) f = known n (all_known names n once live_once (omega (arith, f)))
 
--- ---- what an index holds
+-- ---- the names in an index
 
-module _ (names : Names) (times : ℕ → ℕ) (list : List Values) (held : List (ℕ × ℕ)) (are : AreNames names) (on : (id : ℕ) → times_held held id ≡ one_if_some (times id)) (s : Shows names times list) where
+module _ (names : Names) (times : ℕ → ℕ) (list : List Values) (held : List (ℕ × ℕ)) (are : IsNameTable names) (on : (id : ℕ) → times_held held id ≡ one_if_some (times id)) (s : Shows names times list) where
   positive : (n : ℕ) → 1 ≤ one_if_some n → 1 ≤ n
   positive zero h = absurd (omega (arith, h))
   positive (suc n) h = omega arith
@@ -137,7 +137,7 @@ module _ (names : Names) (times : ℕ → ℕ) (list : List Values) (held : List
   held_first : (id : ℕ) (x : ℕ × ℕ) (some : List (ℕ × ℕ)) → times_held (x ∷ some) id ≡ cond (nat_eq id x.0) 1 0 + times_held some id
   held_first id x some = sum_by-cons (λ (y : ℕ × ℕ). cond (nat_eq id y.0) 1 0) x some
 
-  -- what is held is live
+  -- a held number is live
   live : (id : ℕ) → 1 ≤ times_held held id → (k : Kept) × (find_kept names id ≡ Some k)
   live id h = by (find_kept names id) refl
     where
@@ -148,7 +148,7 @@ module _ (names : Names) (times : ℕ → ℕ) (list : List Values) (held : List
   kept_name : (id : ℕ) (k : Kept) → find_kept names id ≡ Some k → (kept_at names id).name ≡ k.name
   kept_name id k e = ap (λ (o : Option Kept). (kept_or o).name) e
 
-  -- a name that has a number stands as often as the number is held
+  -- a name is in the index as often as its number is held
   agree : (n : Values) (id : ℕ) (k : Kept) → find_kept names id ≡ Some k → k.name ≡ n → times_named n (names_in names held) ≡ times_held held id
   agree n id k e is = go held (λ j h. h)
     where
@@ -172,7 +172,7 @@ module _ (names : Names) (times : ℕ → ℕ) (list : List Values) (held : List
             go some (λ j more. in_ j (omega (arith, more, held_first j x some))),
           )
 
-  -- a name that stands there is that of a number
+  -- a name in the index is the name of a number
   number_there : (n : Values) → 1 ≤ times_named n (names_in names held) → (id : ℕ) × (k : Kept) × (find_kept names id ≡ Some k) × (k.name ≡ n)
   number_there n h = go held (λ j more. more) h
     where

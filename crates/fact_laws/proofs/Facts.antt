@@ -1,4 +1,4 @@
--- What a fact asks, by all names that are there.
+-- Lemmas: the truth of a fact, by the list of all targets.
 use Rattle.std.proofs.Common.{◌≡◌, ℕ, ◌≤◌, Bool, true, false, cond, ◌||◌, List, [], ◌∷◌, refl, sym, ap, ◌∙◌, arith}
 use Rattle.std.specs.List.{list_any, flat_map, sum_by}
 use Rattle.std.proofs.lemmas.Bool.{both_ways}
@@ -13,9 +13,9 @@ use Rattle.cpe_rows.specs.Chains.{ends}
 use Rattle.cpe_rows.specs.Verdict.{truth, finds_item, fact_truth}
 use Rattle.cpe_rows.specs.declared.statement.Mode.{Mode}
 use Rattle.cpe_rows.specs.declared.statement.Mode.TheVariants.{Plain, Follow}
-use Rattle.fact_laws.specs.Asked.{leads, there, is_one}
+use Rattle.fact_laws.specs.Asked.{leads, target_names, is_one}
 
--- ---- some element passes in both lists or in none
+-- ---- a test passes in both lists or in neither
 
 module _ {A : Type 0} where
   abbrev passing : (A → Bool) → A → ℕ
@@ -50,7 +50,7 @@ pub same_one : (relates : Values → Values → Bool) (names others same : List 
 same_one relates [] others same h = refl
 same_one relates (n ∷ names) others same h = λ i. any_same (relates n) others same h i || same_one relates names others same h i
 
--- ---- one test of all
+-- ---- one test of all elements
 
 none_at_all : {A : Type 0} (fs : List A) → list_any (λ f. false) fs ≡ false
 none_at_all [] = refl
@@ -85,10 +85,10 @@ module _ (relates : Values → Values → Bool) where
       go [] = refl
       go (x ∷ xs) = ap (λ (b : Bool). relates f x || b) (go xs)
 
-  found_is : (rows : Rows) (mode : Mode) (fact : Values) → finds_item relates rows mode fact ≡ is_one relates (leads rows.entries mode fact) (there rows mode)
+  found_is : (rows : Rows) (mode : Mode) (fact : Values) → finds_item relates rows mode fact ≡ is_one relates (leads rows.entries mode fact) (target_names rows mode)
   found_is rows Plain fact = single fact rows.items
   found_is rows Follow fact = swapped (ends rows.entries) (ends rows.entries fact) rows.items
 
 pub fact_is : (rows : Rows) (mode : Mode) (fact : Values) → fact_truth rows mode fact
-    ≡ truth (is_one covers (leads rows.entries mode fact) (there rows mode)) (is_one maybe (leads rows.entries mode fact) (there rows mode))
+    ≡ truth (is_one covers (leads rows.entries mode fact) (target_names rows mode)) (is_one maybe (leads rows.entries mode fact) (target_names rows mode))
 fact_is rows mode fact = λ i. truth (found_is covers rows mode fact i) (found_is maybe rows mode fact i)

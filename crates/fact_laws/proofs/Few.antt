@@ -1,4 +1,4 @@
--- Lawful rows ask few names, and few are there.
+-- Lemmas: lawful rows have few probes and few targets.
 use Rattle.std.proofs.Common.{◌≡◌, ◌*◌, ◌≤◌, Bool, true, false, cond, List, [], ◌∷◌, ◌++◌, length, refl, sym, ap, subst, inl, inr, arith}
 use Rattle.std.specs.List.{list_any, flat_map}
 use Rattle.std.proofs.lemmas.Bool.{or_cases, or_parts, ltb-false}
@@ -18,7 +18,7 @@ use Rattle.cpe_rows.proofs.Added.{own_end}
 use Rattle.cpe_rows.proofs.Limited.{each_within}
 use Rattle.cpe_rows.proofs.NameTests.{same_is}
 use Rattle.fact_laws.proofs.Different.{fewer_different}
-use Rattle.fact_laws.specs.Asked.{asked, entry_names, facts_in, leads, names_kept, references_in, references_of, same_mode, there}
+use Rattle.fact_laws.specs.Asked.{asked, entry_names, statement_facts, leads, names_of_rows, references_in, references_of, same_mode, target_names}
 
 one_of_both : (p q : Entry → Bool) (es : List Entry) → list_any p es ≡ true → list_any q es ≡ false → (e : Entry) × (p e ≡ true) × (q e ≡ false)
 one_of_both p q [] h none = absurd cc
@@ -75,13 +75,13 @@ module _ (rows : Rows) (lawful : IsLawful rows) where
   pub lead_few : (mode : Mode) (n : Values) → length (leads rows.entries mode n) ≤ 256
   lead_few mode n = leads_few rows.entries mode n lawful.dictionary.no_wide
 
-  pub there_few : (mode : Mode) → length (there rows mode) ≤ 256000000
+  pub there_few : (mode : Mode) → length (target_names rows mode) ≤ 256000000
   there_few mode = omega (arith, all_few (leads rows.entries mode) (lead_few mode) rows.items, items_few)
 
   pub asked_few : (mode : Mode) → length (asked rows mode) ≤ 256000000
-  asked_few mode = omega (arith, all_few (leads rows.entries mode) (lead_few mode) (facts_in mode rows.statements), fewer_different (references_in mode rows.statements), all_references_fewer mode rows.statements, facts_few)
+  asked_few mode = omega (arith, all_few (leads rows.entries mode) (lead_few mode) (statement_facts mode rows.statements), fewer_different (references_in mode rows.statements), all_references_fewer mode rows.statements, facts_few)
 
-  pub kept_few : length (names_kept rows) ≤ 4000000
+  pub kept_few : length (names_of_rows rows) ≤ 4000000
   kept_few =
       omega (
         arith,

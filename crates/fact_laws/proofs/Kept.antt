@@ -1,4 +1,4 @@
--- Names that are asked and names that are there are names of entries, items or facts.
+-- Lemmas: probes and targets are names of entries, items or facts.
 use Rattle.std.proofs.Common.{◌≡◌, ◌⊎◌, Bool, true, false, cond, ◌||◌, List, [], ◌∷◌, ◌++◌, map, sym, ap, ◌∙◌, inl, inr}
 use Rattle.std.specs.Prelude.{filter}
 use Rattle.std.specs.List.{list_any, flat_map}
@@ -15,7 +15,7 @@ use Rattle.cpe_rows.specs.declared.statement.Mode.TheVariants.{Plain, Follow}
 use Rattle.cpe_rows.specs.declared.statement.Statement.{Statement}
 use Rattle.cpe_rows.specs.cpe_name.Equal.{same_name}
 use Rattle.fact_laws.specs.Shown.{different}
-use Rattle.fact_laws.specs.Asked.{asked, entry_names, facts_in, leads, names_kept, references_in, references_of, same_mode, there}
+use Rattle.fact_laws.specs.Asked.{asked, entry_names, statement_facts, leads, names_of_rows, references_in, references_of, same_mode, target_names}
 
 module _ (p : Values → Bool) where
   in_filter : (q : Entry → Bool) (es : List Entry) → list_any p (entry_names (filter q es)) ≡ true → list_any p (entry_names es) ≡ true
@@ -32,7 +32,7 @@ module _ (p : Values → Bool) where
   one_only : (n : Values) → list_any p (n ∷ []) ≡ true → p n ≡ true
   one_only n h = elim (or_cases (p n) false h) [ inl t ↦ t | inr f ↦ absurd cc ]
 
-  -- an end is the name itself, or that of an entry
+  -- an end is the name itself, or the name of an entry
   of_leads : (es : List Entry) (mode : Mode) (n : Values) → list_any p (leads es mode n) ≡ true → (p n ≡ true) ⊎ (list_any p (entry_names es) ≡ true)
   of_leads es Plain n h = inl (one_only n h)
   of_leads es Follow n h = by (list_any (is_named n) es) h
@@ -59,7 +59,7 @@ module _ (p : Values → Bool) where
         | inr there_ ↦ or_right (p n) (list_any p ns) (later there_)
       ]
 
-  -- the facts of a mode are among all
+  -- the fact references of a mode are among all fact references
   references_of_all : (mode : Mode) (s : Statement) → list_any p (references_of mode s) ≡ true → list_any p (fact_names s.test) ≡ true
   references_of_all mode s h = by (same_mode mode s.mode) h
     where
@@ -76,7 +76,7 @@ module _ (p : Values → Bool) where
         | inr later ↦ or_right (list_any p (fact_names s.test)) (list_any p (flat_map (λ (t : Statement). fact_names t.test) ss)) (references_in_all mode ss later)
       ]
 
-  facts_in_all : (mode : Mode) (ss : List Statement) → list_any p (facts_in mode ss) ≡ true → list_any p (flat_map (λ (s : Statement). fact_names s.test) ss) ≡ true
+  facts_in_all : (mode : Mode) (ss : List Statement) → list_any p (statement_facts mode ss) ≡ true → list_any p (flat_map (λ (s : Statement). fact_names s.test) ss) ≡ true
   facts_in_all mode ss h = references_in_all mode ss (in_different (references_in mode ss) h)
 
   module _ (rows : Rows) where
@@ -86,23 +86,23 @@ module _ (p : Values → Bool) where
     abbrev facts : List Values
     facts = flat_map (λ (s : Statement). fact_names s.test) rows.statements
 
-    kept_is : list_any p (names_kept rows) ≡ ((list_any p names || list_any p rows.items) || list_any p facts)
+    kept_is : list_any p (names_of_rows rows) ≡ ((list_any p names || list_any p rows.items) || list_any p facts)
     kept_is = list_any-append p (names ++ rows.items) facts ∙ ap (λ (b : Bool). b || list_any p facts) (list_any-append p names rows.items)
 
-    of_entry : list_any p names ≡ true → list_any p (names_kept rows) ≡ true
+    of_entry : list_any p names ≡ true → list_any p (names_of_rows rows) ≡ true
     of_entry h = kept_is ∙ or_left (list_any p names || list_any p rows.items) (list_any p facts) (or_left (list_any p names) (list_any p rows.items) h)
 
-    of_item : list_any p rows.items ≡ true → list_any p (names_kept rows) ≡ true
+    of_item : list_any p rows.items ≡ true → list_any p (names_of_rows rows) ≡ true
     of_item h = kept_is ∙ or_left (list_any p names || list_any p rows.items) (list_any p facts) (or_right (list_any p names) (list_any p rows.items) h)
 
-    of_fact : list_any p facts ≡ true → list_any p (names_kept rows) ≡ true
+    of_fact : list_any p facts ≡ true → list_any p (names_of_rows rows) ≡ true
     of_fact h = kept_is ∙ or_right (list_any p names || list_any p rows.items) (list_any p facts) h
 
-pub asked_kept : (rows : Rows) (mode : Mode) (p : Values → Bool) → list_any p (asked rows mode) ≡ true → list_any p (names_kept rows) ≡ true
-asked_kept rows mode p h = elim (of_all p rows.entries mode (facts_in mode rows.statements) h) [
+pub asked_kept : (rows : Rows) (mode : Mode) (p : Values → Bool) → list_any p (asked rows mode) ≡ true → list_any p (names_of_rows rows) ≡ true
+asked_kept rows mode p h = elim (of_all p rows.entries mode (statement_facts mode rows.statements) h) [
   | inl t ↦ of_fact p rows (facts_in_all p mode rows.statements t)
   | inr e ↦ of_entry p rows e
 ]
 
-pub there_kept : (rows : Rows) (mode : Mode) (p : Values → Bool) → list_any p (there rows mode) ≡ true → list_any p (names_kept rows) ≡ true
+pub there_kept : (rows : Rows) (mode : Mode) (p : Values → Bool) → list_any p (target_names rows mode) ≡ true → list_any p (names_of_rows rows) ≡ true
 there_kept rows mode p h = elim (of_all p rows.entries mode rows.items h) [ inl t ↦ of_item p rows t | inr e ↦ of_entry p rows e ]

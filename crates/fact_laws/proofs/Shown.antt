@@ -1,4 +1,4 @@
--- Lists that numbers show: what comes, what goes, and what passes.
+-- Lemmas: the lists that counts show, after additions and removals, and under tests.
 use Rattle.std.proofs.Common.{◌≡◌, ◌≢◌, ℕ, zero, suc, ◌+◌, ◌≤◌, Bool, true, false, cond, ◌||◌, List, [], ◌∷◌, ◌++◌, length, Option, Some, None, refl, sym, ap, ◌∙◌, inl, inr, arith, eq-eqb, eqb-true}
 use Rattle.std.specs.Prelude.{nat_eq}
 use Rattle.std.specs.List.{list_any, AllByRecursion}
@@ -10,9 +10,9 @@ use Rattle.cpe_rows.specs.cpe_name.Equal.{same_name, same_name-Decides}
 use Rattle.name_index.specs.product_orders.Elements.{SameElements}
 use Rattle.name_index.proofs.product_orders.Sums.{one_at_most}
 use Rattle.name_index.specs.declared.table.NameId.{NameId}
-use Rattle.name_index.specs.Table.{Names, Kept, kept_or, find_kept, kept_at, AreNames, IsLive}
+use Rattle.name_index.specs.Table.{Names, Kept, kept_or, find_kept, kept_at, IsNameTable, IsLive}
 pub use Rattle.name_index.proofs.Fitting.{live_is}
-use Rattle.fact_laws.specs.Shown.{times_named, times_in, name_at, names_at, IsKnown, Shows}
+use Rattle.fact_laws.specs.Shown.{times_named, times_in_list, name_at, names_at, IsKnown, Shows}
 
 pub one_if : Bool → ℕ
 one_if b = cond b 1 0
@@ -31,7 +31,7 @@ named_first n m list = sum_by-cons (λ (x : Values). cond (same_name n x) 1 0) m
 pub named_both : (n : Values) (xs ys : List Values) → times_named n (xs ++ ys) ≡ times_named n xs + times_named n ys
 named_both n xs ys = sum_by-append (λ (x : Values). cond (same_name n x) 1 0) xs ys
 
-pub number_first : (id : ℕ) (x : NameId) (numbers : List NameId) → times_in id (x ∷ numbers) ≡ cond (nat_eq id x.0) 1 0 + times_in id numbers
+pub number_first : (id : ℕ) (x : NameId) (numbers : List NameId) → times_in_list id (x ∷ numbers) ≡ cond (nat_eq id x.0) 1 0 + times_in_list id numbers
 number_first id x numbers = sum_by-cons (λ (y : NameId). cond (nat_eq id y.0) 1 0) x numbers
 
 pub other_number : (id other : ℕ) → id ≢ other → nat_eq id other ≡ false
@@ -39,8 +39,8 @@ other_number id other ne = elim (cases_Bool (nat_eq id other)) [ inl t ↦ absur
 
 -- ---- live numbers
 
--- a number and its name are told apart alike
-same_tests : (names : Names) → AreNames names → (id : ℕ) (k : Kept) (x : NameId) → find_kept names id ≡ Some k → IsLive names x.0 → nat_eq id x.0 ≡ same_name k.name (name_at names x)
+-- two numbers are equal exactly if their names are equal
+same_tests : (names : Names) → IsNameTable names → (id : ℕ) (k : Kept) (x : NameId) → find_kept names id ≡ Some k → IsLive names x.0 → nat_eq id x.0 ≡ same_name k.name (name_at names x)
 same_tests names are id k x e live = elim (cases_Bool (nat_eq id x.0)) [
   | inl t ↦
       t ∙ sym (same_names k.name (name_at names x) (sym (ap (λ (o : Option Kept). (kept_or o).name) (sym (ap (find_kept names) (eqb-true id x.0 t)) ∙ e))))
@@ -48,9 +48,9 @@ same_tests names are id k x e live = elim (cases_Bool (nat_eq id x.0)) [
       f ∙ sym (other_names k.name (name_at names x) (λ same. both_ways (nat_eq id x.0) f (eq-eqb id x.0 (are.different id x.0 k (kept_at names x.0) e (live_is names x.0 live) same))))
 ]
 
--- as often as a number stands there, so often its name does
-pub times_agree : (names : Names) → AreNames names → (id : ℕ) (k : Kept) → find_kept names id ≡ Some k → (numbers : List NameId) → AllByRecursion (λ (x : NameId). IsLive names x.0) numbers
-    → times_in id numbers ≡ times_named k.name (names_at names numbers)
+-- a name is in the list of names as often as its number is in the list of numbers
+pub times_agree : (names : Names) → IsNameTable names → (id : ℕ) (k : Kept) → find_kept names id ≡ Some k → (numbers : List NameId) → AllByRecursion (λ (x : NameId). IsLive names x.0) numbers
+    → times_in_list id numbers ≡ times_named k.name (names_at names numbers)
 times_agree names are id k e [] live = refl
 times_agree names are id k e (x ∷ numbers) live =
     omega (
@@ -61,7 +61,7 @@ times_agree names are id k e (x ∷ numbers) live =
       times_agree names are id k e numbers live.1,
     )
 
-none_there : (names : Names) (id : ℕ) → find_kept names id ≡ None → (numbers : List NameId) → AllByRecursion (λ (x : NameId). IsLive names x.0) numbers → times_in id numbers ≡ 0
+none_there : (names : Names) (id : ℕ) → find_kept names id ≡ None → (numbers : List NameId) → AllByRecursion (λ (x : NameId). IsLive names x.0) numbers → times_in_list id numbers ≡ 0
 none_there names id none [] live = refl
 none_there names id none (x ∷ numbers) live =
     omega (
@@ -79,13 +79,13 @@ all_known names n (x ∷ numbers) live h = by (same_name n (name_at names x)) re
     by true t later = (x.0, (kept_at names x.0, live_is names x.0 live.0, sym ((same_name-Decides n (name_at names x)).0 t)))
     by false t later = later (omega (arith, h, named_first n (name_at names x) (names_at names numbers), ap {B = ℕ} (λ (b : Bool). cond b 1 0) t))
 
--- ---- what comes and what goes
+-- ---- additions and removals
 
 pub shows_none : (names : Names) → Shows names (λ id. 0) []
 shows_none names = record { counts = λ id k e. refl; nowhere = λ id e. refl; known = λ n h. absurd (omega (arith, h)) }
 
-pub shows_more : (names : Names) (old new : ℕ → ℕ) (numbers : List NameId) (list : List Values) → AreNames names → AllByRecursion (λ (x : NameId). IsLive names x.0) numbers
-    → ((id : ℕ) → new id ≡ old id + times_in id numbers) → Shows names old list → Shows names new (names_at names numbers ++ list)
+pub shows_more : (names : Names) (old new : ℕ → ℕ) (numbers : List NameId) (list : List Values) → IsNameTable names → AllByRecursion (λ (x : NameId). IsLive names x.0) numbers
+    → ((id : ℕ) → new id ≡ old id + times_in_list id numbers) → Shows names old list → Shows names new (names_at names numbers ++ list)
 shows_more names old new numbers list are live step s = record {
   counts = λ id k e. omega (arith, step id, s.counts id k e, times_agree names are id k e numbers live, named_both k.name (names_at names numbers) list);
   nowhere = λ id e. omega (arith, step id, s.nowhere id e, none_there names id e numbers live);
@@ -99,8 +99,8 @@ shows_more names old new numbers list are live step s = record {
         by zero e = s.known n (omega (arith, h, named_both n added list, ap (times_named n) is, e))
         by (suc t) e = all_known names n numbers live (omega (arith, e))
 
-pub shows_fewer : (names : Names) (old new : ℕ → ℕ) (numbers : List NameId) (list : List Values) → AreNames names → AllByRecursion (λ (x : NameId). IsLive names x.0) numbers
-    → ((id : ℕ) → new id + times_in id numbers ≡ old id) → Shows names old (names_at names numbers ++ list) → Shows names new list
+pub shows_fewer : (names : Names) (old new : ℕ → ℕ) (numbers : List NameId) (list : List Values) → IsNameTable names → AllByRecursion (λ (x : NameId). IsLive names x.0) numbers
+    → ((id : ℕ) → new id + times_in_list id numbers ≡ old id) → Shows names old (names_at names numbers ++ list) → Shows names new list
 shows_fewer names old new numbers list are live step s = record {
   counts = λ id k e. omega (arith, step id, s.counts id k e, times_agree names are id k e numbers live, named_both k.name (names_at names numbers) list);
   nowhere = λ id e. omega (arith, step id, s.nowhere id e);
@@ -132,15 +132,15 @@ shows_few names times list id s = by (find_kept names id) refl
     by None e = omega (arith, s.nowhere id e)
     by (Some k) e = omega (arith, s.counts id k e, few_named k.name list)
 
-pub shows_part : (names : Names) (times : ℕ → ℕ) (numbers : List NameId) (list : List Values) (id : ℕ) → AreNames names → AllByRecursion (λ (x : NameId). IsLive names x.0) numbers
-    → Shows names times (names_at names numbers ++ list) → times_in id numbers ≤ times id
+pub shows_part : (names : Names) (times : ℕ → ℕ) (numbers : List NameId) (list : List Values) (id : ℕ) → IsNameTable names → AllByRecursion (λ (x : NameId). IsLive names x.0) numbers
+    → Shows names times (names_at names numbers ++ list) → times_in_list id numbers ≤ times id
 shows_part names times numbers list id are live s = by (find_kept names id) refl
   where
-    by : (o : Option Kept) → find_kept names id ≡ o → times_in id numbers ≤ times id
+    by : (o : Option Kept) → find_kept names id ≡ o → times_in_list id numbers ≤ times id
     by None e = omega (arith, none_there names id e numbers live)
     by (Some k) e = omega (arith, s.counts id k e, times_agree names are id k e numbers live, named_both k.name (names_at names numbers) list)
 
--- ---- what passes
+-- ---- names that pass a test
 
 pub any_named : (passes : Values → Bool) (n : Values) (list : List Values) → passes n ≡ true → 1 ≤ times_named n list → list_any passes list ≡ true
 any_named passes n [] t h = absurd (omega (arith, h))

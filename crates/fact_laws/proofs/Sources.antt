@@ -1,4 +1,4 @@
--- Names that lead to an entry are names of entries.
+-- Lemmas: a name that leads to an entry is the name of an entry.
 use Rattle.std.proofs.Common.{◌≡◌, ◌⊎◌, ◌≤◌, ℕ, zero, suc, ◌+◌, Bool, true, false, not, cond, ◌||◌, List, [], ◌∷◌, ◌++◌, refl, sym, ap, ◌∙◌, inl, inr, arith}
 use Rattle.std.specs.Prelude.{filter, replicate}
 use Rattle.std.specs.List.{sum_by, list_any, flat_map}
@@ -17,7 +17,7 @@ use Rattle.cpe_rows.specs.cpe_name.Equal.{same_name, same_name-Decides}
 use Rattle.fact_laws.specs.Shown.{one_if_some, times_named}
 use Rattle.fact_laws.proofs.Different.{none_named, one_some}
 use Rattle.fact_laws.proofs.Shown.{named_first}
-use Rattle.fact_laws.proofs.Counted.{same_test, some_stands}
+use Rattle.fact_laws.proofs.Counted.{same_test, some_present}
 use Rattle.fact_laws.specs.Asked.{entry_names, source_names}
 use Rattle.fact_laws.proofs.Names.{sum_flat}
 
@@ -69,7 +69,7 @@ module _ (all : List Entry) (x n : Values) (c : ℕ) where
           found true leads rest = omega (arith, sum_by-cons here e.name (entry_names (filter leading es)), ap {B = ℕ} (λ (b : Bool). cond b c 0) (turn e.name x ∙ is), rest, ap {B = ℕ} (λ (b : Bool). cond b c 0) leads)
           found false leads rest = rest ∙ sym (ap {B = ℕ} (λ (b : Bool). cond b c 0) leads)
 
--- a name that leads somewhere is that of an entry
+-- a name that leads to an entry is the name of an entry
 leading_is_named : (all : List Entry) (x n : Values) (c : ℕ) → ((es : List Entry) (m : Values) → list_any (is_named m) es ≡ false → chain es m ≡ []) → cond (list_any (is_named x) all) (cond (leads_to all x n) c 0) 0 ≡ cond (leads_to all x n) c 0
 leading_is_named all x n c absent = by (list_any (is_named x) all) refl
   where
@@ -108,7 +108,7 @@ led_by_sources absent all n list d f = go list ∙ sym (sum_flat f (λ s. filter
           leading_is_named all x n (f x) absent,
         )
 
--- those of a list that are a name are so many copies of it
+-- the elements of a list that equal a name are copies of this name
 copies : (s : Values) (list : List Values) → filter (is_same s) list ≡ replicate (times_named s list) s
 copies s [] = refl
 copies s (x ∷ xs) = by (is_same s x) refl (copies s xs)
@@ -125,7 +125,7 @@ pub led_by_copies : ((es : List Entry) (m : Values) → list_any (is_named m) es
     → SameElements (filter (λ x. leads_to all x n) list) (flat_map (λ s. replicate (times_named s list) s) (source_names all n))
 led_by_copies absent all n list d f = led_by_sources absent all n list d f ∙ (λ i. sum_by f (flat_map (λ s. copies s list i) (source_names all n)))
 
--- a name stands once at most where each is told apart from those after it
+-- a name is in a list at most once, if each name of the list differs from those after it
 pub apart_once : (x : Values) (list : List Values) → are_different is_same list ≡ true → times_named x list ≤ 1
 apart_once x [] d = omega arith
 apart_once x (y ∷ list) d = by (same_name x y) refl (apart_once x list)
@@ -140,7 +140,7 @@ apart_once x (y ∷ list) d = by (same_name x y) refl (apart_once x list)
     by true e later = omega (arith, named_first x y list, one_at_most (same_name x y), ap (λ (m : Values). times_named m list) ((same_name-Decides x y).0 e), none)
     by false e later = omega (arith, named_first x y list, ap {B = ℕ} (λ (b : Bool). cond b 1 0) e, later parts.1)
 
--- so the sources that stand in the list lead, once each
+-- so the sources in the list are those that lead to the entry, each once
 pub led_by_those_there : ((es : List Entry) (m : Values) → list_any (is_named m) es ≡ false → chain es m ≡ []) → (all : List Entry) (n : Values) (list : List Values) → are_different (λ (e : Entry). is_named e.name) all ≡ true
     → ((x : Values) → times_named x list ≤ 1) → SameElements (filter (λ x. leads_to all x n) list) (filter (λ s. list_any (is_same s) list) (source_names all n))
 led_by_those_there absent all n list d few f = led_by_copies absent all n list d f ∙ go (source_names all n)
@@ -150,7 +150,7 @@ led_by_those_there absent all n list d few f = led_by_copies absent all n list d
     exact (suc t) h = omega (arith, h, one_some (suc t) (omega arith))
 
     times : (s : Values) → times_named s list ≡ cond (list_any (is_same s) list) 1 0
-    times s = sym (exact (times_named s list) (few s)) ∙ some_stands s list
+    times s = sym (exact (times_named s list) (few s)) ∙ some_present s list
 
     go : (sources : List Values) → sum_by f (flat_map (λ s. replicate (times_named s list) s) sources) ≡ sum_by f (filter (λ s. list_any (is_same s) list) sources)
     go [] = refl
@@ -163,7 +163,7 @@ led_by_those_there absent all n list d few f = led_by_copies absent all n list d
         by true later = omega (arith, later, sum_by-cons f s (flat_map (λ t. replicate (times_named t list) t) sources), sum_by-cons f s (filter (λ t. list_any (is_same t) list) sources))
         by false later = later
 
--- ---- from an end back to the names that lead there
+-- ---- from an end back to the names that lead to it
 
 pub in_kept : (p : Entry → Bool) (e : Values) (es : List Entry) → list_any (is_same e) (entry_names (filter p es)) ≡ true → list_any (is_named e) es ≡ true
 in_kept p e [] h = h

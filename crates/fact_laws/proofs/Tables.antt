@@ -1,4 +1,4 @@
--- Lists that numbers show, where the table changes.
+-- Lemmas: the lists that counts show, after a change of the table.
 use Rattle.std.proofs.Common.{◌≡◌, ◌≢◌, ◌⊎◌, ℕ, zero, suc, ◌+◌, ◌-◌, ◌≤◌, Bool, true, false, cond, List, ◌∷◌, Option, Some, None, refl, sym, ap, subst, ◌∙◌, inl, inr, arith}
 use Rattle.std.specs.Prelude.{nat_lt}
 use Rattle.std.proofs.lemmas.Bool.{cases_eq, ltb-false}
@@ -6,11 +6,11 @@ use Rattle.std.proofs.lemmas.Option.{none-some, same_Some}
 use Rattle.cpe_rows.specs.cpe_name.Eleven.{Values}
 use Rattle.cpe_rows.specs.cpe_name.Equal.{same_name, same_name-Decides}
 use Rattle.name_index.specs.declared.table.NameId.{NameId}
-use Rattle.name_index.specs.Table.{Names, Kept, kept, kept_or, find_kept, kept_at, AreNames, HasName, Holding, Holds, IsLive, Releases, released}
+use Rattle.name_index.specs.Table.{Names, Kept, kept, kept_or, find_kept, kept_at, IsNameTable, HasName, HoldsOnce, HoldsName, IsLive, Releases, released}
 use Rattle.fact_laws.specs.Shown.{times_named, name_at, IsKnown, Shows, holds_in}
 use Rattle.fact_laws.proofs.Shown.{same_names, other_names, named_first, live_is}
 
--- what is as it was, and of another name than the one that comes or goes, counts as before
+-- a number other than the held or released one keeps its count, and so does its name
 other_counted : (old new : Names) (other : ℕ) (k : Kept) (name : Values) (list : List Values) → find_kept old other ≡ Some k → find_kept new other ≡ Some k → k.name ≢ name
     → (holds_in new other ≡ holds_in old other) × (times_named k.name (name ∷ list) ≡ times_named k.name list)
 other_counted old new other k name list was is apart = (
@@ -20,15 +20,15 @@ other_counted old new other k name list was is apart = (
 
 -- ---- a hold
 
-module _ (old new : Names) (id : ℕ) (name : Values) (h : Holds old new id name) where
-  -- what was live is so still, with its name
+module _ (old new : Names) (id : ℕ) (name : Values) (h : HoldsName old new id name) where
+  -- a live number is still live, with its name
   pub keeps : (other : ℕ) (k : Kept) → find_kept old other ≡ Some k → (l : Kept) × (find_kept new other ≡ Some l) × (l.name ≡ k.name) × (l.product ≡ k.product)
   keeps other k e = elim (cases_eq other id) [
     | inl is ↦ by (find_kept old id) (ap (find_kept old) (sym is) ∙ e) h.held (ap (find_kept new) is)
     | inr ne ↦ (k, h.others other ne ∙ e, refl, refl)
   ]
     where
-      by : (o : Option Kept) → o ≡ Some k → Holding o name (find_kept new id) → find_kept new other ≡ find_kept new id → (l : Kept) × (find_kept new other ≡ Some l) × (l.name ≡ k.name) × (l.product ≡ k.product)
+      by : (o : Option Kept) → o ≡ Some k → HoldsOnce o name (find_kept new id) → find_kept new other ≡ find_kept new id → (l : Kept) × (find_kept new other ≡ Some l) × (l.name ≡ k.name) × (l.product ≡ k.product)
       by None none held at = absurd (none-some k none)
       by (Some j) some held at =
           let is = same_Some j k some in
@@ -43,7 +43,7 @@ module _ (old new : Names) (id : ℕ) (name : Values) (h : Holds old new id name
       let l = keeps x.0 (kept_at old x.0) e in
       ap (λ (o : Option Kept). (kept_or o).name) l.1 ∙ l.2
 
-  -- a name that gets a number had none
+  -- a name that gets a number had no number
   fresh : find_kept old id ≡ None → IsKnown old name → ⊥
   fresh none known = none-some known.1.0 (sym none ∙ ap (find_kept old) (sym (h.same known.0 known.1)) ∙ known.1.1)
 
@@ -65,7 +65,7 @@ module _ (old new : Names) (id : ℕ) (name : Values) (h : Holds old new id name
       not_before other e None is = is
       not_before other e (Some k) is = let l = keeps other k is in absurd (none-some l.0 (sym e ∙ l.1))
 
-      new_name : (o : Option Kept) → o ≡ None → Holding o name (find_kept new id) → (k : Kept) → find_kept new id ≡ Some k → k.name ≡ name
+      new_name : (o : Option Kept) → o ≡ None → HoldsOnce o name (find_kept new id) → (k : Kept) → find_kept new id ≡ Some k → k.name ≡ name
       new_name None none held k e = sym (ap (λ (m : Kept). m.name) (same_Some (kept name 1 held.0) k (sym held.1 ∙ e)))
       new_name (Some j) none held k e = absurd (none-some j (sym none))
 
@@ -90,7 +90,7 @@ module _ (old new : Names) (id : ℕ) (name : Values) (h : Holds old new id name
       itself : IsKnown new name
       itself = by (find_kept old id) h.held
         where
-          by : (o : Option Kept) → Holding o name (find_kept new id) → IsKnown new name
+          by : (o : Option Kept) → HoldsOnce o name (find_kept new id) → IsKnown new name
           by None held = (id, (kept name 1 held.0, held.1, refl))
           by (Some k) held = (id, (kept k.name (k.holds + 1) k.product, held.1, held.0))
 
@@ -98,7 +98,7 @@ module _ (old new : Names) (id : ℕ) (name : Values) (h : Holds old new id name
       knows n more true e = subst (IsKnown new) (sym ((same_name-Decides n name).0 e)) itself
       knows n more false e = known_still n (s.known n (omega (arith, more, named_first n name list, ap {B = ℕ} (λ (b : Bool). cond b 1 0) e)))
 
-      at_id : (o : Option Kept) → find_kept old id ≡ o → Holding o name (find_kept new id) → (k : Kept) → find_kept new id ≡ Some k → k.holds ≡ times_named k.name (name ∷ list)
+      at_id : (o : Option Kept) → find_kept old id ≡ o → HoldsOnce o name (find_kept new id) → (k : Kept) → find_kept new id ≡ Some k → k.holds ≡ times_named k.name (name ∷ list)
       at_id None none held k e =
           let is : kept name 1 held.0 ≡ k = same_Some (kept name 1 held.0) k (sym held.1 ∙ e) in
           subst (λ (m : Kept). m.holds ≡ times_named m.name (name ∷ list)) is (omega (arith, named_first name name list, ap {B = ℕ} (λ (b : Bool). cond b 1 0) (same_names name name refl), none_named (holds_in old) list s none))
@@ -119,7 +119,7 @@ module _ (old new : Names) (id : ℕ) (name : Values) (h : Holds old new id name
 -- ---- a release
 
 module _ (old new : Names) (id : ℕ) (r : Releases old new id) where
-  -- what is live was so, with its name
+  -- a live number was live before, with its name
   pub was_live : (other : ℕ) (k : Kept) → find_kept new other ≡ Some k → (j : Kept) × (find_kept old other ≡ Some j) × (j.name ≡ k.name)
   was_live other k e = elim (cases_eq other id) [
     | inl at ↦ by (find_kept old id) refl (sym (r.dropped) ∙ ap (find_kept new) (sym at) ∙ e) (ap (find_kept old) at)
@@ -134,7 +134,7 @@ module _ (old new : Names) (id : ℕ) (r : Releases old new id) where
       by None is gone at = absurd (none-some k gone)
       by (Some j) is gone at = (j, at ∙ is, less j (nat_lt 1 j.holds) gone)
 
-  -- what was live is so still, unless it was the last hold
+  -- a live number is still live, unless its last hold was released
   lives : (other : ℕ) (j : Kept) → find_kept old other ≡ Some j → (find_kept new other ≡ None) ⊎ ((k : Kept) × (find_kept new other ≡ Some k) × (k.name ≡ j.name))
   lives other j e = by (find_kept new other) refl
     where
@@ -175,8 +175,8 @@ module _ (old new : Names) (id : ℕ) (r : Releases old new id) where
         | inr k ↦ (known.0, (k.0, k.1, k.2 ∙ known.1.2))
       ]
 
-  module _ (name : Values) (list : List Values) (are : AreNames old) (has : HasName old id name) (s : Shows old (holds_in old) (name ∷ list)) where
-    -- the holds of the number
+  module _ (name : Values) (list : List Values) (are : IsNameTable old) (has : HasName old id name) (s : Shows old (holds_in old) (name ∷ list)) where
+    -- the number of holds of the number
     held : has.0.holds ≡ 1 + times_named name list
     held =
         omega (

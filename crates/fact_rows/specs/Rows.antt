@@ -6,15 +6,15 @@ use Rattle.cpe_rows.specs.Truth.{same_truth}
 use Rattle.cpe_rows.specs.declared.truth.Truth.{Truth}
 use Rattle.fact_rows.specs.declared.row.FactRow.{FactRow}
 
-abbrev pub one_if : Bool → ℕ
-one_if b = cond b 1 0
+abbrev pub count_if : Bool → ℕ
+count_if b = cond b 1 0
 
-abbrev pub row_at : List (ℕ × FactRow) → ℕ → Option FactRow
-row_at rows q = lookup (nat_eq q) rows
+abbrev pub fact_row_at : List (ℕ × FactRow) → ℕ → Option FactRow
+fact_row_at rows q = lookup (nat_eq q) rows
 
 -- the row with this truth; its fact is in the list of changed ones if the truth differs
-abbrev pub row_with : Truth → FactRow → FactRow
-row_with truth r = record { ends = r.ends; users = r.users; truth = truth; changed = r.changed || not (same_truth r.truth truth) }
+abbrev pub fact_row_with : Truth → FactRow → FactRow
+fact_row_with truth r = record { ends = r.ends; users = r.users; truth = truth; changed = r.changed || not (same_truth r.truth truth) }
 
 -- the truth differs, and the fact is not in the list of changed ones yet
 abbrev pub is_news : Truth → FactRow → Bool
@@ -27,9 +27,9 @@ is_changed (Some r) = r.changed
 
 -- the number of rows whose fact is not in that list
 abbrev pub unchanged : List (ℕ × FactRow) → ℕ
-unchanged rows = sum_by (λ (r : FactRow). one_if (not r.changed)) (values_of rows)
+unchanged rows = sum_by (λ (r : FactRow). count_if (not r.changed)) (values_of rows)
 
 -- The same rows are in that list.
 pub record KeepsChanged (old new : List (ℕ × FactRow)) : Type 0 where
-  pub marks : (q : ℕ) → is_changed (row_at new q) ≡ is_changed (row_at old q)
+  pub marks : (q : ℕ) → is_changed (fact_row_at new q) ≡ is_changed (fact_row_at old q)
   pub many : unchanged new ≡ unchanged old

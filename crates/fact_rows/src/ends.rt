@@ -1,8 +1,8 @@
 // The names to which facts lead, and the truth that the levels of a board give them.
 ghost use Rattle.std.specs.Prelude.{◌≡◌, false};
 ghost use Rattle.cpe_rows.specs.Verdict.{truth};
-ghost use Rattle.fact_rows.specs.Facts.{has_end, leads_by};
-ghost use Rattle.fact_rows.specs.Truths.{is_covered, is_maybe, truth_at};
+ghost use Rattle.fact_rows.specs.Facts.{has_end_of_fact, leads_by};
+ghost use Rattle.fact_rows.specs.Truths.{is_covered_level, is_maybe_level, truth_at_ends};
 
 use cpe_rows::{Mode, Truth};
 use level_board::{Level, LevelBoard};
@@ -10,13 +10,13 @@ use name_index::NameId;
 
 // Whether one of these names has the number.
 pub(crate) fn has_end(ends: &[NameId], end: u32) -> bool
-    ensures { result ≡ has_end ends.now end }
+    ensures { result ≡ has_end_of_fact ends.now end }
 {
     ends.iter().any(|id| id.0 == end)
 }
 
 fn is_covered(level: Level) -> bool
-    ensures { result ≡ is_covered level }
+    ensures { result ≡ is_covered_level level }
 {
     match level {
         Level::Covered => true,
@@ -25,7 +25,7 @@ fn is_covered(level: Level) -> bool
 }
 
 fn is_maybe(level: Level) -> bool
-    ensures { result ≡ is_maybe level }
+    ensures { result ≡ is_maybe_level level }
 {
     match level {
         Level::Maybe => true,
@@ -45,7 +45,7 @@ fn truth_of(maybe: bool) -> Truth
 
 // The truth of these names by their levels.
 fn truth_of_ends(board: &LevelBoard, ends: &[NameId]) -> Truth
-    ensures { result ≡ truth_at board.now ends.now }
+    ensures { result ≡ truth_at_ends board.now ends.now }
 {
     let mut maybe = false;
     for id in ends {
@@ -60,7 +60,7 @@ fn truth_of_ends(board: &LevelBoard, ends: &[NameId]) -> Truth
 
 // The truth of a fact with these ends: by its own level in mode plain, and by those of its ends in mode follow.
 pub(crate) fn truth_by(board: &LevelBoard, mode: Mode, fact: NameId, ends: &[NameId]) -> Truth
-    ensures { result ≡ truth_at board.now (leads_by mode fact.0 ends.now) }
+    ensures { result ≡ truth_at_ends board.now (leads_by mode fact.0 ends.now) }
 {
     match mode {
         Mode::Plain => truth_of_ends(board, &[fact]),

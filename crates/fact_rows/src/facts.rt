@@ -3,9 +3,9 @@ ghost use Rattle.std.specs.Prelude.{◌≡◌, ◌≢◌, ◌||◌, ℕ, [], tru
 ghost use Rattle.std.specs.Option.{option_map};
 ghost use Rattle.cpe_rows.specs.declared.statement.Mode.TheVariants.{Follow};
 ghost use Rattle.ticket_list.specs.Rising.{IsRising};
-ghost use Rattle.fact_rows.specs.Facts.{AreLinked, ends_of, fact_at, facts_of, has_end, has_room, is_fact, is_under_one, IsUnder, IsUnderNone, KeepsLinks, OthersStay, SameElsewhere, SameOthers, times_among, truth_of, users_of, with_ends};
+ghost use Rattle.fact_rows.specs.Facts.{AreLinkedFacts, ends_of_fact, fact_at, facts_with_end, has_end_of_fact, has_fact_room, is_fact, is_under_one, IsUnder, IsUnderNone, KeepsLinks, OthersStay, SameElsewhere, SameOthers, times_among, truth_of_fact, users_of, with_ends};
 ghost use Rattle.fact_rows.specs.Calls.{EndsSet, FactAdded, FactLinked, FactRemoved, FactUnlinked, Refreshed, SameFacts, UsersTo};
-ghost use Rattle.fact_rows.specs.Rows.{one_if};
+ghost use Rattle.fact_rows.specs.Rows.{count_if};
 ghost use Rattle.fact_rows.specs.Tickets.{ends_with, is_empty, with_last, without};
 
 use crate::links::{facts_of, link, unlink, unlink_old};
@@ -45,8 +45,8 @@ impl FactRows {
     /// A table without facts. Allocates: no.
     pub fn new(alloc: Global) -> FactRows
         ensures facts { (q : ℕ) → fact_at result q ≡ None }
-        ensures links { (e : ℕ) → facts_of result e ≡ [] }
-        ensures linked { AreLinked result }
+        ensures links { (e : ℕ) → facts_with_end result e ≡ [] }
+        ensures linked { AreLinkedFacts result }
         ensures changed { result.changed ≡ [] }
     {
         FactRows {
@@ -67,7 +67,7 @@ impl FactRows {
 
     /// The ends of a fact, or none if it is no fact.
     pub fn ends_of(&self, fact: NameId) -> &[NameId]
-        ensures { result.now ≡ ends_of self.now fact.0 }
+        ensures { result.now ≡ ends_of_fact self.now fact.0 }
     {
         ends_of(&self.rows, fact.0)
     }
@@ -81,14 +81,14 @@ impl FactRows {
 
     /// The truth of a fact, or UNKNOWN if it is no fact.
     pub fn truth_of(&self, fact: NameId) -> Truth
-        ensures { result ≡ truth_of self.now fact.0 }
+        ensures { result ≡ truth_of_fact self.now fact.0 }
     {
         truth_of(&self.rows, fact.0)
     }
 
     /// The facts of an end, in any order.
     pub fn facts_of(&self, end: NameId) -> &[NameId]
-        ensures { result.now ≡ facts_of self.now end.0 }
+        ensures { result.now ≡ facts_with_end self.now end.0 }
     {
         facts_of(&self.by_end, end.0)
     }
@@ -96,8 +96,8 @@ impl FactRows {
     /// The facts whose truth was replaced, each once.
     pub fn changed(&self) -> &[NameId]
         ensures value { result.now ≡ self.now.changed }
-        ensures facts { (q : ℕ) → has_end self.now.changed q ≡ true → is_fact self.now q ≡ true }
-        ensures once { (q : ℕ) → times_among self.now.changed q ≡ one_if (has_end self.now.changed q) }
+        ensures facts { (q : ℕ) → has_end_of_fact self.now.changed q ≡ true → is_fact self.now q ≡ true }
+        ensures once { (q : ℕ) → times_among self.now.changed q ≡ count_if (has_end_of_fact self.now.changed q) }
     {
         &self.changed
     }
@@ -127,10 +127,10 @@ impl FactRows {
     pub fn reserve_user(&mut self, fact: NameId) -> Result<(), Memory>
         requires { is_fact self.old fact.0 ≡ true }
         ensures same { SameFacts self.old self.new }
-        ensures truths { (q : ℕ) → truth_of self.new q ≡ truth_of self.old q }
+        ensures truths { (q : ℕ) → truth_of_fact self.new q ≡ truth_of_fact self.old q }
         ensures changed { self.new.changed ≡ self.old.changed }
         ensures others { OthersStay fact.0 self.old self.new }
-        ensures room { OnOk result (has_room self.new fact.0 ≡ true) }
+        ensures room { OnOk result (has_fact_room self.new fact.0 ≡ true) }
     {
         reserve_user(&mut self.rows, fact.0)
     }
@@ -165,7 +165,7 @@ impl FactRows {
 
     /// Removes a fact that is not among the changed ones, and its links. Allocates: no.
     pub fn remove_fact(&mut self, fact: NameId)
-        requires { has_end self.old.changed fact.0 ≡ false }
+        requires { has_end_of_fact self.old.changed fact.0 ≡ false }
         ensures { FactRemoved self.old self.new fact.0 }
     {
         unlink(&mut self.by_end, fact, ends_of(&self.rows, fact.0));
@@ -174,7 +174,7 @@ impl FactRows {
 
     /// Appends a ticket to the users of a fact, unless it is already the last of them. Allocates: no.
     pub fn add_user(&mut self, fact: NameId, ticket: u64)
-        requires { (has_room self.old fact.0 || ends_with ticket (users_of self.old fact.0)) ≡ true }
+        requires { (has_fact_room self.old fact.0 || ends_with ticket (users_of self.old fact.0)) ≡ true }
         ensures { UsersTo self.old self.new fact.0 (with_last ticket (users_of self.old fact.0)) }
     {
         add_user(&mut self.rows, fact.0, ticket);
@@ -201,7 +201,7 @@ impl FactRows {
 
     /// Computes again the truth of each of these facts, in a mode. Names that are no facts are skipped. Allocates: no.
     pub fn refresh_facts(&mut self, mode: Mode, facts: &[NameId], board: &LevelBoard)
-        ensures { Refreshed self.old self.new (has_end facts.now) mode board.now }
+        ensures { Refreshed self.old self.new (has_end_of_fact facts.now) mode board.now }
     {
         refresh_facts(&mut self.rows, &mut self.changed, mode, facts, board);
     }
@@ -210,7 +210,7 @@ impl FactRows {
     pub fn clear_changed(&mut self)
         ensures cleared { self.new.changed ≡ [] }
         ensures stay { (q : ℕ) → fact_at self.new q ≡ fact_at self.old q }
-        ensures links { (e : ℕ) → facts_of self.new e ≡ facts_of self.old e }
+        ensures links { (e : ℕ) → facts_with_end self.new e ≡ facts_with_end self.old e }
     {
         clear_changed(&mut self.rows, &mut self.changed);
     }

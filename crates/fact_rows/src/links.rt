@@ -2,11 +2,11 @@
 ghost use Rattle.std.specs.Prelude.{◌≡◌, ◌≢◌, ◌-◌, ℕ, [], true, false, nat_eq, None, OnOk, OnErr, position};
 ghost use Rattle.std.specs.Bool.{OnTrue};
 ghost use Rattle.std.specs.Map.{lookup};
-ghost use Rattle.fact_rows.specs.Facts.{AreOnce, facts_in, IsUnder, IsUnderNone, KeepsLinks, NoneIsEmpty, SameElsewhere, SameOthers, times_among, with_one};
+ghost use Rattle.fact_rows.specs.Facts.{AreOnce, facts_of_end, IsUnder, IsUnderNone, KeepsLinks, NoneIsEmpty, SameElsewhere, SameOthers, times_among, with_end};
 ghost use Rattle.name_index.specs.declared.table.NameId.{NameId};
-ghost use Rattle.fact_rows.specs.Facts.{has_end as is_among};
+ghost use Rattle.fact_rows.specs.Facts.{has_end_of_fact as is_among};
 ghost use Rattle.fact_rows.specs.Calls.{LinkAdded};
-ghost use Rattle.fact_rows.specs.Rows.{one_if};
+ghost use Rattle.fact_rows.specs.Rows.{count_if};
 
 use crate::ends::has_end;
 use cpe_rows::Memory;
@@ -16,7 +16,7 @@ use std::collections::HashMap;
 
 // The facts of an end.
 pub(crate) fn facts_of(facts: &HashMap<u32, Vec<NameId>>, end: u32) -> &[NameId]
-    ensures { result.now ≡ facts_in facts.now.entries end }
+    ensures { result.now ≡ facts_of_end facts.now.entries end }
 {
     match facts.get(&end) {
         Some(list) => list.as_slice(),
@@ -26,7 +26,7 @@ pub(crate) fn facts_of(facts: &HashMap<u32, Vec<NameId>>, end: u32) -> &[NameId]
 
 // Appends a name, unless it is in the list.
 fn add_once(list: &mut Vec<NameId>, id: NameId) -> Result<(), Memory>
-    ensures ok { OnOk result (list.new.items ≡ with_one id list.old.items) }
+    ensures ok { OnOk result (list.new.items ≡ with_end id list.old.items) }
     ensures err { OnErr result (list.new.items ≡ list.old.items) }
 {
     if has_end(list, id.0) {
@@ -58,7 +58,7 @@ fn add_first(
     end: u32,
     fact: NameId,
 ) -> Result<(), Memory>
-    requires { facts_in facts.old.entries end ≡ [] }
+    requires { facts_of_end facts.old.entries end ≡ [] }
     ensures { LinkAdded facts.old.entries facts.new.entries end fact result }
 {
     let mut list = Vec::new(alloc);
@@ -76,10 +76,10 @@ fn link_end(
     end: u32,
     fact: NameId,
 ) -> Result<(), Memory>
-    ensures here { OnOk result (is_among (facts_in facts.new.entries end) fact.0 ≡ true) }
-    ensures links { KeepsLinks (facts_in facts.old.entries) (facts_in facts.new.entries) }
-    ensures others { SameOthers fact.0 (facts_in facts.old.entries) (facts_in facts.new.entries) }
-    ensures elsewhere { (other : ℕ) → nat_eq end other ≡ false → facts_in facts.new.entries other ≡ facts_in facts.old.entries other }
+    ensures here { OnOk result (is_among (facts_of_end facts.new.entries end) fact.0 ≡ true) }
+    ensures links { KeepsLinks (facts_of_end facts.old.entries) (facts_of_end facts.new.entries) }
+    ensures others { SameOthers fact.0 (facts_of_end facts.old.entries) (facts_of_end facts.new.entries) }
+    ensures elsewhere { (other : ℕ) → nat_eq end other ≡ false → facts_of_end facts.new.entries other ≡ facts_of_end facts.old.entries other }
     ensures tight { NoneIsEmpty facts.old.entries → NoneIsEmpty facts.new.entries }
     ensures once { AreOnce facts.old.entries → AreOnce facts.new.entries }
 {
@@ -93,10 +93,10 @@ pub(crate) fn link(
     fact: NameId,
     ends: &[NameId],
 ) -> Result<(), Memory>
-    ensures ok { OnOk result (IsUnder (facts_in facts.new.entries) fact.0 ends.now) }
-    ensures links { KeepsLinks (facts_in facts.old.entries) (facts_in facts.new.entries) }
-    ensures others { SameOthers fact.0 (facts_in facts.old.entries) (facts_in facts.new.entries) }
-    ensures elsewhere { SameElsewhere ends.now (facts_in facts.old.entries) (facts_in facts.new.entries) }
+    ensures ok { OnOk result (IsUnder (facts_of_end facts.new.entries) fact.0 ends.now) }
+    ensures links { KeepsLinks (facts_of_end facts.old.entries) (facts_of_end facts.new.entries) }
+    ensures others { SameOthers fact.0 (facts_of_end facts.old.entries) (facts_of_end facts.new.entries) }
+    ensures elsewhere { SameElsewhere ends.now (facts_of_end facts.old.entries) (facts_of_end facts.new.entries) }
     ensures tight { NoneIsEmpty facts.old.entries → NoneIsEmpty facts.new.entries }
     ensures once { AreOnce facts.old.entries → AreOnce facts.new.entries }
 {
@@ -115,7 +115,7 @@ fn place_of(list: &[NameId], number: u32) -> Option<usize>
 // Removes a number. The last one moves to its place, since they have no order.
 fn remove_number(list: &mut Vec<NameId>, number: u32)
     ensures others { (q : ℕ) → q ≢ number → is_among list.new.items q ≡ is_among list.old.items q }
-    ensures times { (q : ℕ) → times_among list.new.items q ≡ times_among list.old.items q - one_if (nat_eq number q) }
+    ensures times { (q : ℕ) → times_among list.new.items q ≡ times_among list.old.items q - count_if (nat_eq number q) }
 {
     if let Some(place) = place_of(list, number) {
         list.swap_remove(place);
@@ -124,10 +124,10 @@ fn remove_number(list: &mut Vec<NameId>, number: u32)
 
 // Removes a fact from those of an end. Returns whether none is left.
 fn remove_at(facts: &mut HashMap<u32, Vec<NameId>>, end: u32, fact: NameId) -> bool
-    ensures empty { OnTrue result (facts_in facts.new.entries end ≡ []) }
-    ensures left { facts_in facts.new.entries end ≡ [] → result ≡ true }
-    ensures here { (q : ℕ) → q ≢ fact.0 → is_among (facts_in facts.new.entries end) q ≡ is_among (facts_in facts.old.entries end) q }
-    ensures times { (q : ℕ) → times_among (facts_in facts.new.entries end) q ≡ times_among (facts_in facts.old.entries end) q - one_if (nat_eq fact.0 q) }
+    ensures empty { OnTrue result (facts_of_end facts.new.entries end ≡ []) }
+    ensures left { facts_of_end facts.new.entries end ≡ [] → result ≡ true }
+    ensures here { (q : ℕ) → q ≢ fact.0 → is_among (facts_of_end facts.new.entries end) q ≡ is_among (facts_of_end facts.old.entries end) q }
+    ensures times { (q : ℕ) → times_among (facts_of_end facts.new.entries end) q ≡ times_among (facts_of_end facts.old.entries end) q - count_if (nat_eq fact.0 q) }
     ensures elsewhere { (other : ℕ) → nat_eq end other ≡ false → lookup (nat_eq other) facts.new.entries ≡ lookup (nat_eq other) facts.old.entries }
 {
     match facts.get_mut(&end) {
@@ -140,10 +140,10 @@ fn remove_at(facts: &mut HashMap<u32, Vec<NameId>>, end: u32, fact: NameId) -> b
 }
 
 fn remove_link(facts: &mut HashMap<u32, Vec<NameId>>, end: u32, fact: NameId)
-    ensures here { (q : ℕ) → q ≢ fact.0 → is_among (facts_in facts.new.entries end) q ≡ is_among (facts_in facts.old.entries end) q }
-    ensures times { (q : ℕ) → times_among (facts_in facts.new.entries end) q ≡ times_among (facts_in facts.old.entries end) q - one_if (nat_eq fact.0 q) }
+    ensures here { (q : ℕ) → q ≢ fact.0 → is_among (facts_of_end facts.new.entries end) q ≡ is_among (facts_of_end facts.old.entries end) q }
+    ensures times { (q : ℕ) → times_among (facts_of_end facts.new.entries end) q ≡ times_among (facts_of_end facts.old.entries end) q - count_if (nat_eq fact.0 q) }
     ensures elsewhere { (other : ℕ) → nat_eq end other ≡ false → lookup (nat_eq other) facts.new.entries ≡ lookup (nat_eq other) facts.old.entries }
-    ensures gone { facts_in facts.new.entries end ≡ [] → lookup (nat_eq end) facts.new.entries ≡ None }
+    ensures gone { facts_of_end facts.new.entries end ≡ [] → lookup (nat_eq end) facts.new.entries ≡ None }
 {
     if remove_at(facts, end, fact) {
         drop(facts.remove(&end));
@@ -152,23 +152,23 @@ fn remove_link(facts: &mut HashMap<u32, Vec<NameId>>, end: u32, fact: NameId)
 
 // Removes a fact from those of an end, and the list if it is empty then.
 fn unlink_end(facts: &mut HashMap<u32, Vec<NameId>>, end: u32, fact: NameId)
-    ensures others { SameOthers fact.0 (facts_in facts.old.entries) (facts_in facts.new.entries) }
-    ensures elsewhere { (other : ℕ) → nat_eq end other ≡ false → facts_in facts.new.entries other ≡ facts_in facts.old.entries other }
+    ensures others { SameOthers fact.0 (facts_of_end facts.old.entries) (facts_of_end facts.new.entries) }
+    ensures elsewhere { (other : ℕ) → nat_eq end other ≡ false → facts_of_end facts.new.entries other ≡ facts_of_end facts.old.entries other }
     ensures tight { NoneIsEmpty facts.old.entries → NoneIsEmpty facts.new.entries }
     ensures once { AreOnce facts.old.entries → AreOnce facts.new.entries }
-    ensures gone { AreOnce facts.old.entries → is_among (facts_in facts.new.entries end) fact.0 ≡ false }
-    ensures away { (e : ℕ) → is_among (facts_in facts.old.entries e) fact.0 ≡ false → is_among (facts_in facts.new.entries e) fact.0 ≡ false }
+    ensures gone { AreOnce facts.old.entries → is_among (facts_of_end facts.new.entries end) fact.0 ≡ false }
+    ensures away { (e : ℕ) → is_among (facts_of_end facts.old.entries e) fact.0 ≡ false → is_among (facts_of_end facts.new.entries e) fact.0 ≡ false }
 {
     remove_link(facts, end, fact);
 }
 
 // Removes a fact from those of each of these ends.
 pub(crate) fn unlink(facts: &mut HashMap<u32, Vec<NameId>>, fact: NameId, ends: &[NameId])
-    ensures others { SameOthers fact.0 (facts_in facts.old.entries) (facts_in facts.new.entries) }
-    ensures elsewhere { SameElsewhere ends.now (facts_in facts.old.entries) (facts_in facts.new.entries) }
+    ensures others { SameOthers fact.0 (facts_of_end facts.old.entries) (facts_of_end facts.new.entries) }
+    ensures elsewhere { SameElsewhere ends.now (facts_of_end facts.old.entries) (facts_of_end facts.new.entries) }
     ensures tight { NoneIsEmpty facts.old.entries → NoneIsEmpty facts.new.entries }
     ensures once { AreOnce facts.old.entries → AreOnce facts.new.entries }
-    ensures gone { AreOnce facts.old.entries → IsUnderNone (facts_in facts.new.entries) fact.0 ends.now }
+    ensures gone { AreOnce facts.old.entries → IsUnderNone (facts_of_end facts.new.entries) fact.0 ends.now }
 {
     for id in ends {
         unlink_end(facts, id.0, fact);
@@ -177,12 +177,12 @@ pub(crate) fn unlink(facts: &mut HashMap<u32, Vec<NameId>>, fact: NameId, ends: 
 
 // Removes a fact from those of an end, unless the end is one of these.
 fn unlink_unless(facts: &mut HashMap<u32, Vec<NameId>>, end: u32, fact: NameId, ends: &[NameId])
-    ensures others { SameOthers fact.0 (facts_in facts.old.entries) (facts_in facts.new.entries) }
-    ensures kept { (e : ℕ) → is_among ends.now e ≡ true → facts_in facts.new.entries e ≡ facts_in facts.old.entries e }
+    ensures others { SameOthers fact.0 (facts_of_end facts.old.entries) (facts_of_end facts.new.entries) }
+    ensures kept { (e : ℕ) → is_among ends.now e ≡ true → facts_of_end facts.new.entries e ≡ facts_of_end facts.old.entries e }
     ensures tight { NoneIsEmpty facts.old.entries → NoneIsEmpty facts.new.entries }
     ensures once { AreOnce facts.old.entries → AreOnce facts.new.entries }
-    ensures gone { AreOnce facts.old.entries → is_among ends.now end ≡ false → is_among (facts_in facts.new.entries end) fact.0 ≡ false }
-    ensures away { (e : ℕ) → is_among (facts_in facts.old.entries e) fact.0 ≡ false → is_among (facts_in facts.new.entries e) fact.0 ≡ false }
+    ensures gone { AreOnce facts.old.entries → is_among ends.now end ≡ false → is_among (facts_of_end facts.new.entries end) fact.0 ≡ false }
+    ensures away { (e : ℕ) → is_among (facts_of_end facts.old.entries e) fact.0 ≡ false → is_among (facts_of_end facts.new.entries e) fact.0 ≡ false }
 {
     if has_end(ends, end) {
         return;
@@ -197,11 +197,11 @@ pub(crate) fn unlink_old(
     old_ends: &[NameId],
     ends: &[NameId],
 )
-    ensures others { SameOthers fact.0 (facts_in facts.old.entries) (facts_in facts.new.entries) }
-    ensures kept { (e : ℕ) → is_among ends.now e ≡ true → facts_in facts.new.entries e ≡ facts_in facts.old.entries e }
+    ensures others { SameOthers fact.0 (facts_of_end facts.old.entries) (facts_of_end facts.new.entries) }
+    ensures kept { (e : ℕ) → is_among ends.now e ≡ true → facts_of_end facts.new.entries e ≡ facts_of_end facts.old.entries e }
     ensures tight { NoneIsEmpty facts.old.entries → NoneIsEmpty facts.new.entries }
     ensures once { AreOnce facts.old.entries → AreOnce facts.new.entries }
-    ensures gone { AreOnce facts.old.entries → (e : ℕ) → is_among old_ends.now e ≡ true → is_among ends.now e ≡ false → is_among (facts_in facts.new.entries e) fact.0 ≡ false }
+    ensures gone { AreOnce facts.old.entries → (e : ℕ) → is_among old_ends.now e ≡ true → is_among ends.now e ≡ false → is_among (facts_of_end facts.new.entries e) fact.0 ≡ false }
 {
     for id in old_ends {
         unlink_unless(facts, id.0, fact, ends);

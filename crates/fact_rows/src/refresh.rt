@@ -2,10 +2,10 @@
 ghost use Rattle.std.specs.Prelude.{◌≡◌, ◌+◌, ◌≤◌, ◌&&◌, ℕ, [], not, nat_eq, length};
 ghost use Rattle.std.specs.List.{list_any};
 ghost use Rattle.name_index.specs.declared.table.NameId.{NameId};
-ghost use Rattle.fact_rows.specs.Facts.{IsChangeList, fact_in, facts_in, has_end};
+ghost use Rattle.fact_rows.specs.Facts.{IsChangeList, fact_row_in, facts_of_end, has_end_of_fact};
 ghost use Rattle.cpe_rows.specs.declared.statement.Mode.TheVariants.{Follow};
 ghost use Rattle.fact_rows.specs.Calls.{RowsRefreshed};
-ghost use Rattle.fact_rows.specs.Rows.{is_changed, row_at, unchanged};
+ghost use Rattle.fact_rows.specs.Rows.{is_changed, fact_row_at, unchanged};
 
 use crate::links::facts_of;
 use crate::row::FactRow;
@@ -41,7 +41,7 @@ pub(crate) fn refresh_facts(
 )
     requires { IsChangeList rows.old.entries changed.old }
     ensures changes { IsChangeList rows.new.entries changed.new }
-    ensures rows { RowsRefreshed rows.old.entries rows.new.entries changed.old.items changed.new.items (has_end facts.now) mode board.now }
+    ensures rows { RowsRefreshed rows.old.entries rows.new.entries changed.old.items changed.new.items (has_end_of_fact facts.now) mode board.now }
 {
     for fact in facts {
         refresh_fact(rows, changed, mode, *fact, board);
@@ -58,7 +58,7 @@ pub(crate) fn refresh_ends(
 )
     requires { IsChangeList rows.old.entries changed.old }
     ensures changes { IsChangeList rows.new.entries changed.new }
-    ensures rows { RowsRefreshed rows.old.entries rows.new.entries changed.old.items changed.new.items (λ q. list_any (λ (id : NameId). has_end (facts_in by_end.now.entries id.0) q) ends.now) Follow board.now }
+    ensures rows { RowsRefreshed rows.old.entries rows.new.entries changed.old.items changed.new.items (λ q. list_any (λ (id : NameId). has_end_of_fact (facts_of_end by_end.now.entries id.0) q) ends.now) Follow board.now }
 {
     for end in ends {
         refresh_facts(rows, changed, Mode::Follow, facts_of(by_end, end.0), board);
@@ -67,8 +67,8 @@ pub(crate) fn refresh_ends(
 
 // Clears the flags of these facts, which are the changed ones.
 fn clear_rows(rows: &mut HashMap<u32, FactRow>, facts: &[NameId])
-    ensures facts { (q : ℕ) → fact_in rows.new.entries q ≡ fact_in rows.old.entries q }
-    ensures marks { (q : ℕ) → is_changed (row_at rows.new.entries q) ≡ (is_changed (row_at rows.old.entries q) && not (has_end facts.now q)) }
+    ensures facts { (q : ℕ) → fact_row_in rows.new.entries q ≡ fact_row_in rows.old.entries q }
+    ensures marks { (q : ℕ) → is_changed (fact_row_at rows.new.entries q) ≡ (is_changed (fact_row_at rows.old.entries q) && not (has_end_of_fact facts.now q)) }
     ensures many { unchanged rows.new.entries ≤ unchanged rows.old.entries + length facts.now }
 {
     for fact in facts {
@@ -80,7 +80,7 @@ pub(crate) fn clear_changed(rows: &mut HashMap<u32, FactRow>, changed: &mut Vec<
     requires { IsChangeList rows.old.entries changed.old }
     ensures changes { IsChangeList rows.new.entries changed.new }
     ensures cleared { changed.new.items ≡ [] }
-    ensures facts { (q : ℕ) → fact_in rows.new.entries q ≡ fact_in rows.old.entries q }
+    ensures facts { (q : ℕ) → fact_row_in rows.new.entries q ≡ fact_row_in rows.old.entries q }
 {
     clear_rows(rows, changed);
     changed.clear();

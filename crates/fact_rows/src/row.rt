@@ -2,10 +2,10 @@
 ghost use Rattle.std.specs.Prelude.{◌≡◌, ◌||◌, [], true, false, nat_lt, length, vec_capacity, IfOk, OnOk};
 ghost use Rattle.cpe_rows.specs.declared.truth.Truth.TheVariants.{Unknown};
 ghost use Rattle.ticket_list.specs.Rising.{IsRising};
-ghost use Rattle.fact_rows.specs.Facts.{differs, new_fact, has_end, leads_by, seen_fact, with_ends};
-ghost use Rattle.fact_rows.specs.Rows.{is_news, row_with};
+ghost use Rattle.fact_rows.specs.Facts.{truth_differs, new_fact, has_end_of_fact, leads_by, seen_fact, with_ends};
+ghost use Rattle.fact_rows.specs.Rows.{is_news, fact_row_with};
 ghost use Rattle.fact_rows.specs.Tickets.{ends_with, is_empty, with_last, without};
-ghost use Rattle.fact_rows.specs.Truths.{truth_at};
+ghost use Rattle.fact_rows.specs.Truths.{truth_at_ends};
 
 use crate::ends::truth_by;
 use crate::tickets::{add_last, remove_ticket};
@@ -44,7 +44,7 @@ pub(crate) fn new_row(alloc: Global, ends: Vec<NameId>) -> Result<FactRow, Memor
 
 // Whether two truths differ.
 fn differ(a: Truth, b: Truth) -> bool
-    ensures { result ≡ differs a b }
+    ensures { result ≡ truth_differs a b }
 {
     match (a, b) {
         (Truth::True, Truth::True) => false,
@@ -96,7 +96,7 @@ impl FactRow {
 
     // Sets the truth of a fact. Returns whether the fact has to be added to the list of changed ones.
     fn set_truth(&mut self, truth: Truth) -> bool
-        ensures row { self.new ≡ row_with truth self.old }
+        ensures row { self.new ≡ fact_row_with truth self.old }
         ensures news { result ≡ is_news truth self.old }
     {
         let differs = differ(self.truth, truth);
@@ -108,8 +108,8 @@ impl FactRow {
 
     // Computes the truth of a fact again. Returns whether the fact has to be added to the list of changed ones.
     pub(crate) fn refresh(&mut self, mode: Mode, fact: NameId, board: &LevelBoard) -> bool
-        ensures row { self.new ≡ row_with (truth_at board.now (leads_by mode fact.0 self.old.ends.items)) self.old }
-        ensures news { result ≡ is_news (truth_at board.now (leads_by mode fact.0 self.old.ends.items)) self.old }
+        ensures row { self.new ≡ fact_row_with (truth_at_ends board.now (leads_by mode fact.0 self.old.ends.items)) self.old }
+        ensures news { result ≡ is_news (truth_at_ends board.now (leads_by mode fact.0 self.old.ends.items)) self.old }
     {
         let truth = truth_by(board, mode, fact, &self.ends);
         self.set_truth(truth)

@@ -3,10 +3,10 @@ ghost use Rattle.std.specs.Prelude.{◌≡◌, ◌≢◌, ◌+◌, ◌<◌, ◌�
 ghost use Rattle.std.specs.HashMap.{spare};
 ghost use Rattle.std.specs.Option.{option_map, option_map_or};
 ghost use Rattle.ticket_list.specs.Rising.{IsRising};
-ghost use Rattle.fact_rows.specs.Facts.{AreOnce, has_end, ends_or_none, facts_in, IsUnder, KeepsLinks, NoneIsEmpty, SameOthers, fact_in, leads_by, room_or_none, truth_or_unknown, without_truth, users_or_none, with_ends};
-ghost use Rattle.fact_rows.specs.Rows.{is_changed, is_news, KeepsChanged, one_if, row_at, row_with, unchanged};
+ghost use Rattle.fact_rows.specs.Facts.{AreOnce, has_end_of_fact, ends_or_none, facts_of_end, IsUnder, KeepsLinks, NoneIsEmpty, SameOthers, fact_row_in, leads_by, room_or_none, truth_or_unknown, without_truth, users_or_none, with_ends};
+ghost use Rattle.fact_rows.specs.Rows.{is_changed, is_news, KeepsChanged, count_if, fact_row_at, fact_row_with, unchanged};
 ghost use Rattle.fact_rows.specs.Tickets.{ends_with, is_empty, with_last, without};
-ghost use Rattle.fact_rows.specs.Truths.{truth_at};
+ghost use Rattle.fact_rows.specs.Truths.{truth_at_ends};
 
 use crate::links::{link, unlink};
 use crate::row::FactRow;
@@ -19,7 +19,7 @@ use std::collections::HashMap;
 // ---- reads
 
 pub(crate) fn has(rows: &HashMap<u32, FactRow>, fact: u32) -> bool
-    ensures { result ≡ is_some (fact_in rows.now.entries fact) }
+    ensures { result ≡ is_some (fact_row_in rows.now.entries fact) }
 {
     match rows.get(&fact) {
         Some(_) => true,
@@ -28,7 +28,7 @@ pub(crate) fn has(rows: &HashMap<u32, FactRow>, fact: u32) -> bool
 }
 
 pub(crate) fn ends_of(rows: &HashMap<u32, FactRow>, fact: u32) -> &[NameId]
-    ensures { result.now ≡ ends_or_none (fact_in rows.now.entries fact) }
+    ensures { result.now ≡ ends_or_none (fact_row_in rows.now.entries fact) }
 {
     match rows.get(&fact) {
         Some(row) => row.ends.as_slice(),
@@ -37,7 +37,7 @@ pub(crate) fn ends_of(rows: &HashMap<u32, FactRow>, fact: u32) -> &[NameId]
 }
 
 pub(crate) fn users_of(rows: &HashMap<u32, FactRow>, fact: u32) -> &[u64]
-    ensures { result.now ≡ users_or_none (fact_in rows.now.entries fact) }
+    ensures { result.now ≡ users_or_none (fact_row_in rows.now.entries fact) }
 {
     match rows.get(&fact) {
         Some(row) => row.users.as_slice(),
@@ -46,7 +46,7 @@ pub(crate) fn users_of(rows: &HashMap<u32, FactRow>, fact: u32) -> &[u64]
 }
 
 pub(crate) fn truth_of(rows: &HashMap<u32, FactRow>, fact: u32) -> Truth
-    ensures { result ≡ truth_or_unknown (fact_in rows.now.entries fact) }
+    ensures { result ≡ truth_or_unknown (fact_row_in rows.now.entries fact) }
 {
     match rows.get(&fact) {
         Some(row) => row.truth,
@@ -61,7 +61,7 @@ pub(crate) fn reserve_row(
     rows: &mut HashMap<u32, FactRow>,
     changed: &mut Vec<NameId>,
 ) -> Result<(), Memory>
-    ensures rows { (q : ℕ) → row_at rows.new.entries q ≡ row_at rows.old.entries q }
+    ensures rows { (q : ℕ) → fact_row_at rows.new.entries q ≡ fact_row_at rows.old.entries q }
     ensures many { unchanged rows.new.entries ≡ unchanged rows.old.entries }
     ensures changed { changed.new.items ≡ changed.old.items }
     ensures capacity { vec_capacity changed.old ≤ vec_capacity changed.new }
@@ -79,11 +79,11 @@ pub(crate) fn reserve_row(
 
 // Adds the row of a fact. It takes no memory.
 pub(crate) fn insert_row(rows: &mut HashMap<u32, FactRow>, fact: u32, row: FactRow)
-    requires none { row_at rows.old.entries fact ≡ None }
+    requires none { fact_row_at rows.old.entries fact ≡ None }
     requires spare { 0 < spare rows.old }
-    ensures here { row_at rows.new.entries fact ≡ Some row }
-    ensures others { (q : ℕ) → nat_eq fact q ≡ false → row_at rows.new.entries q ≡ row_at rows.old.entries q }
-    ensures many { unchanged rows.new.entries ≡ unchanged rows.old.entries + one_if (not row.changed) }
+    ensures here { fact_row_at rows.new.entries fact ≡ Some row }
+    ensures others { (q : ℕ) → nat_eq fact q ≡ false → fact_row_at rows.new.entries q ≡ fact_row_at rows.old.entries q }
+    ensures many { unchanged rows.new.entries ≡ unchanged rows.old.entries + count_if (not row.changed) }
 {
     match rows.insert(fact, row) {
         Ok(_) => {}
@@ -102,17 +102,17 @@ pub(crate) fn add_row(
     fact: NameId,
     row: FactRow,
 ) -> Result<(), Memory>
-    requires none { row_at rows.old.entries fact.0 ≡ None }
+    requires none { fact_row_at rows.old.entries fact.0 ≡ None }
     requires spare { 0 < spare rows.old }
     requires once { AreOnce by_end.old.entries }
-    ensures here { OnOk result (row_at rows.new.entries fact.0 ≡ Some row) }
-    ensures others { (q : ℕ) → nat_eq fact.0 q ≡ false → row_at rows.new.entries q ≡ row_at rows.old.entries q }
-    ensures many { OnOk result (unchanged rows.new.entries ≡ unchanged rows.old.entries + one_if (not row.changed)) }
+    ensures here { OnOk result (fact_row_at rows.new.entries fact.0 ≡ Some row) }
+    ensures others { (q : ℕ) → nat_eq fact.0 q ≡ false → fact_row_at rows.new.entries q ≡ fact_row_at rows.old.entries q }
+    ensures many { OnOk result (unchanged rows.new.entries ≡ unchanged rows.old.entries + count_if (not row.changed)) }
     ensures err { OnErr result (rows.new.entries ≡ rows.old.entries) }
-    ensures under { OnOk result (IsUnder (facts_in by_end.new.entries) fact.0 row.ends.items) }
-    ensures left { OnErr result ((e : ℕ) → has_end (facts_in by_end.old.entries e) fact.0 ≡ false → has_end (facts_in by_end.new.entries e) fact.0 ≡ false) }
-    ensures kept { OnOk result (KeepsLinks (facts_in by_end.old.entries) (facts_in by_end.new.entries)) }
-    ensures links { SameOthers fact.0 (facts_in by_end.old.entries) (facts_in by_end.new.entries) }
+    ensures under { OnOk result (IsUnder (facts_of_end by_end.new.entries) fact.0 row.ends.items) }
+    ensures left { OnErr result ((e : ℕ) → has_end_of_fact (facts_of_end by_end.old.entries e) fact.0 ≡ false → has_end_of_fact (facts_of_end by_end.new.entries e) fact.0 ≡ false) }
+    ensures kept { OnOk result (KeepsLinks (facts_of_end by_end.old.entries) (facts_of_end by_end.new.entries)) }
+    ensures links { SameOthers fact.0 (facts_of_end by_end.old.entries) (facts_of_end by_end.new.entries) }
     ensures tight { NoneIsEmpty by_end.old.entries → NoneIsEmpty by_end.new.entries }
     ensures lists { AreOnce by_end.new.entries }
 {
@@ -131,8 +131,8 @@ pub(crate) fn add_row(
 
 // Removes the row of a fact.
 pub(crate) fn remove_row(rows: &mut HashMap<u32, FactRow>, fact: u32)
-    ensures here { row_at rows.new.entries fact ≡ None }
-    ensures others { (q : ℕ) → nat_eq fact q ≡ false → row_at rows.new.entries q ≡ row_at rows.old.entries q }
+    ensures here { fact_row_at rows.new.entries fact ≡ None }
+    ensures others { (q : ℕ) → nat_eq fact q ≡ false → fact_row_at rows.new.entries q ≡ fact_row_at rows.old.entries q }
     ensures many { unchanged rows.new.entries ≤ unchanged rows.old.entries }
 {
     drop(rows.remove(&fact));
@@ -142,8 +142,8 @@ pub(crate) fn remove_row(rows: &mut HashMap<u32, FactRow>, fact: u32)
 
 // Replaces the ends of a fact. It takes no memory.
 pub(crate) fn set_ends(rows: &mut HashMap<u32, FactRow>, fact: u32, ends: Vec<NameId>)
-    ensures here { fact_in rows.new.entries fact ≡ option_map (with_ends ends.items) (fact_in rows.old.entries fact) }
-    ensures others { (q : ℕ) → nat_eq fact q ≡ false → row_at rows.new.entries q ≡ row_at rows.old.entries q }
+    ensures here { fact_row_in rows.new.entries fact ≡ option_map (with_ends ends.items) (fact_row_in rows.old.entries fact) }
+    ensures others { (q : ℕ) → nat_eq fact q ≡ false → fact_row_at rows.new.entries q ≡ fact_row_at rows.old.entries q }
     ensures marks { KeepsChanged rows.old.entries rows.new.entries }
 {
     match rows.get_mut(&fact) {
@@ -154,13 +154,13 @@ pub(crate) fn set_ends(rows: &mut HashMap<u32, FactRow>, fact: u32, ends: Vec<Na
 
 // Reserves room for one more user of a fact.
 pub(crate) fn reserve_user(rows: &mut HashMap<u32, FactRow>, fact: u32) -> Result<(), Memory>
-    requires { is_some (fact_in rows.old.entries fact) ≡ true }
-    ensures ends { ends_or_none (fact_in rows.new.entries fact) ≡ ends_or_none (fact_in rows.old.entries fact) }
-    ensures users { users_or_none (fact_in rows.new.entries fact) ≡ users_or_none (fact_in rows.old.entries fact) }
-    ensures truth { truth_or_unknown (fact_in rows.new.entries fact) ≡ truth_or_unknown (fact_in rows.old.entries fact) }
-    ensures there { is_some (fact_in rows.new.entries fact) ≡ is_some (fact_in rows.old.entries fact) }
-    ensures room { OnOk result (room_or_none (fact_in rows.new.entries fact) ≡ true) }
-    ensures others { (q : ℕ) → nat_eq fact q ≡ false → row_at rows.new.entries q ≡ row_at rows.old.entries q }
+    requires { is_some (fact_row_in rows.old.entries fact) ≡ true }
+    ensures ends { ends_or_none (fact_row_in rows.new.entries fact) ≡ ends_or_none (fact_row_in rows.old.entries fact) }
+    ensures users { users_or_none (fact_row_in rows.new.entries fact) ≡ users_or_none (fact_row_in rows.old.entries fact) }
+    ensures truth { truth_or_unknown (fact_row_in rows.new.entries fact) ≡ truth_or_unknown (fact_row_in rows.old.entries fact) }
+    ensures there { is_some (fact_row_in rows.new.entries fact) ≡ is_some (fact_row_in rows.old.entries fact) }
+    ensures room { OnOk result (room_or_none (fact_row_in rows.new.entries fact) ≡ true) }
+    ensures others { (q : ℕ) → nat_eq fact q ≡ false → fact_row_at rows.new.entries q ≡ fact_row_at rows.old.entries q }
     ensures marks { KeepsChanged rows.old.entries rows.new.entries }
 {
     match rows.get_mut(&fact) {
@@ -171,12 +171,12 @@ pub(crate) fn reserve_user(rows: &mut HashMap<u32, FactRow>, fact: u32) -> Resul
 
 // Adds a user to a fact. It takes no memory.
 pub(crate) fn add_user(rows: &mut HashMap<u32, FactRow>, fact: u32, ticket: u64)
-    requires { (room_or_none (fact_in rows.old.entries fact) || ends_with ticket (users_or_none (fact_in rows.old.entries fact))) ≡ true }
-    ensures users { users_or_none (fact_in rows.new.entries fact) ≡ with_last ticket (users_or_none (fact_in rows.old.entries fact)) }
-    ensures ends { ends_or_none (fact_in rows.new.entries fact) ≡ ends_or_none (fact_in rows.old.entries fact) }
-    ensures truth { truth_or_unknown (fact_in rows.new.entries fact) ≡ truth_or_unknown (fact_in rows.old.entries fact) }
-    ensures there { is_some (fact_in rows.new.entries fact) ≡ is_some (fact_in rows.old.entries fact) }
-    ensures others { (q : ℕ) → nat_eq fact q ≡ false → row_at rows.new.entries q ≡ row_at rows.old.entries q }
+    requires { (room_or_none (fact_row_in rows.old.entries fact) || ends_with ticket (users_or_none (fact_row_in rows.old.entries fact))) ≡ true }
+    ensures users { users_or_none (fact_row_in rows.new.entries fact) ≡ with_last ticket (users_or_none (fact_row_in rows.old.entries fact)) }
+    ensures ends { ends_or_none (fact_row_in rows.new.entries fact) ≡ ends_or_none (fact_row_in rows.old.entries fact) }
+    ensures truth { truth_or_unknown (fact_row_in rows.new.entries fact) ≡ truth_or_unknown (fact_row_in rows.old.entries fact) }
+    ensures there { is_some (fact_row_in rows.new.entries fact) ≡ is_some (fact_row_in rows.old.entries fact) }
+    ensures others { (q : ℕ) → nat_eq fact q ≡ false → fact_row_at rows.new.entries q ≡ fact_row_at rows.old.entries q }
     ensures marks { KeepsChanged rows.old.entries rows.new.entries }
 {
     match rows.get_mut(&fact) {
@@ -187,13 +187,13 @@ pub(crate) fn add_user(rows: &mut HashMap<u32, FactRow>, fact: u32, ticket: u64)
 
 // Removes a user of a fact. Returns whether none is left. It takes no memory.
 pub(crate) fn remove_user(rows: &mut HashMap<u32, FactRow>, fact: u32, ticket: u64) -> bool
-    requires { IsRising (users_or_none (fact_in rows.old.entries fact)) }
-    ensures users { users_or_none (fact_in rows.new.entries fact) ≡ without ticket (users_or_none (fact_in rows.old.entries fact)) }
-    ensures none { result ≡ is_empty (users_or_none (fact_in rows.new.entries fact)) }
-    ensures ends { ends_or_none (fact_in rows.new.entries fact) ≡ ends_or_none (fact_in rows.old.entries fact) }
-    ensures truth { truth_or_unknown (fact_in rows.new.entries fact) ≡ truth_or_unknown (fact_in rows.old.entries fact) }
-    ensures there { is_some (fact_in rows.new.entries fact) ≡ is_some (fact_in rows.old.entries fact) }
-    ensures others { (q : ℕ) → nat_eq fact q ≡ false → row_at rows.new.entries q ≡ row_at rows.old.entries q }
+    requires { IsRising (users_or_none (fact_row_in rows.old.entries fact)) }
+    ensures users { users_or_none (fact_row_in rows.new.entries fact) ≡ without ticket (users_or_none (fact_row_in rows.old.entries fact)) }
+    ensures none { result ≡ is_empty (users_or_none (fact_row_in rows.new.entries fact)) }
+    ensures ends { ends_or_none (fact_row_in rows.new.entries fact) ≡ ends_or_none (fact_row_in rows.old.entries fact) }
+    ensures truth { truth_or_unknown (fact_row_in rows.new.entries fact) ≡ truth_or_unknown (fact_row_in rows.old.entries fact) }
+    ensures there { is_some (fact_row_in rows.new.entries fact) ≡ is_some (fact_row_in rows.old.entries fact) }
+    ensures others { (q : ℕ) → nat_eq fact q ≡ false → fact_row_at rows.new.entries q ≡ fact_row_at rows.old.entries q }
     ensures marks { KeepsChanged rows.old.entries rows.new.entries }
 {
     match rows.get_mut(&fact) {
@@ -209,10 +209,10 @@ pub(crate) fn refresh_row(
     fact: NameId,
     board: &LevelBoard,
 ) -> bool
-    ensures here { row_at rows.new.entries fact.0 ≡ option_map (λ r. row_with (truth_at board.now (leads_by mode fact.0 r.ends.items)) r) (row_at rows.old.entries fact.0) }
-    ensures others { (q : ℕ) → nat_eq fact.0 q ≡ false → row_at rows.new.entries q ≡ row_at rows.old.entries q }
-    ensures news { result ≡ option_map_or (λ r. is_news (truth_at board.now (leads_by mode fact.0 r.ends.items)) r) (row_at rows.old.entries fact.0) false }
-    ensures many { unchanged rows.new.entries + one_if result ≡ unchanged rows.old.entries }
+    ensures here { fact_row_at rows.new.entries fact.0 ≡ option_map (λ r. fact_row_with (truth_at_ends board.now (leads_by mode fact.0 r.ends.items)) r) (fact_row_at rows.old.entries fact.0) }
+    ensures others { (q : ℕ) → nat_eq fact.0 q ≡ false → fact_row_at rows.new.entries q ≡ fact_row_at rows.old.entries q }
+    ensures news { result ≡ option_map_or (λ r. is_news (truth_at_ends board.now (leads_by mode fact.0 r.ends.items)) r) (fact_row_at rows.old.entries fact.0) false }
+    ensures many { unchanged rows.new.entries + count_if result ≡ unchanged rows.old.entries }
 {
     match rows.get_mut(&fact.0) {
         Some(row) => row.refresh(mode, fact, board),
@@ -222,9 +222,9 @@ pub(crate) fn refresh_row(
 
 // Clears the flag that a fact is in the list of changed ones.
 pub(crate) fn clear_row(rows: &mut HashMap<u32, FactRow>, fact: u32)
-    ensures here { fact_in rows.new.entries fact ≡ fact_in rows.old.entries fact }
-    ensures unchanged { is_changed (row_at rows.new.entries fact) ≡ false }
-    ensures others { (q : ℕ) → nat_eq fact q ≡ false → row_at rows.new.entries q ≡ row_at rows.old.entries q }
+    ensures here { fact_row_in rows.new.entries fact ≡ fact_row_in rows.old.entries fact }
+    ensures unchanged { is_changed (fact_row_at rows.new.entries fact) ≡ false }
+    ensures others { (q : ℕ) → nat_eq fact q ≡ false → fact_row_at rows.new.entries q ≡ fact_row_at rows.old.entries q }
     ensures many { unchanged rows.new.entries ≤ unchanged rows.old.entries + 1 }
 {
     if let Some(row) = rows.get_mut(&fact) {

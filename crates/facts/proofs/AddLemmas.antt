@@ -3,7 +3,7 @@ use Rattle.std.proofs.Common.{◌≡◌, ℕ, suc, zero, ◌<◌, Bool, true, fa
 use Rattle.std.specs.Prelude.{is_some}
 use Rattle.std.proofs.lemmas.Bool.{both_ways, cases_eq, or_cases, or_left, or_right, true≢false}
 use Rattle.name_index.specs.declared.table.NameId.{NameId}
-use Rattle.fact_rows.specs.Facts.{ends_or_none, truth_or_unknown, Fact, fact_at, facts_of, FactTable, has_end, has_room, room_or_none, users_of, users_or_none}
+use Rattle.fact_rows.specs.Facts.{ends_or_none, truth_or_unknown, Fact, fact_at, facts_with_end, FactTable, has_end_of_fact, has_fact_room, room_or_none, users_of, users_or_none}
 use Rattle.fact_rows.specs.Calls.{UsersTo}
 use Rattle.fact_rows.specs.Tickets.{ends_with, with_last}
 use Rattle.facts.specs.Calls.{UsersAdded}
@@ -73,21 +73,21 @@ module _ (a b c : FactTable) (so which : ℕ → Bool) (id ticket : ℕ) (same :
   }
 
 -- there is room for each
-pub room_next : (a b : FactTable) (so : ℕ → Bool) (id ticket : ℕ) → UsersAdded a b so ticket → (has_room a id || ends_with ticket (users_of a id)) ≡ true → (has_room b id || ends_with ticket (users_of b id)) ≡ true
+pub room_next : (a b : FactTable) (so : ℕ → Bool) (id ticket : ℕ) → UsersAdded a b so ticket → (has_fact_room a id || ends_with ticket (users_of a id)) ≡ true → (has_fact_room b id || ends_with ticket (users_of b id)) ≡ true
 room_next a b so id ticket u room = by (so id) refl
   where
-    by : (s : Bool) → so id ≡ s → (has_room b id || ends_with ticket (users_of b id)) ≡ true
-    by true s = or_right (has_room b id) (ends_with ticket (users_of b id)) (ap (ends_with ticket) (u.here id s) ∙ with_ends ticket (users_of a id))
+    by : (s : Bool) → so id ≡ s → (has_fact_room b id || ends_with ticket (users_of b id)) ≡ true
+    by true s = or_right (has_fact_room b id) (ends_with ticket (users_of b id)) (ap (ends_with ticket) (u.here id s) ∙ with_ends ticket (users_of a id))
     by false s = ap (λ (o : Option Fact). room_or_none o || ends_with ticket (users_or_none o)) (u.others id s) ∙ room
 
 -- an element of a list is in it
-pub among_ends : (ids : List NameId) (i : ℕ) (d : NameId) → i < length ids → has_end ids (get_or ids i d).0 ≡ true
+pub among_ends : (ids : List NameId) (i : ℕ) (d : NameId) → i < length ids → has_end_of_fact ids (get_or ids i d).0 ≡ true
 among_ends [] i d lt = absurd (omega (arith, lt))
-among_ends (x ∷ ids) zero d lt = or_left (nat_eq x.0 x.0) (has_end ids x.0) (eq-eqb x.0 x.0 refl)
-among_ends (x ∷ ids) (suc i) d lt = or_right (nat_eq x.0 (get_or ids i d).0) (has_end ids (get_or ids i d).0) (among_ends ids i d (omega (arith, lt)))
+among_ends (x ∷ ids) zero d lt = or_left (nat_eq x.0 x.0) (has_end_of_fact ids x.0) (eq-eqb x.0 x.0 refl)
+among_ends (x ∷ ids) (suc i) d lt = or_right (nat_eq x.0 (get_or ids i d).0) (has_end_of_fact ids (get_or ids i d).0) (among_ends ids i d (omega (arith, lt)))
 
 -- the same for a table with the same facts and other changes
-pub added_to : (t cleared new : FactTable) (which : ℕ → Bool) (ticket : ℕ) → ((q : ℕ) → fact_at cleared q ≡ fact_at t q) → ((e : ℕ) → facts_of cleared e ≡ facts_of t e) → UsersAdded cleared new which ticket → UsersAdded t new which ticket
+pub added_to : (t cleared new : FactTable) (which : ℕ → Bool) (ticket : ℕ) → ((q : ℕ) → fact_at cleared q ≡ fact_at t q) → ((e : ℕ) → facts_with_end cleared e ≡ facts_with_end t e) → UsersAdded cleared new which ticket → UsersAdded t new which ticket
 added_to t cleared new which ticket stay links u = record {
   here = λ q w. u.here q w ∙ ap (λ (o : Option Fact). with_last ticket (users_or_none o)) (stay q);
   others = λ q w. u.others q w ∙ stay q;
@@ -97,6 +97,6 @@ added_to t cleared new which ticket stay links u = record {
   facts = λ e. u.facts e ∙ links e;
 }
 
-pub room_still : (t cleared : FactTable) (ids : List NameId) (ticket : ℕ) → ((q : ℕ) → fact_at cleared q ≡ fact_at t q) → ((q : ℕ) → has_end ids q ≡ true → (has_room t q || ends_with ticket (users_of t q)) ≡ true)
-    → (q : ℕ) → has_end ids q ≡ true → (has_room cleared q || ends_with ticket (users_of cleared q)) ≡ true
+pub room_still : (t cleared : FactTable) (ids : List NameId) (ticket : ℕ) → ((q : ℕ) → fact_at cleared q ≡ fact_at t q) → ((q : ℕ) → has_end_of_fact ids q ≡ true → (has_fact_room t q || ends_with ticket (users_of t q)) ≡ true)
+    → (q : ℕ) → has_end_of_fact ids q ≡ true → (has_fact_room cleared q || ends_with ticket (users_of cleared q)) ≡ true
 room_still t cleared ids ticket stay room q h = ap (λ (o : Option Fact). room_or_none o || ends_with ticket (users_or_none o)) (stay q) ∙ room q h

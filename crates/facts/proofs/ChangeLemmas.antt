@@ -5,13 +5,13 @@ use Rattle.std.proofs.lemmas.Bool.{true≢false}
 use Rattle.name_index.specs.declared.table.NameId.{NameId}
 use Rattle.cpe_rows.specs.declared.truth.Truth.{Truth}
 use Rattle.cpe_rows.specs.declared.truth.Truth.TheVariants.{True, False, Unknown, Error}
-use Rattle.fact_rows.specs.Facts.{differs, FactTable, has_end, truth_of}
+use Rattle.fact_rows.specs.Facts.{truth_differs, FactTable, has_end_of_fact, truth_of_fact}
 use Rattle.fact_rows.specs.Tickets.{is_empty}
 use Rattle.fact_rows.proofs.RefreshLemmas.{differs_not}
 use Rattle.facts.specs.Facts.{AreChanges, is_used}
 use Rattle.facts.specs.Leads.{ChangesTo, SameUsers}
 
-pub differs_is : (s t : Truth) → differs s t ≡ false → s ≡ t
+pub differs_is : (s t : Truth) → truth_differs s t ≡ false → s ≡ t
 differs_is True True e = refl
 differs_is True False e = absurd (true≢false e)
 differs_is True Unknown e = absurd (true≢false e)
@@ -35,8 +35,8 @@ or_true false = refl
 
 pub changes_none : (t : FactTable) (truth : ℕ → Truth) → ChangesTo t t truth
 changes_none t truth = record {
-  listed = λ q. sym (ap (λ (b : Bool). has_end t.changed q || b) (differs_not (truth_of t q)) ∙ or-false (has_end t.changed q));
-  right = λ q d. absurd (true≢false (sym d ∙ differs_not (truth_of t q)));
+  listed = λ q. sym (ap (λ (b : Bool). has_end_of_fact t.changed q || b) (differs_not (truth_of_fact t q)) ∙ or-false (has_end_of_fact t.changed q));
+  right = λ q d. absurd (true≢false (sym d ∙ differs_not (truth_of_fact t q)));
 }
 
 pub users_none : (t : FactTable) → SameUsers t t
@@ -46,46 +46,46 @@ pub users_again : (a b c : FactTable) → SameUsers a b → SameUsers b c → Sa
 users_again a b c u v = record { there = λ q. v.there q ∙ u.there q; users = λ q. v.users q ∙ u.users q }
 
 module _ (a b c : FactTable) (truth : ℕ → Truth) (u : ChangesTo a b truth) (v : ChangesTo b c truth) (same : SameUsers b c) where
-  listed_both : (q : ℕ) (d : Bool) → differs (truth_of b q) (truth_of c q) ≡ d → has_end c.changed q ≡ (has_end a.changed q || differs (truth_of a q) (truth_of c q))
+  listed_both : (q : ℕ) (d : Bool) → truth_differs (truth_of_fact b q) (truth_of_fact c q) ≡ d → has_end_of_fact c.changed q ≡ (has_end_of_fact a.changed q || truth_differs (truth_of_fact a q) (truth_of_fact c q))
   listed_both q false d =
       v.listed q
-      ∙ ap (λ (x : Bool). has_end b.changed q || x) d
-      ∙ or-false (has_end b.changed q)
+      ∙ ap (λ (x : Bool). has_end_of_fact b.changed q || x) d
+      ∙ or-false (has_end_of_fact b.changed q)
       ∙ u.listed q
-      ∙ ap (λ (t : Truth). has_end a.changed q || differs (truth_of a q) t) (differs_is (truth_of b q) (truth_of c q) d)
-  listed_both q true d = by (differs (truth_of a q) (truth_of b q)) refl
+      ∙ ap (λ (t : Truth). has_end_of_fact a.changed q || truth_differs (truth_of_fact a q) t) (differs_is (truth_of_fact b q) (truth_of_fact c q) d)
+  listed_both q true d = by (truth_differs (truth_of_fact a q) (truth_of_fact b q)) refl
     where
-      by : (e : Bool) → differs (truth_of a q) (truth_of b q) ≡ e → has_end c.changed q ≡ (has_end a.changed q || differs (truth_of a q) (truth_of c q))
+      by : (e : Bool) → truth_differs (truth_of_fact a q) (truth_of_fact b q) ≡ e → has_end_of_fact c.changed q ≡ (has_end_of_fact a.changed q || truth_differs (truth_of_fact a q) (truth_of_fact c q))
       by true e =
-          let same_now : truth_of b q ≡ truth_of c q = (u.right q e).1 ∙ sym (v.right q d).1 in
-          absurd (true≢false (sym d ∙ ap (λ (t : Truth). differs t (truth_of c q)) same_now ∙ differs_not (truth_of c q)))
+          let same_now : truth_of_fact b q ≡ truth_of_fact c q = (u.right q e).1 ∙ sym (v.right q d).1 in
+          absurd (true≢false (sym d ∙ ap (λ (t : Truth). truth_differs t (truth_of_fact c q)) same_now ∙ differs_not (truth_of_fact c q)))
       by false e =
-          let was = differs_is (truth_of a q) (truth_of b q) e in
+          let was = differs_is (truth_of_fact a q) (truth_of_fact b q) e in
           v.listed q
-          ∙ ap (λ (x : Bool). x || differs (truth_of b q) (truth_of c q)) (u.listed q ∙ ap (λ (x : Bool). has_end a.changed q || x) e ∙ or-false (has_end a.changed q))
-          ∙ ap (λ (t : Truth). has_end a.changed q || differs t (truth_of c q)) (sym was)
+          ∙ ap (λ (x : Bool). x || truth_differs (truth_of_fact b q) (truth_of_fact c q)) (u.listed q ∙ ap (λ (x : Bool). has_end_of_fact a.changed q || x) e ∙ or-false (has_end_of_fact a.changed q))
+          ∙ ap (λ (t : Truth). has_end_of_fact a.changed q || truth_differs t (truth_of_fact c q)) (sym was)
 
-  right_both : (q : ℕ) → differs (truth_of a q) (truth_of c q) ≡ true → (d : Bool) → differs (truth_of b q) (truth_of c q) ≡ d → is_used c q ≡ true × (truth_of c q ≡ truth q)
+  right_both : (q : ℕ) → truth_differs (truth_of_fact a q) (truth_of_fact c q) ≡ true → (d : Bool) → truth_differs (truth_of_fact b q) (truth_of_fact c q) ≡ d → is_used c q ≡ true × (truth_of_fact c q ≡ truth q)
   right_both q h true d = v.right q d
   right_both q h false d =
-      let now = differs_is (truth_of b q) (truth_of c q) d in
-      let was = u.right q (ap (differs (truth_of a q)) now ∙ h) in
+      let now = differs_is (truth_of_fact b q) (truth_of_fact c q) d in
+      let was = u.right q (ap (truth_differs (truth_of_fact a q)) now ∙ h) in
       (ap (λ (us : List ℕ). not (is_empty us)) (same.users q) ∙ was.0, sym now ∙ was.1)
 
   pub changes_again : ChangesTo a c truth
-  changes_again = record { listed = λ q. listed_both q (differs (truth_of b q) (truth_of c q)) refl; right = λ q h. right_both q h (differs (truth_of b q) (truth_of c q)) refl }
+  changes_again = record { listed = λ q. listed_both q (truth_differs (truth_of_fact b q) (truth_of_fact c q)) refl; right = λ q h. right_both q h (truth_differs (truth_of_fact b q) (truth_of_fact c q)) refl }
 
 -- a later refresh replaces no truth that is right
-pub changes_settled : (t cleared mid new : FactTable) (truth : ℕ → Truth) → ((q : ℕ) → truth_of cleared q ≡ truth_of t q) → cleared.changed ≡ [] → ChangesTo cleared mid truth
-    → ((q : ℕ) → has_end new.changed q ≡ (has_end mid.changed q || differs (truth_of mid q) (truth_of new q))) → ((q : ℕ) → is_used mid q ≡ true → truth_of new q ≡ truth q) → AreChanges t new
-changes_settled t cleared mid new truth stay none u listed right q = by (differs (truth_of cleared q) (truth_of mid q)) refl ∙ ap (λ (s : Truth). differs s (truth_of new q)) (stay q)
+pub changes_settled : (t cleared mid new : FactTable) (truth : ℕ → Truth) → ((q : ℕ) → truth_of_fact cleared q ≡ truth_of_fact t q) → cleared.changed ≡ [] → ChangesTo cleared mid truth
+    → ((q : ℕ) → has_end_of_fact new.changed q ≡ (has_end_of_fact mid.changed q || truth_differs (truth_of_fact mid q) (truth_of_fact new q))) → ((q : ℕ) → is_used mid q ≡ true → truth_of_fact new q ≡ truth q) → AreChanges t new
+changes_settled t cleared mid new truth stay none u listed right q = by (truth_differs (truth_of_fact cleared q) (truth_of_fact mid q)) refl ∙ ap (λ (s : Truth). truth_differs s (truth_of_fact new q)) (stay q)
   where
-    first : has_end mid.changed q ≡ differs (truth_of cleared q) (truth_of mid q)
-    first = u.listed q ∙ ap (λ (ids : List NameId). has_end ids q || differs (truth_of cleared q) (truth_of mid q)) none
+    first : has_end_of_fact mid.changed q ≡ truth_differs (truth_of_fact cleared q) (truth_of_fact mid q)
+    first = u.listed q ∙ ap (λ (ids : List NameId). has_end_of_fact ids q || truth_differs (truth_of_fact cleared q) (truth_of_fact mid q)) none
 
-    by : (e : Bool) → differs (truth_of cleared q) (truth_of mid q) ≡ e → has_end new.changed q ≡ differs (truth_of cleared q) (truth_of new q)
+    by : (e : Bool) → truth_differs (truth_of_fact cleared q) (truth_of_fact mid q) ≡ e → has_end_of_fact new.changed q ≡ truth_differs (truth_of_fact cleared q) (truth_of_fact new q)
     by true e =
         let was = u.right q e in
-        let same : truth_of mid q ≡ truth_of new q = was.1 ∙ sym (right q was.0) in
-        listed q ∙ ap (λ (x : Bool). x || differs (truth_of mid q) (truth_of new q)) (first ∙ e) ∙ sym (ap (differs (truth_of cleared q)) (sym same) ∙ e)
-    by false e = listed q ∙ ap (λ (x : Bool). x || differs (truth_of mid q) (truth_of new q)) (first ∙ e) ∙ ap (λ (s : Truth). differs s (truth_of new q)) (sym (differs_is (truth_of cleared q) (truth_of mid q) e))
+        let same : truth_of_fact mid q ≡ truth_of_fact new q = was.1 ∙ sym (right q was.0) in
+        listed q ∙ ap (λ (x : Bool). x || truth_differs (truth_of_fact mid q) (truth_of_fact new q)) (first ∙ e) ∙ sym (ap (truth_differs (truth_of_fact cleared q)) (sym same) ∙ e)
+    by false e = listed q ∙ ap (λ (x : Bool). x || truth_differs (truth_of_fact mid q) (truth_of_fact new q)) (first ∙ e) ∙ ap (λ (s : Truth). truth_differs s (truth_of_fact new q)) (sym (differs_is (truth_of_fact cleared q) (truth_of_fact mid q) e))

@@ -7,17 +7,17 @@ use Rattle.std.proofs.lemmas.Bool.{both_ways, cases_eq, ne_eqb, or_left, true≢
 use Rattle.cpe_rows.specs.cpe_name.Eleven.{Values}
 use Rattle.name_index.specs.declared.table.NameId.{NameId}
 use Rattle.name_index.specs.Index.{name_id}
-use Rattle.name_index.specs.Table.{AreNames, Names, kept_at}
-use Rattle.kept_facts.specs.level_board.Board.{AreAnswers, Board}
+use Rattle.name_index.specs.Table.{IsNameTable, Names, kept_at}
+use Rattle.fact_boards.specs.level_board.Board.{AreAnswers, Board}
 use Rattle.cpe_rows.specs.Rows.{Rows}
 use Rattle.cpe_rows.specs.Verdict.{fact_truth}
 use Rattle.cpe_rows.specs.declared.statement.Mode.TheVariants.{Follow}
 use Rattle.fact_laws.specs.Shown.{name_at, names_at}
 use Rattle.fact_laws.proofs.Shown.{live_is}
 use Rattle.fact_laws.specs.Asked.{leads}
-use Rattle.kept_facts.specs.Kept.{AreLive}
-use Rattle.kept_facts.proofs.AskedOn.{facts_on}
-use Rattle.fact_rows.specs.Facts.{AreLinked, differs, ends_of, ends_or_none, Fact, fact_at, facts_of, FactTable, has_end, is_fact, IsUnder, leads_by, leads_of, OthersStay, SameOthers, truth_of, truth_or_unknown, users_of, users_or_none, with_ends}
+use Rattle.fact_boards.specs.Kept.{AreFactNames}
+use Rattle.fact_boards.proofs.AskedOn.{facts_on}
+use Rattle.fact_rows.specs.Facts.{AreLinkedFacts, truth_differs, ends_of_fact, ends_or_none, Fact, fact_at, facts_with_end, FactTable, has_end_of_fact, is_fact, IsUnder, leads_by, leads_of, OthersStay, SameOthers, truth_of_fact, truth_or_unknown, users_of, users_or_none, with_ends}
 use Rattle.fact_rows.specs.Calls.{Refreshed, SameFacts}
 use Rattle.fact_rows.specs.Tickets.{is_empty}
 use Rattle.facts.specs.Facts.{is_used, LeadsTo}
@@ -45,7 +45,7 @@ ends_with es None h = absurd (true≢false (sym h))
 ends_with es (Some f) h = refl
 
 -- numbers of the same names are the same
-pub same_numbers : (names : Names) → AreNames names → (xs ys : List NameId) → AreLive names xs → AreLive names ys → names_at names xs ≡ names_at names ys → xs ≡ ys
+pub same_numbers : (names : Names) → IsNameTable names → (xs ys : List NameId) → AreFactNames names xs → AreFactNames names ys → names_at names xs ≡ names_at names ys → xs ≡ ys
 same_numbers names are [] [] lx ly e = refl
 same_numbers names are [] (y ∷ ys) lx ly e = absurd (omega (arith, ap length e))
 same_numbers names are (x ∷ xs) [] lx ly e = absurd (omega (arith, ap length e))
@@ -74,12 +74,12 @@ led_users led old mid new here stay same = record {
       | inr ne ↦ ap read (stay q ne)
     ]
 
-module _ (names : Names) (are : AreNames names) (board : Board) (answers : AreAnswers board) (next : Rows) (tickets : List ℕ) (passes : ℕ → Bool) (led : Led) (rest : List Led) (old mid new : FactTable)
+module _ (names : Names) (are : IsNameTable names) (board : Board) (answers : AreAnswers board) (next : Rows) (tickets : List ℕ) (passes : ℕ → Bool) (led : Led) (rest : List Led) (old mid new : FactTable)
     (a : AreLedBut names board old next tickets passes (led ∷ rest))
     (here : fact_at mid led.fact.0 ≡ option_map (with_ends led.ends.items) (fact_at old led.fact.0)) (stay : OthersStay led.fact.0 old mid)
-    (links : (e : ℕ) → has_end led.ends.items e ≡ true → facts_of mid e ≡ facts_of old e) (others : SameOthers led.fact.0 (facts_of old) (facts_of mid))
-    (linked : AreLinked old → IsUnder (facts_of old) led.fact.0 led.ends.items → AreLinked mid)
-    (r : Refreshed mid new (has_end (led.fact ∷ [])) Follow board) where
+    (links : (e : ℕ) → has_end_of_fact led.ends.items e ≡ true → facts_with_end mid e ≡ facts_with_end old e) (others : SameOthers led.fact.0 (facts_with_end old) (facts_with_end mid))
+    (linked : AreLinkedFacts old → IsUnder (facts_with_end old) led.fact.0 led.ends.items → AreLinkedFacts mid)
+    (r : Refreshed mid new (has_end_of_fact (led.fact ∷ [])) Follow board) where
   first : IsLed names old next.entries led
   first = a.led.0
 
@@ -96,7 +96,7 @@ module _ (names : Names) (are : AreNames names) (board : Board) (answers : AreAn
   was : (q : ℕ) → is_used mid q ≡ true → is_used old q ≡ true
   was q used = sym (ap (λ (us : List ℕ). not (is_empty us)) (users_mid q)) ∙ used
 
-  ends_mid : ends_of mid led.fact.0 ≡ led.ends.items
+  ends_mid : ends_of_fact mid led.fact.0 ≡ led.ends.items
   ends_mid = ap ends_or_none here ∙ ends_with led.ends.items (fact_at old led.fact.0) (used_fact old led.fact.0 first.used)
 
   live_now : (q : ℕ) → is_fact new q ≡ true → is_fact old q ≡ true
@@ -112,11 +112,11 @@ module _ (names : Names) (are : AreNames names) (board : Board) (answers : AreAn
   led_still x l = record {
     used = ap (λ (us : List ℕ). not (is_empty us)) (users_now x.fact.0) ∙ l.used;
     leads_there = l.leads_there;
-    under = λ e h. ap (λ (fs : List NameId). has_end fs x.fact.0) (r.same.facts e) ∙ elim (cases_eq x.fact.0 led.fact.0) [
+    under = λ e h. ap (λ (fs : List NameId). has_end_of_fact fs x.fact.0) (r.same.facts e) ∙ elim (cases_eq x.fact.0 led.fact.0) [
       | inl same ↦
           let same_ends : x.ends.items ≡ led.ends.items = same_numbers names are x.ends.items led.ends.items l.leads_there.live first.leads_there.live
           (l.leads_there.names ∙ ap (λ (n : ℕ). leads next.entries Follow (kept_at names n).name) same ∙ sym first.leads_there.names) in
-          ap (λ (fs : List NameId). has_end fs x.fact.0) (links e (sym (ap (λ (ns : List NameId). has_end ns e) same_ends) ∙ h)) ∙ l.under e h
+          ap (λ (fs : List NameId). has_end_of_fact fs x.fact.0) (links e (sym (ap (λ (ns : List NameId). has_end_of_fact ns e) same_ends) ∙ h)) ∙ l.under e h
       | inr ne ↦ others e x.fact.0 ne ∙ l.under e h
     ];
   }
@@ -138,7 +138,7 @@ module _ (names : Names) (are : AreNames names) (board : Board) (answers : AreAn
   leads_now q used free = subst (LeadsTo names next.entries Follow q) (sym (ap (leads_by Follow q) (r.same.ends q))) (leads_mid q (sym (ap (λ (us : List ℕ). not (is_empty us)) (r.same.users q)) ∙ used) free)
 
   -- it was refreshed
-  right_led : (q : ℕ) → is_used new q ≡ true → has_end (led.fact ∷ []) q ≡ true → LeadsTo names next.entries Follow q (leads_of Follow new q) → truth_of new q ≡ fact_truth next Follow (kept_at names q).name
+  right_led : (q : ℕ) → is_used new q ≡ true → has_end_of_fact (led.fact ∷ []) q ≡ true → LeadsTo names next.entries Follow q (leads_of Follow new q) → truth_of_fact new q ≡ fact_truth next Follow (kept_at names q).name
   right_led q used e l =
       let before = was_used q used in
       r.here q e (used_fact new q used)
@@ -147,10 +147,10 @@ module _ (names : Names) (are : AreNames names) (board : Board) (answers : AreAn
       (users_refer Follow (kept_at names q).name tickets next.statements (subst (λ (us : List ℕ). not (is_empty us) ≡ true) (a.users q (a.live q (used_fact old q before))) before)) l.live l.names)
       l.names
 
-  truth_now : (q : ℕ) → is_used new q ≡ true → is_led rest q ≡ false → passes q ≡ false → truth_of new q ≡ fact_truth next Follow (kept_at names q).name
-  truth_now q used free apart = by (has_end (led.fact ∷ []) q) refl
+  truth_now : (q : ℕ) → is_used new q ≡ true → is_led rest q ≡ false → passes q ≡ false → truth_of_fact new q ≡ fact_truth next Follow (kept_at names q).name
+  truth_now q used free apart = by (has_end_of_fact (led.fact ∷ []) q) refl
     where
-      by : (b : Bool) → has_end (led.fact ∷ []) q ≡ b → truth_of new q ≡ fact_truth next Follow (kept_at names q).name
+      by : (b : Bool) → has_end_of_fact (led.fact ∷ []) q ≡ b → truth_of_fact new q ≡ fact_truth next Follow (kept_at names q).name
       by true e = right_led q used e (leads_now q used free)
       by false e =
           let other = or_first (nat_eq led.fact.0 q) false e in
@@ -158,22 +158,22 @@ module _ (names : Names) (are : AreNames names) (board : Board) (answers : AreAn
           ∙ ap truth_or_unknown (stay q (λ same. both_ways (nat_eq led.fact.0 q) other (eq-eqb led.fact.0 q (sym same))))
           ∙ a.truths q (was_used q used) (ap (λ (b : Bool). b || is_led rest q) other ∙ free) apart
 
-  truth_mid : (q : ℕ) → truth_of mid q ≡ truth_of old q
+  truth_mid : (q : ℕ) → truth_of_fact mid q ≡ truth_of_fact old q
   truth_mid = same_by truth_or_unknown (truth_with led.ends.items)
 
   used_led : is_used new led.fact.0 ≡ true
   used_led = ap (λ (us : List ℕ). not (is_empty us)) (users_now led.fact.0) ∙ first.used
 
-  truth_led : truth_of new led.fact.0 ≡ fact_truth next Follow (kept_at names led.fact.0).name
+  truth_led : truth_of_fact new led.fact.0 ≡ fact_truth next Follow (kept_at names led.fact.0).name
   truth_led = right_led led.fact.0 used_led (or_left (nat_eq led.fact.0 led.fact.0) false (eq-eqb led.fact.0 led.fact.0 refl))
       (subst (LeadsTo names next.entries Follow led.fact.0) (sym (r.same.ends led.fact.0 ∙ ends_mid)) first.leads_there)
 
   pub led_changes : mid.changed ≡ old.changed → ChangesTo old new (λ q. fact_truth next Follow (kept_at names q).name)
   led_changes same = record {
-    listed = λ q. r.changed q ∙ (λ i. has_end (same i) q || differs (truth_mid q i) (truth_of new q));
+    listed = λ q. r.changed q ∙ (λ i. has_end_of_fact (same i) q || truth_differs (truth_mid q i) (truth_of_fact new q));
     right = λ q d. elim (cases_eq q led.fact.0) [
-      | inl e ↦ subst (λ (n : ℕ). is_used new n ≡ true × (truth_of new n ≡ fact_truth next Follow (kept_at names n).name)) (sym e) (used_led, truth_led)
-      | inr ne ↦ absurd (true≢false (sym d ∙ ap (differs (truth_of old q)) (r.others q (ap (λ (b : Bool). b || false) (ne_eqb led.fact.0 q (λ e. ne (sym e)))) ∙ truth_mid q) ∙ differs_not (truth_of old q)))
+      | inl e ↦ subst (λ (n : ℕ). is_used new n ≡ true × (truth_of_fact new n ≡ fact_truth next Follow (kept_at names n).name)) (sym e) (used_led, truth_led)
+      | inr ne ↦ absurd (true≢false (sym d ∙ ap (truth_differs (truth_of_fact old q)) (r.others q (ap (λ (b : Bool). b || false) (ne_eqb led.fact.0 q (λ e. ne (sym e)))) ∙ truth_mid q) ∙ differs_not (truth_of_fact old q)))
     ];
   }
 

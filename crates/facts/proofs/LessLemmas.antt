@@ -11,12 +11,12 @@ use Rattle.cpe_rows.specs.Rows.{has_id}
 use Rattle.cpe_rows.specs.declared.statement.Mode.{Mode}
 use Rattle.cpe_rows.specs.declared.statement.Statement.{Statement}
 use Rattle.fact_laws.specs.Asked.{refers_to}
-use Rattle.fact_rows.specs.Facts.{AreLinked, ends_or_none, Fact, fact_at, facts_of, FactTable, OthersStay, truth_or_unknown, users_of, users_or_none}
+use Rattle.fact_rows.specs.Facts.{AreLinkedFacts, ends_or_none, Fact, fact_at, facts_with_end, FactTable, OthersStay, truth_or_unknown, users_of, users_or_none}
 use Rattle.fact_rows.specs.Calls.{UsersTo}
 use Rattle.fact_rows.specs.Tickets.{without}
 use Rattle.fact_rows.specs.ticket_list.Rising.{IsRising}
 use Rattle.facts.specs.Calls.{FactsRemoved, UsersRemoved}
-use Rattle.facts.specs.Users.{AreTickets, ticket_of, users_in}
+use Rattle.facts.specs.Users.{AreTickets, statement_ticket, users_in}
 
 -- ---- tickets
 
@@ -58,12 +58,12 @@ users_above mode n t (x ∷ tickets) (s ∷ statements) all = by (refers_to mode
     by true later = (all.0, later)
     by false later = later
 
-ticket_above : (x t : ℕ) (id : List ℕ) (tickets : List ℕ) (statements : List Statement) → AllByRecursion (λ (y : ℕ). x < y) tickets → ticket_of id tickets statements ≡ Some t → x < t
+ticket_above : (x t : ℕ) (id : List ℕ) (tickets : List ℕ) (statements : List Statement) → AllByRecursion (λ (y : ℕ). x < y) tickets → statement_ticket id tickets statements ≡ Some t → x < t
 ticket_above x t id [] statements all e = absurd (none-some t e)
 ticket_above x t id (y ∷ tickets) [] all e = absurd (none-some t e)
 ticket_above x t id (y ∷ tickets) (s ∷ statements) all e = by (has_id id s) e (ticket_above x t id tickets statements all.1)
   where
-    by : (b : Bool) → cond b (Some y) (ticket_of id tickets statements) ≡ Some t → (ticket_of id tickets statements ≡ Some t → x < t) → x < t
+    by : (b : Bool) → cond b (Some y) (statement_ticket id tickets statements) ≡ Some t → (statement_ticket id tickets statements ≡ Some t → x < t) → x < t
     by true h later = subst (λ (z : ℕ). x < z) (same_Some y t h) all.0
     by false h later = later h
 
@@ -72,8 +72,8 @@ module _ (id : List ℕ) (t : ℕ) where
   stays_first : (x : ℕ) (xs : List ℕ) → x < t → without t (x ∷ xs) ≡ x ∷ without t xs
   stays_first x xs lt = ap (λ (b : Bool). cond (not b) (x ∷ without t xs) (without t xs)) (other_number x t (λ e. absurd (omega (arith, e, lt))))
 
-  goes_first : (x : ℕ) (xs : List ℕ) → x ≡ t → without t (x ∷ xs) ≡ without t xs
-  goes_first x xs e = ap (λ (b : Bool). cond (not b) (x ∷ without t xs) (without t xs)) (eq-eqb x t e)
+  first_is_removed : (x : ℕ) (xs : List ℕ) → x ≡ t → without t (x ∷ xs) ≡ without t xs
+  first_is_removed x xs e = ap (λ (b : Bool). cond (not b) (x ∷ without t xs) (without t xs)) (eq-eqb x t e)
 
   module _ (mode : Mode) (n : Values) where
     without_users : (b : Bool) (x : ℕ) (us : List ℕ) → x < t → without t (cond b (x ∷ us) us) ≡ cond b (x ∷ without t us) (without t us)
@@ -81,24 +81,24 @@ module _ (id : List ℕ) (t : ℕ) where
     without_users false x us lt = refl
 
     gone_user : (b : Bool) (x : ℕ) (us : List ℕ) → x ≡ t → without t (cond b (x ∷ us) us) ≡ without t us
-    gone_user true x us e = goes_first x us e
+    gone_user true x us e = first_is_removed x us e
     gone_user false x us e = refl
 
-    pub users_less : (tickets : List ℕ) (statements : List Statement) → IsRising tickets → ticket_of id tickets statements ≡ Some t
+    pub users_less : (tickets : List ℕ) (statements : List Statement) → IsRising tickets → statement_ticket id tickets statements ≡ Some t
         → without t (users_in mode n tickets statements) ≡ users_in mode n (without t tickets) (without_first (has_id id) statements)
     users_less [] statements rising e = absurd (none-some t e)
     users_less (x ∷ tickets) [] rising e = absurd (none-some t e)
     users_less (x ∷ tickets) (s ∷ statements) rising e = by (has_id id s) e (users_less tickets statements rising.1)
       where
-        by : (b : Bool) → cond b (Some x) (ticket_of id tickets statements) ≡ Some t
-            → (ticket_of id tickets statements ≡ Some t → without t (users_in mode n tickets statements) ≡ users_in mode n (without t tickets) (without_first (has_id id) statements))
+        by : (b : Bool) → cond b (Some x) (statement_ticket id tickets statements) ≡ Some t
+            → (statement_ticket id tickets statements ≡ Some t → without t (users_in mode n tickets statements) ≡ users_in mode n (without t tickets) (without_first (has_id id) statements))
             → without t (users_in mode n (x ∷ tickets) (s ∷ statements)) ≡ users_in mode n (without t (x ∷ tickets)) (cond b statements (s ∷ without_first (has_id id) statements))
         by true h later =
             let same = same_Some x t h in
             let above = subst (λ (z : ℕ). AllByRecursion (λ (y : ℕ). z < y) tickets) same rising.0 in
             gone_user (refers_to mode n s) x (users_in mode n tickets statements) same
             ∙ above_without t (users_in mode n tickets statements) (users_above mode n t tickets statements above)
-            ∙ ap (λ (ts : List ℕ). users_in mode n ts statements) (sym (goes_first x tickets same ∙ above_without t tickets above))
+            ∙ ap (λ (ts : List ℕ). users_in mode n ts statements) (sym (first_is_removed x tickets same ∙ above_without t tickets above))
         by false h later =
             let lt = ticket_above x t id tickets statements rising.0 h in
             without_users (refers_to mode n s) x (users_in mode n tickets statements) lt
@@ -106,14 +106,14 @@ module _ (id : List ℕ) (t : ℕ) where
             ∙ ap (λ (ts : List ℕ). users_in mode n ts (s ∷ without_first (has_id id) statements)) (sym (stays_first x tickets lt))
 
     -- a fact to which it doesn't refer does not have its ticket
-    pub users_without : (tickets : List ℕ) (statements : List Statement) (gone : Statement) → IsRising tickets → ticket_of id tickets statements ≡ Some t → find (has_id id) statements ≡ Some gone → refers_to mode n gone ≡ false
+    pub users_without : (tickets : List ℕ) (statements : List Statement) (gone : Statement) → IsRising tickets → statement_ticket id tickets statements ≡ Some t → find (has_id id) statements ≡ Some gone → refers_to mode n gone ≡ false
         → without t (users_in mode n tickets statements) ≡ users_in mode n tickets statements
     users_without [] statements gone rising e found free = absurd (none-some t e)
     users_without (x ∷ tickets) [] gone rising e found free = absurd (none-some t e)
     users_without (x ∷ tickets) (s ∷ statements) gone rising e found free = by (has_id id s) e found (λ h g. users_without tickets statements gone rising.1 h g free)
       where
-        by : (b : Bool) → cond b (Some x) (ticket_of id tickets statements) ≡ Some t → cond b (Some s) (find (has_id id) statements) ≡ Some gone
-            → (ticket_of id tickets statements ≡ Some t → find (has_id id) statements ≡ Some gone → without t (users_in mode n tickets statements) ≡ users_in mode n tickets statements)
+        by : (b : Bool) → cond b (Some x) (statement_ticket id tickets statements) ≡ Some t → cond b (Some s) (find (has_id id) statements) ≡ Some gone
+            → (statement_ticket id tickets statements ≡ Some t → find (has_id id) statements ≡ Some gone → without t (users_in mode n tickets statements) ≡ users_in mode n tickets statements)
             → without t (users_in mode n (x ∷ tickets) (s ∷ statements)) ≡ users_in mode n (x ∷ tickets) (s ∷ statements)
         by true h g later =
             let same = same_Some x t h in
@@ -125,20 +125,20 @@ module _ (id : List ℕ) (t : ℕ) where
             without_users (refers_to mode n s) x (users_in mode n tickets statements) (ticket_above x t id tickets statements rising.0 h)
             ∙ ap (λ (us : List ℕ). cond (refers_to mode n s) (x ∷ us) us) (later h g)
 
-  tickets_each : (tickets : List ℕ) (statements : List Statement) → IsRising tickets → ticket_of id tickets statements ≡ Some t → length tickets ≡ length statements → length (without t tickets) ≡ length (without_first (has_id id) statements)
+  tickets_each : (tickets : List ℕ) (statements : List Statement) → IsRising tickets → statement_ticket id tickets statements ≡ Some t → length tickets ≡ length statements → length (without t tickets) ≡ length (without_first (has_id id) statements)
   tickets_each [] statements rising e each = absurd (none-some t e)
   tickets_each (x ∷ tickets) [] rising e each = absurd (none-some t e)
   tickets_each (x ∷ tickets) (s ∷ statements) rising e each = by (has_id id s) e (λ h. tickets_each tickets statements rising.1 h (omega (arith, each)))
     where
-      by : (b : Bool) → cond b (Some x) (ticket_of id tickets statements) ≡ Some t → (ticket_of id tickets statements ≡ Some t → length (without t tickets) ≡ length (without_first (has_id id) statements))
+      by : (b : Bool) → cond b (Some x) (statement_ticket id tickets statements) ≡ Some t → (statement_ticket id tickets statements ≡ Some t → length (without t tickets) ≡ length (without_first (has_id id) statements))
           → length (without t (x ∷ tickets)) ≡ length (cond b statements (s ∷ without_first (has_id id) statements))
       by true h later =
           let same = same_Some x t h in
-          let is : without t (x ∷ tickets) ≡ tickets = goes_first x tickets same ∙ above_without t tickets (subst (λ (z : ℕ). AllByRecursion (λ (y : ℕ). z < y) tickets) same rising.0) in
+          let is : without t (x ∷ tickets) ≡ tickets = first_is_removed x tickets same ∙ above_without t tickets (subst (λ (z : ℕ). AllByRecursion (λ (y : ℕ). z < y) tickets) same rising.0) in
           omega (arith, ap length is, each)
       by false h later = let is = stays_first x tickets (ticket_above x t id tickets statements rising.0 h) in omega (arith, ap length is, later h)
 
-  pub tickets_less : (tickets : List ℕ) (statements : List Statement) → AreTickets tickets statements → ticket_of id tickets statements ≡ Some t → AreTickets (without t tickets) (without_first (has_id id) statements)
+  pub tickets_less : (tickets : List ℕ) (statements : List Statement) → AreTickets tickets statements → statement_ticket id tickets statements ≡ Some t → AreTickets (without t tickets) (without_first (has_id id) statements)
   tickets_less tickets statements a e = record { each = tickets_each tickets statements a.rising e a.each; rising = rising_still t tickets a.rising }
 
 -- ---- one fact after the other
@@ -189,7 +189,7 @@ rising_now a b so id ticket u rising = by (so id) refl
     by true s = subst IsRising (sym (u.here id s)) (rising_still ticket (users_of a id) rising)
     by false s = subst IsRising (sym (ap users_or_none (u.others id s))) rising
 
-pub less_from : (t cleared new : FactTable) (which : ℕ → Bool) (ticket : ℕ) → ((q : ℕ) → fact_at cleared q ≡ fact_at t q) → ((e : ℕ) → facts_of cleared e ≡ facts_of t e) → UsersRemoved cleared new which ticket → UsersRemoved t new which ticket
+pub less_from : (t cleared new : FactTable) (which : ℕ → Bool) (ticket : ℕ) → ((q : ℕ) → fact_at cleared q ≡ fact_at t q) → ((e : ℕ) → facts_with_end cleared e ≡ facts_with_end t e) → UsersRemoved cleared new which ticket → UsersRemoved t new which ticket
 less_from t cleared new which ticket stay links u = record {
   here = λ q w. u.here q w ∙ ap (λ (o : Option Fact). without ticket (users_or_none o)) (stay q);
   others = λ q w. u.others q w ∙ stay q;
@@ -202,7 +202,7 @@ less_from t cleared new which ticket stay links u = record {
 pub removed_none : (t : FactTable) (which : ℕ → Bool) → ((q : ℕ) → which q ≡ false) → FactsRemoved t t which
 removed_none t which none = record { gone = λ q w. absurd (true≢false (sym w ∙ none q)); others = λ q w. refl; linked = λ h. h }
 
-pub removed_next : (a b c : FactTable) (so which : ℕ → Bool) (id : ℕ) → ((q : ℕ) → which q ≡ (so q || nat_eq id q)) → FactsRemoved a b so → fact_at c id ≡ None → OthersStay id b c → (AreLinked b → AreLinked c) → FactsRemoved a c which
+pub removed_next : (a b c : FactTable) (so which : ℕ → Bool) (id : ℕ) → ((q : ℕ) → which q ≡ (so q || nat_eq id q)) → FactsRemoved a b so → fact_at c id ≡ None → OthersStay id b c → (AreLinkedFacts b → AreLinkedFacts c) → FactsRemoved a c which
 removed_next a b c so which id same f gone stay linked = record {
   gone = λ q w. elim (cases_eq id q) [
     | inl e ↦ subst (λ (n : ℕ). fact_at c n ≡ None) e gone

@@ -5,11 +5,11 @@ use Rattle.std.proofs.lemmas.List.Sums.{sum_by-append, sum_by-cons}
 use Rattle.cpe_rows.specs.cpe_name.Eleven.{Values}
 use Rattle.name_index.specs.product_orders.Elements.{SameElements}
 use Rattle.name_index.specs.declared.table.NameId.{NameId}
-use Rattle.name_index.specs.Table.{AreNames, Names}
-use Rattle.fact_laws.specs.Shown.{names_at, Shows, times_in}
+use Rattle.name_index.specs.Table.{IsNameTable, Names}
+use Rattle.fact_laws.specs.Shown.{names_at, Shows, times_in_list}
 use Rattle.fact_laws.proofs.Shown.{shows_order, shows_part}
 use Rattle.fact_laws.proofs.Names.{sum_flat}
-use Rattle.kept_facts.specs.Kept.{AreLive}
+use Rattle.fact_boards.specs.Kept.{AreFactNames}
 
 -- the names that pass and those that don't are all names
 parts : (h : Values → ℕ) (p : Values → Bool) (xs : List Values) → sum_by h xs ≡ sum_by h (filter p xs) + sum_by h (filter (λ x. not (p x)) xs)
@@ -34,8 +34,8 @@ led_part g p xs led same f =
     )
 
 -- the numbers of a part of the names have at most the multiplicities of all
-pub part_there : (names : Names) → AreNames names → (times : ℕ → ℕ) (g : Values → List Values) (p : Values → Bool) (xs : List Values) (numbers : List NameId) → AreLive names numbers
-    → Shows names times (flat_map g xs) → SameElements (names_at names numbers) (flat_map g (filter p xs)) → (t : ℕ) → times_in t numbers ≤ times t
+pub part_there : (names : Names) → IsNameTable names → (times : ℕ → ℕ) (g : Values → List Values) (p : Values → Bool) (xs : List Values) (numbers : List NameId) → AreFactNames names numbers
+    → Shows names times (flat_map g xs) → SameElements (names_at names numbers) (flat_map g (filter p xs)) → (t : ℕ) → times_in_list t numbers ≤ times t
 part_there names are times g p xs numbers live shows same t =
     shows_part names times numbers (flat_map g (filter (λ x. not (p x)) xs)) t are live
     (shows_order names times (flat_map g xs) (names_at names numbers ++ flat_map g (filter (λ x. not (p x)) xs)) (led_part g p xs (names_at names numbers) same) shows)

@@ -7,8 +7,8 @@ use Rattle.cpe_rows.specs.cpe_name.Eleven.{Values}
 use Rattle.name_index.specs.product_orders.Elements.{SameElements}
 use Rattle.name_index.specs.product_orders.declared.products.Side.TheVariants as side
 use Rattle.name_index.specs.declared.table.NameId.{NameId}
-use Rattle.name_index.specs.Table.{AreNames, IsLive, Names, kept_at}
-use Rattle.kept_facts.specs.level_board.Board.{AreAnswers, AreMarks, Board, FitsBoard, is_marked, KeepsLevels}
+use Rattle.name_index.specs.Table.{IsNameTable, IsLive, Names, kept_at}
+use Rattle.fact_boards.specs.level_board.Board.{AreAnswers, ProbesAreMarks, Board, FitsBoard, is_probe_marked, KeepsLevels}
 use Rattle.cpe_rows.specs.After.{after}
 use Rattle.cpe_rows.specs.FactNames.{fact_names}
 use Rattle.cpe_rows.specs.Names.{is_same}
@@ -19,13 +19,13 @@ use Rattle.cpe_rows.specs.declared.statement.Mode.TheVariants.{Plain, Follow}
 use Rattle.cpe_rows.specs.declared.statement.Statement.{Statement}
 use Rattle.fact_laws.specs.Shown.{different, names_at, near_names}
 use Rattle.fact_laws.proofs.Shown.{live_is, other_names, other_number, same_names}
-use Rattle.fact_laws.specs.Asked.{fresh_facts, leads, references_of, refers_to, same_mode, there}
+use Rattle.fact_laws.specs.Asked.{fresh_facts, leads, references_of, refers_to, same_mode, target_names}
 use Rattle.fact_laws.proofs.Counted.{fewer_fresh, same_test}
 use Rattle.fact_laws.proofs.Names.{sum_flat}
 use Rattle.fact_rows.proofs.RefreshLemmas.{differs_not}
 use Rattle.facts.specs.Looks.{statement_looks}
-use Rattle.kept_facts.specs.Kept.{AreLive, board_of, looks_by, ShowsRows}
-use Rattle.fact_rows.specs.Facts.{differs, Fact, fact_at, FactTable, has_end, leads_by, leads_of, truth_of, truth_or_unknown, users_of, users_or_none}
+use Rattle.fact_boards.specs.Kept.{AreFactNames, board_of_mode, looks_by, ShowsRows}
+use Rattle.fact_rows.specs.Facts.{truth_differs, Fact, fact_at, FactTable, has_end_of_fact, leads_by, leads_of, truth_of_fact, truth_or_unknown, users_of, users_or_none}
 use Rattle.fact_rows.specs.Calls.{Refreshed}
 use Rattle.fact_rows.specs.Tickets.{ends_with, is_empty, with_last}
 use Rattle.fact_rows.specs.ticket_list.Rising.{IsRising}
@@ -83,7 +83,7 @@ tickets_more t tickets s statements a all = record { each = omega (arith, one_lo
 
 -- ---- numbers and names
 
-module _ (names : Names) (are : AreNames names) where
+module _ (names : Names) (are : IsNameTable names) where
   -- two live numbers are equal exactly if their names are
   number_tests : (a b : ℕ) → IsLive names a → IsLive names b → nat_eq a b ≡ is_same (kept_at names b).name (kept_at names a).name
   number_tests a b la lb = elim (cases_Bool (nat_eq a b)) [
@@ -92,12 +92,12 @@ module _ (names : Names) (are : AreNames names) where
         (λ same. both_ways (nat_eq a b) f (eq-eqb a b (are.different a b (kept_at names a) (kept_at names b) (live_is names a la) (live_is names b lb) (sym same)))))
   ]
 
-  pub end_named : (q : ℕ) → IsLive names q → (ids : List NameId) → AreLive names ids → has_end ids q ≡ list_any (is_same (kept_at names q).name) (names_at names ids)
+  pub end_named : (q : ℕ) → IsLive names q → (ids : List NameId) → AreFactNames names ids → has_end_of_fact ids q ≡ list_any (is_same (kept_at names q).name) (names_at names ids)
   end_named q live [] all = refl
   end_named q live (x ∷ ids) all = λ i. number_tests x.0 q all.0 live i || end_named q live ids all.1 i
 
   -- a statement refers to the names of its numbers
-  pub refers_here : (mode : Mode) (s : Statement) (ids : List NameId) (q : ℕ) → IsLive names q → AreLive names ids → s.mode ≡ mode → names_at names ids ≡ fact_names s.test → refers_to mode (kept_at names q).name s ≡ has_end ids q
+  pub refers_here : (mode : Mode) (s : Statement) (ids : List NameId) (q : ℕ) → IsLive names q → AreFactNames names ids → s.mode ≡ mode → names_at names ids ≡ fact_names s.test → refers_to mode (kept_at names q).name s ≡ has_end_of_fact ids q
   refers_here mode s ids q live all moded named =
       (λ i. (ap (same_mode mode) moded ∙ same_itself mode) i && ap (list_any (is_same (kept_at names q).name)) (sym named) i) ∙ sym (end_named q live ids all)
     where
@@ -110,16 +110,16 @@ refers_not mode n s apart = ap (λ (b : Bool). b && list_any (is_same n) (fact_n
 
 -- ---- no mark
 
-pub none_touched : (mode : Mode) (board : Board) (t : FactTable) (q : ℕ) → AreMarks board → board.marks ≡ [] → is_touched mode board t q ≡ false
+pub none_touched : (mode : Mode) (board : Board) (t : FactTable) (q : ℕ) → ProbesAreMarks board → board.marks ≡ [] → is_touched mode board t q ≡ false
 none_touched mode board t q whole none = go (leads_of mode t q)
   where
-    go : (xs : List NameId) → list_any (λ (x : NameId). is_marked board x.0) xs ≡ false
+    go : (xs : List NameId) → list_any (λ (x : NameId). is_probe_marked board x.0) xs ≡ false
     go [] = refl
-    go (x ∷ xs) = ap (λ (b : Bool). b || list_any (λ (y : NameId). is_marked board y.0) xs) (not_marked board x.0 whole (ap (λ (ms : List NameId). has_end ms x.0) none)) ∙ go xs
+    go (x ∷ xs) = ap (λ (b : Bool). b || list_any (λ (y : NameId). is_probe_marked board y.0) xs) (not_marked board x.0 whole (ap (λ (ms : List NameId). has_end_of_fact ms x.0) none)) ∙ go xs
 
 -- ---- the facts of the statement's mode
 
-module _ (names : Names) (are : AreNames names) (mode : Mode) (before board : Board) (answers_before : AreAnswers before) (answers : AreAnswers board) (levels : KeepsLevels before board) (marks : AreMarks board) (none : board.marks ≡ [])
+module _ (names : Names) (are : IsNameTable names) (mode : Mode) (before board : Board) (answers_before : AreAnswers before) (answers : AreAnswers board) (levels : KeepsLevels before board) (marks : ProbesAreMarks board) (none : board.marks ≡ [])
     (rows : Rows) (s : Statement) (tickets : List ℕ) (ticket : ℕ) (numbered : AreTickets tickets rows.statements) (below : AreBelow ticket tickets) where
   abbrev next : Rows
   next = after rows (edit.PutStatement s)
@@ -128,14 +128,14 @@ module _ (names : Names) (are : AreNames names) (mode : Mode) (before board : Bo
   more = tickets ++ ticket ∷ []
 
   module _ (old mid new : FactTable) (ids fresh : List NameId) (f : FactsBut names before old rows tickets mode (λ q. false)) (shows : ShowsRows names board next mode) (fits : FitsBoard board names)
-      (moded : s.mode ≡ mode) (live : AreLive names ids) (named : names_at names ids ≡ fact_names s.test)
-      (whole : (q : ℕ) → has_end ids q ≡ true → has_end fresh q ≡ false → is_used old q ≡ true)
-      (leads_there : (q : ℕ) → has_end fresh q ≡ true → LeadsTo names rows.entries mode q (leads_of mode old q))
-      (u : UsersAdded old mid (has_end ids) ticket) (r : Refreshed mid new (has_end fresh) mode board) where
-    was : (q : ℕ) → is_used mid q ≡ true → has_end fresh q ≡ false → is_used old q ≡ true
-    was q used free = by (has_end ids q) refl
+      (moded : s.mode ≡ mode) (live : AreFactNames names ids) (named : names_at names ids ≡ fact_names s.test)
+      (whole : (q : ℕ) → has_end_of_fact ids q ≡ true → has_end_of_fact fresh q ≡ false → is_used old q ≡ true)
+      (leads_there : (q : ℕ) → has_end_of_fact fresh q ≡ true → LeadsTo names rows.entries mode q (leads_of mode old q))
+      (u : UsersAdded old mid (has_end_of_fact ids) ticket) (r : Refreshed mid new (has_end_of_fact fresh) mode board) where
+    was : (q : ℕ) → is_used mid q ≡ true → has_end_of_fact fresh q ≡ false → is_used old q ≡ true
+    was q used free = by (has_end_of_fact ids q) refl
       where
-        by : (b : Bool) → has_end ids q ≡ b → is_used old q ≡ true
+        by : (b : Bool) → has_end_of_fact ids q ≡ b → is_used old q ≡ true
         by true e = whole q e free
         by false e = sym (ap (λ (o : Option Fact). not (is_empty (users_or_none o))) (u.others q e)) ∙ used
 
@@ -143,12 +143,12 @@ module _ (names : Names) (are : AreNames names) (mode : Mode) (before board : Bo
     same_leads q = ap (leads_by mode q) (u.ends q)
 
     users_now : (q : ℕ) → IsLive names q → users_of mid q ≡ users_in mode (kept_at names q).name more next.statements
-    users_now q lq = by (has_end ids q) refl ∙ sym (users_more mode (kept_at names q).name tickets ticket rows.statements s numbered.each)
+    users_now q lq = by (has_end_of_fact ids q) refl ∙ sym (users_more mode (kept_at names q).name tickets ticket rows.statements s numbered.each)
       where
-        here : (b : Bool) → has_end ids q ≡ b → users_in mode (kept_at names q).name tickets rows.statements ++ cond b (ticket ∷ []) [] ≡ users_in mode (kept_at names q).name tickets rows.statements ++ cond (refers_to mode (kept_at names q).name s) (ticket ∷ []) []
+        here : (b : Bool) → has_end_of_fact ids q ≡ b → users_in mode (kept_at names q).name tickets rows.statements ++ cond b (ticket ∷ []) [] ≡ users_in mode (kept_at names q).name tickets rows.statements ++ cond (refers_to mode (kept_at names q).name s) (ticket ∷ []) []
         here b e = ap (λ (x : Bool). users_in mode (kept_at names q).name tickets rows.statements ++ cond x (ticket ∷ []) []) (sym (refers_here names are mode s ids q lq live moded named ∙ e))
 
-        by : (b : Bool) → has_end ids q ≡ b → users_of mid q ≡ users_in mode (kept_at names q).name tickets rows.statements ++ cond (refers_to mode (kept_at names q).name s) (ticket ∷ []) []
+        by : (b : Bool) → has_end_of_fact ids q ≡ b → users_of mid q ≡ users_in mode (kept_at names q).name tickets rows.statements ++ cond (refers_to mode (kept_at names q).name s) (ticket ∷ []) []
         by true e =
             u.here q e
             ∙ ap (with_last ticket) (f.users q lq)
@@ -157,9 +157,9 @@ module _ (names : Names) (are : AreNames names) (mode : Mode) (before board : Bo
         by false e = ap users_or_none (u.others q e) ∙ f.users q lq ∙ sym (append-nil (users_in mode (kept_at names q).name tickets rows.statements)) ∙ here false e
 
     leads_now : (q : ℕ) → is_used mid q ≡ true → LeadsTo names rows.entries mode q (leads_of mode mid q)
-    leads_now q used = subst (LeadsTo names rows.entries mode q) (sym (same_leads q)) (by (has_end fresh q) refl)
+    leads_now q used = subst (LeadsTo names rows.entries mode q) (sym (same_leads q)) (by (has_end_of_fact fresh q) refl)
       where
-        by : (b : Bool) → has_end fresh q ≡ b → LeadsTo names rows.entries mode q (leads_of mode old q)
+        by : (b : Bool) → has_end_of_fact fresh q ≡ b → LeadsTo names rows.entries mode q (leads_of mode old q)
         by true e = leads_there q e
         by false e = f.leads_there q (was q used e)
 
@@ -176,8 +176,8 @@ module _ (names : Names) (are : AreNames names) (mode : Mode) (before board : Bo
 
     pub put_facts : FactsBut names board new next more mode (λ q. false)
     put_facts =
-        refreshed names are mode board answers next more mid new (has_end fresh) (has_end fresh) (λ q. false) r
-        (moved names are mode before board answers_before answers levels rows next tickets more old mid (has_end fresh) (λ q. true) f ready
+        refreshed names are mode board answers next more mid new (has_end_of_fact fresh) (has_end_of_fact fresh) (λ q. false) r
+        (moved names are mode before board answers_before answers levels rows next tickets more old mid (has_end_of_fact fresh) (λ q. true) f ready
         (λ q used free. record { used = was q used free; leads = same_leads q; truth = u.truths q; free = none_touched mode board mid q marks none }))
         (λ q used free apart. apart)
 
@@ -203,29 +203,29 @@ module _ (names : Names) (are : AreNames names) (mode : Mode) (before board : Bo
 
 pub none_changed : (t cleared : FactTable) → ((q : ℕ) → fact_at cleared q ≡ fact_at t q) → cleared.changed ≡ [] → AreChanges t cleared
 none_changed t cleared stay none q =
-    ap (λ (cs : List NameId). has_end cs q) none ∙ sym (ap (λ (o : Option Fact). differs (truth_or_unknown o) (truth_of cleared q)) (sym (stay q)) ∙ differs_not (truth_of cleared q))
+    ap (λ (cs : List NameId). has_end_of_fact cs q) none ∙ sym (ap (λ (o : Option Fact). truth_differs (truth_or_unknown o) (truth_of_fact cleared q)) (sym (stay q)) ∙ differs_not (truth_of_fact cleared q))
 
 pub both_changed : (old new : FactsNow) → AreChanges old.plain new.plain → AreChanges old.follow new.follow → (m : Mode) → AreChanges (table_of old m) (table_of new m)
 both_changed old new plain follow Plain = plain
 both_changed old new plain follow Follow = follow
 
 -- the facts whose truth is replaced are the changed ones
-pub used_changed : (mid new : FactTable) (cleared : FactTable) (ids fresh : List NameId) (ticket : ℕ) (mode : Mode) (board : Board) → UsersAdded cleared mid (has_end ids) ticket → mid.changed ≡ cleared.changed → Refreshed mid new (has_end fresh) mode board
-    → (q : ℕ) → has_end new.changed q ≡ (has_end cleared.changed q || differs (truth_of cleared q) (truth_of new q))
+pub used_changed : (mid new : FactTable) (cleared : FactTable) (ids fresh : List NameId) (ticket : ℕ) (mode : Mode) (board : Board) → UsersAdded cleared mid (has_end_of_fact ids) ticket → mid.changed ≡ cleared.changed → Refreshed mid new (has_end_of_fact fresh) mode board
+    → (q : ℕ) → has_end_of_fact new.changed q ≡ (has_end_of_fact cleared.changed q || truth_differs (truth_of_fact cleared q) (truth_of_fact new q))
 used_changed mid new cleared ids fresh ticket mode board u same r q =
-    r.changed q ∙ (λ i. has_end (same i) q || differs (u.truths q i) (truth_of new q))
+    r.changed q ∙ (λ i. has_end_of_fact (same i) q || truth_differs (u.truths q i) (truth_of_fact new q))
 
 -- the looks
-pub looks_within : (names : Names) (rows : Rows) (s : Statement) (mode : Mode) (asked : List NameId) → s.mode ≡ mode → SameElements (names_at names asked) (flat_map (leads rows.entries mode) (fresh_facts mode rows.statements s)) → looks_by side.Source (there rows mode) (names_at names asked) ≤ statement_looks rows s
-looks_within names rows s mode asked moded same = subst (λ (m : Mode). looks_by side.Source (there rows m) (names_at names asked) ≤ statement_looks rows s) moded (here (subst (λ (m : Mode). SameElements (names_at names asked) (flat_map (leads rows.entries m) (fresh_facts m rows.statements s))) (sym moded) same))
+pub looks_within : (names : Names) (rows : Rows) (s : Statement) (mode : Mode) (asked : List NameId) → s.mode ≡ mode → SameElements (names_at names asked) (flat_map (leads rows.entries mode) (fresh_facts mode rows.statements s)) → looks_by side.Source (target_names rows mode) (names_at names asked) ≤ statement_looks rows s
+looks_within names rows s mode asked moded same = subst (λ (m : Mode). looks_by side.Source (target_names rows m) (names_at names asked) ≤ statement_looks rows s) moded (here (subst (λ (m : Mode). SameElements (names_at names asked) (flat_map (leads rows.entries m) (fresh_facts m rows.statements s))) (sym moded) same))
   where
     w : Values → ℕ
-    w n = 1 + near_names side.Source n.product (different (there rows s.mode))
+    w n = 1 + near_names side.Source n.product (different (target_names rows s.mode))
 
     g : Values → List Values
     g = leads rows.entries s.mode
 
-    here : SameElements (names_at names asked) (flat_map (leads rows.entries s.mode) (fresh_facts s.mode rows.statements s)) → looks_by side.Source (there rows s.mode) (names_at names asked) ≤ statement_looks rows s
+    here : SameElements (names_at names asked) (flat_map (leads rows.entries s.mode) (fresh_facts s.mode rows.statements s)) → looks_by side.Source (target_names rows s.mode) (names_at names asked) ≤ statement_looks rows s
     here alike =
         omega (
           arith,
@@ -235,6 +235,6 @@ looks_within names rows s mode asked moded same = subst (λ (m : Mode). looks_by
           fewer_fresh s.mode rows.statements s (λ n. sum_by w (g n)),
         )
 
-pub shows_of : (names : Names) (f : FactsNow) (rows : Rows) (tickets : List ℕ) (mode : Mode) → HasFacts names f rows tickets → ShowsRows names (board_of f.boards mode) rows mode
+pub shows_of : (names : Names) (f : FactsNow) (rows : Rows) (tickets : List ℕ) (mode : Mode) → HasFacts names f rows tickets → ShowsRows names (board_of_mode f.boards mode) rows mode
 shows_of names f rows tickets Plain s = s.plain.shows
 shows_of names f rows tickets Follow s = s.follow.shows

@@ -4,7 +4,7 @@ use Rattle.std.specs.List.{flat_map, list_any}
 use Rattle.name_index.specs.declared.table.NameId.{NameId}
 use Rattle.name_index.specs.Table.{Names, IsLive}
 use Rattle.name_index.specs.product_orders.Elements.{SameElements}
-use Rattle.name_index.specs.cpe_steps.Within.{StepsWithin}
+use Rattle.name_index.specs.step_count.Within.{StepsWithin}
 use Rattle.cpe_rows.specs.After.{after}
 use Rattle.cpe_rows.specs.FactNames.{fact_names}
 use Rattle.cpe_rows.specs.Lawful.{IsLawful}
@@ -14,16 +14,16 @@ use Rattle.cpe_rows.specs.declared.edit.Edit.TheVariants as edit
 use Rattle.cpe_rows.specs.declared.statement.Mode.{Mode}
 use Rattle.cpe_rows.specs.declared.statement.Mode.TheVariants.{Follow}
 use Rattle.cpe_rows.specs.declared.statement.Statement.{Statement}
-use Rattle.fact_laws.specs.Shown.{name_at, names_at, times_in}
-use Rattle.kept_facts.specs.level_board.Board.{probe_times}
+use Rattle.fact_laws.specs.Shown.{name_at, names_at, times_in_list}
+use Rattle.fact_boards.specs.level_board.Board.{probe_times}
 use Rattle.fact_laws.specs.Asked.{fresh_facts, leads}
-use Rattle.kept_facts.specs.Kept.{AreLive, board_of}
-use Rattle.fact_rows.specs.Facts.{AreLinked, ends_of, fact_at, facts_of, FactTable, has_end, has_room, is_fact, leads_of, truth_of, users_of}
+use Rattle.fact_boards.specs.Kept.{AreFactNames, board_of_mode}
+use Rattle.fact_rows.specs.Facts.{AreLinkedFacts, ends_of_fact, fact_at, facts_with_end, FactTable, has_end_of_fact, has_fact_room, is_fact, leads_of, truth_of_fact, users_of}
 use Rattle.fact_rows.specs.Tickets.{ends_with, is_empty, with_last, without}
-use Rattle.kept_facts.specs.Lists.{IsWide}
+use Rattle.fact_boards.specs.Lists.{IsWide}
 use Rattle.facts.specs.Facts.{AreChanges, AreUsed, AreUsedBut, FactsNow, HasFacts, is_used, LeadsTo, table_of}
 use Rattle.facts.specs.Looks.{item_looks, statement_looks}
-use Rattle.facts.specs.Users.{AreBelow, ticket_of}
+use Rattle.facts.specs.Users.{AreBelow, statement_ticket}
 
 -- An item with these ends may be added.
 pub record MayAddItem (f : FactsNow) (table : Names) (item : NameId) (its_ends : List NameId) : Type 0 where
@@ -35,10 +35,10 @@ pub record MayAddItem (f : FactsNow) (table : Names) (item : NameId) (its_ends :
   pub room : 1 ≤ f.boards.plain.target_room
   pub room_follow : length its_ends ≤ f.boards.follow.target_room
   -- the facts are those of lawful rows, by which these are its ends
-  pub stood : (rows : Rows) × (tickets : List ℕ) × IsLawful rows × HasFacts table f rows tickets × LeadsTo table rows.entries Follow item.0 its_ends
+  pub rows_before : (rows : Rows) × (tickets : List ℕ) × IsLawful rows × HasFacts table f rows tickets × LeadsTo table rows.entries Follow item.0 its_ends
 
 -- The item was added.
-pub record ItemAdded (old new : FactsNow) (table : Names) (item : NameId) (its_ends : List NameId) (before now : ℕ) : Type 0 where
+pub record ItemCovered (old new : FactsNow) (table : Names) (item : NameId) (its_ends : List NameId) (before now : ℕ) : Type 0 where
   -- the facts are those of the rows with it
   pub facts : (rows : Rows) (tickets : List ℕ) → HasFacts table old rows tickets → LeadsTo table rows.entries Follow item.0 its_ends
       → HasFacts table new (after rows (edit.Item (name_at table item))) tickets
@@ -54,7 +54,7 @@ pub record ItemAdded (old new : FactsNow) (table : Names) (item : NameId) (its_e
 -- An item with these ends may be removed.
 pub record MayRemoveItem (f : FactsNow) (table : Names) (item : NameId) (its_ends : List NameId) : Type 0 where
   pub live : IsLive table item.0
-  pub stood : (rows : Rows) × (tickets : List ℕ) × HasFacts table f rows tickets × LeadsTo table rows.entries Follow item.0 its_ends × (list_any (is_same (name_at table item)) rows.items ≡ true)
+  pub rows_before : (rows : Rows) × (tickets : List ℕ) × HasFacts table f rows tickets × LeadsTo table rows.entries Follow item.0 its_ends × (list_any (is_same (name_at table item)) rows.items ≡ true)
 
 -- The item was removed.
 pub record ItemRemoved (old new : FactsNow) (table : Names) (item : NameId) (its_ends : List NameId) (before now : ℕ) : Type 0 where
@@ -71,40 +71,41 @@ pub record UsersAdded (old new : FactTable) (which : ℕ → Bool) (ticket : ℕ
   pub here : (q : ℕ) → which q ≡ true → users_of new q ≡ with_last ticket (users_of old q)
   pub others : (q : ℕ) → which q ≡ false → fact_at new q ≡ fact_at old q
   pub there : (q : ℕ) → is_fact new q ≡ is_fact old q
-  pub ends : (q : ℕ) → ends_of new q ≡ ends_of old q
-  pub truths : (q : ℕ) → truth_of new q ≡ truth_of old q
-  pub facts : (e : ℕ) → facts_of new e ≡ facts_of old e
+  pub ends : (q : ℕ) → ends_of_fact new q ≡ ends_of_fact old q
+  pub truths : (q : ℕ) → truth_of_fact new q ≡ truth_of_fact old q
+  pub facts : (e : ℕ) → facts_with_end new e ≡ facts_with_end old e
 
 -- A new statement of a mode: the facts to which it refers, the fresh ones among them, the names to which these lead, and its ticket.
 pub record IsNewStatement (f : FactsNow) (table : Names) (rows : Rows) (tickets : List ℕ) (s : Statement) (mode : Mode) (ids fresh asked : List NameId) (ticket : ℕ) : Type 0 where
   pub moded : s.mode ≡ mode
-  pub live : AreLive table ids
+  pub live : AreFactNames table ids
   pub named : names_at table ids ≡ fact_names s.test
   -- the ticket is above all others
   pub below : AreBelow ticket tickets
-  -- a fact that is not fresh is in use, and a fresh one leads to the names to which its name leads
-  pub whole : (q : ℕ) → has_end ids q ≡ true → has_end fresh q ≡ false → is_used (table_of f mode) q ≡ true
-  pub leads_there : (q : ℕ) → has_end fresh q ≡ true → LeadsTo table rows.entries mode q (leads_of mode (table_of f mode) q)
+  -- each fact of the statement that is not fresh is already in use
+  pub whole : (q : ℕ) → has_end_of_fact ids q ≡ true → has_end_of_fact fresh q ≡ false → is_used (table_of f mode) q ≡ true
+  -- the table has, for each fresh fact, the names to which its name leads by the entries
+  pub leads_there : (q : ℕ) → has_end_of_fact fresh q ≡ true → LeadsTo table rows.entries mode q (leads_of mode (table_of f mode) q)
   pub asked_for : SameElements (names_at table asked) (flat_map (leads rows.entries mode) (fresh_facts mode rows.statements s))
 
 -- There is room for a statement with these facts, of which the fresh ones are not in use yet and lead to the names asked.
 pub record HasStatementRoom (f : FactsNow) (table : Names) (mode : Mode) (ids fresh asked : List NameId) (ticket : ℕ) : Type 0 where
   -- the names that are asked have numbers, and there is room for them
-  pub live_asked : AreLive table asked
-  pub wide : IsWide (board_of f.boards mode) table
-  pub room : length asked ≤ (board_of f.boards mode).probe_room
+  pub live_asked : AreFactNames table asked
+  pub wide : IsWide (board_of_mode f.boards mode) table
+  pub room : length asked ≤ (board_of_mode f.boards mode).probe_room
   pub few : length asked ≤ 268435456
   -- the fresh facts are among those to which the statement refers, and each of these has room for one more user
-  pub own : (q : ℕ) → has_end fresh q ≡ true → has_end ids q ≡ true
-  pub room_users : (q : ℕ) → has_end ids q ≡ true → (has_room (table_of f mode) q || ends_with ticket (users_of (table_of f mode) q)) ≡ true
+  pub own : (q : ℕ) → has_end_of_fact fresh q ≡ true → has_end_of_fact ids q ≡ true
+  pub room_users : (q : ℕ) → has_end_of_fact ids q ≡ true → (has_fact_room (table_of f mode) q || ends_with ticket (users_of (table_of f mode) q)) ≡ true
 
 -- The statement may be added.
 pub record MayAddStatement (f : FactsNow) (table : Names) (mode : Mode) (ids fresh asked : List NameId) (ticket : ℕ) : Type 0 where
   pub room : HasStatementRoom f table mode ids fresh asked ticket
-  pub stood : (rows : Rows) × (tickets : List ℕ) × IsLawful rows × HasFacts table f rows tickets
+  pub rows_before : (rows : Rows) × (tickets : List ℕ) × IsLawful rows × HasFacts table f rows tickets
 
 -- The statement was added.
-pub record StatementAdded (old new : FactsNow) (table : Names) (mode : Mode) (ids fresh asked : List NameId) (ticket before now : ℕ) : Type 0 where
+pub record StatementUsed (old new : FactsNow) (table : Names) (mode : Mode) (ids fresh asked : List NameId) (ticket before now : ℕ) : Type 0 where
   pub facts : (rows : Rows) (tickets : List ℕ) (s : Statement) → HasFacts table old rows tickets → IsNewStatement old table rows tickets s mode ids fresh asked ticket
       → HasFacts table new (after rows (edit.PutStatement s)) (tickets ++ ticket ∷ [])
   pub changed : (m : Mode) → AreChanges (table_of old m) (table_of new m)
@@ -118,40 +119,40 @@ pub record UsersRemoved (old new : FactTable) (which : ℕ → Bool) (ticket : �
   pub here : (q : ℕ) → which q ≡ true → users_of new q ≡ without ticket (users_of old q)
   pub others : (q : ℕ) → which q ≡ false → fact_at new q ≡ fact_at old q
   pub there : (q : ℕ) → is_fact new q ≡ is_fact old q
-  pub ends : (q : ℕ) → ends_of new q ≡ ends_of old q
-  pub truths : (q : ℕ) → truth_of new q ≡ truth_of old q
-  pub facts : (e : ℕ) → facts_of new e ≡ facts_of old e
+  pub ends : (q : ℕ) → ends_of_fact new q ≡ ends_of_fact old q
+  pub truths : (q : ℕ) → truth_of_fact new q ≡ truth_of_fact old q
+  pub facts : (e : ℕ) → facts_with_end new e ≡ facts_with_end old e
 
 -- Some facts were removed.
 pub record FactsRemoved (old new : FactTable) (which : ℕ → Bool) : Type 0 where
   pub gone : (q : ℕ) → which q ≡ true → fact_at new q ≡ None
   pub others : (q : ℕ) → which q ≡ false → fact_at new q ≡ fact_at old q
-  pub linked : AreLinked old → AreLinked new
+  pub linked : AreLinkedFacts old → AreLinkedFacts new
 
 -- The statement of an id: the facts to which it refers, the names to which those lead that it alone uses, and its ticket.
 pub record IsOldStatement (f : FactsNow) (table : Names) (rows : Rows) (tickets : List ℕ) (id : List ℕ) (s : Statement) (mode : Mode) (ids asked : List NameId) (ticket : ℕ) : Type 0 where
   pub moded : s.mode ≡ mode
-  pub live : AreLive table ids
+  pub live : AreFactNames table ids
   pub named : names_at table ids ≡ fact_names s.test
   pub there : find (has_id id) rows.statements ≡ Some s
-  pub its : ticket_of id tickets rows.statements ≡ Some ticket
+  pub its : statement_ticket id tickets rows.statements ≡ Some ticket
   pub asked_for : SameElements (names_at table asked) (flat_map (leads rows.entries mode) (fresh_facts mode (after rows (edit.DropStatement id)).statements s))
 
 -- The statement may be removed.
 pub record MayRemoveStatement (f : FactsNow) (table : Names) (mode : Mode) (ids last asked : List NameId) (ticket : ℕ) : Type 0 where
   -- the last facts are exactly those that it alone uses
-  pub alone : (q : ℕ) → has_end last q ≡ (has_end ids q && is_empty (without ticket (users_of (table_of f mode) q)))
-  pub live_asked : AreLive table asked
-  pub asked_there : (p : ℕ) → times_in p asked ≤ probe_times (board_of f.boards mode) p
-  pub stood : (rows : Rows) × (tickets : List ℕ) × HasFacts table f rows tickets
+  pub alone : (q : ℕ) → has_end_of_fact last q ≡ (has_end_of_fact ids q && is_empty (without ticket (users_of (table_of f mode) q)))
+  pub live_asked : AreFactNames table asked
+  pub asked_there : (p : ℕ) → times_in_list p asked ≤ probe_times (board_of_mode f.boards mode) p
+  pub rows_before : (rows : Rows) × (tickets : List ℕ) × HasFacts table f rows tickets
 
 -- The statement was removed.
-pub record StatementRemoved (old new : FactsNow) (table : Names) (mode : Mode) (ids last asked : List NameId) (ticket before now : ℕ) : Type 0 where
+pub record StatementUnused (old new : FactsNow) (table : Names) (mode : Mode) (ids last asked : List NameId) (ticket before now : ℕ) : Type 0 where
   pub facts : (rows : Rows) (tickets : List ℕ) (id : List ℕ) (s : Statement) → HasFacts table old rows tickets → IsOldStatement old table rows tickets id s mode ids asked ticket
       → HasFacts table new (after rows (edit.DropStatement id)) (without ticket tickets)
   -- no truth is replaced
   pub changed : (m : Mode) → (table_of new m).changed ≡ []
-  pub truths : (m : Mode) (q : ℕ) → is_fact (table_of new m) q ≡ true → truth_of (table_of new m) q ≡ truth_of (table_of old m) q
+  pub truths : (m : Mode) (q : ℕ) → is_fact (table_of new m) q ≡ true → truth_of_fact (table_of new m) q ≡ truth_of_fact (table_of old m) q
   pub used : AreUsed old → AreUsed new
   -- there are no looks
   pub steps : now ≡ before

@@ -3,7 +3,7 @@ use Rattle.std.specs.Prelude.{◌≡◌, ℕ, ◌||◌, ◌&&◌, Bool, true, fa
 use Rattle.std.specs.List.{list_any}
 use Rattle.name_index.specs.declared.table.NameId.{NameId}
 use Rattle.name_index.specs.Table.{Names, IsLive, kept_at}
-use Rattle.kept_facts.specs.level_board.Board.{Board, FitsBoard, is_marked}
+use Rattle.fact_boards.specs.level_board.Board.{Board, FitsBoard, is_probe_marked}
 use Rattle.cpe_rows.specs.Rows.{Rows}
 use Rattle.cpe_rows.specs.Verdict.{fact_truth}
 use Rattle.cpe_rows.specs.declared.entry.Entry.{Entry}
@@ -11,8 +11,8 @@ use Rattle.cpe_rows.specs.declared.statement.Mode.{Mode}
 use Rattle.cpe_rows.specs.declared.statement.Mode.TheVariants.{Plain, Follow}
 use Rattle.fact_laws.specs.Shown.{names_at}
 use Rattle.fact_laws.specs.Asked.{leads, same_mode}
-use Rattle.kept_facts.specs.Kept.{AreLive, AreSettled, Boards, ShowsRows}
-use Rattle.fact_rows.specs.Facts.{AreLinked, differs, FactTable, has_end, is_fact, is_under_one, leads_of, truth_of, users_of}
+use Rattle.fact_boards.specs.Kept.{AreFactNames, AreSettled, Boards, ShowsRows}
+use Rattle.fact_rows.specs.Facts.{AreLinkedFacts, truth_differs, FactTable, has_end_of_fact, is_fact, is_under_one, leads_of, truth_of_fact, users_of}
 use Rattle.fact_rows.specs.Tickets.{is_empty}
 use Rattle.facts.specs.Users.{AreTickets, users_in}
 
@@ -31,7 +31,7 @@ is_used t id = not (is_empty (users_of t id))
 
 -- In a mode, the name of the fact leads to the names of these numbers.
 pub record LeadsTo (table : Names) (entries : List Entry) (mode : Mode) (fact : ℕ) (numbers : List NameId) : Type 0 where
-  pub live : AreLive table numbers
+  pub live : AreFactNames table numbers
   pub names : names_at table numbers ≡ leads entries mode (kept_at table fact).name
 
 -- The facts of one mode are those to which the statements of these rows refer, by these tickets. Those that don't pass have the
@@ -45,9 +45,9 @@ pub record FactsBut (names : Names) (board : Board) (t : FactTable) (rows : Rows
   pub users : (id : ℕ) → IsLive names id → users_of t id ≡ users_in mode (kept_at names id).name tickets rows.statements
   -- if it is in use it leads to the names to which its name leads; each end of it lists it
   pub leads_there : (id : ℕ) → is_used t id ≡ true → LeadsTo names rows.entries mode id (leads_of mode t id)
-  pub linked : AreLinked t
+  pub linked : AreLinkedFacts t
   -- and it has the truth of its name
-  pub truths : (id : ℕ) → is_used t id ≡ true → passes id ≡ false → truth_of t id ≡ fact_truth rows mode (kept_at names id).name
+  pub truths : (id : ℕ) → is_used t id ≡ true → passes id ≡ false → truth_of_fact t id ≡ fact_truth rows mode (kept_at names id).name
 
 abbrev pub FactsOf : Names → Board → FactTable → Rows → List ℕ → Mode → Type 0
 FactsOf names board t rows tickets mode = FactsBut names board t rows tickets mode (λ id. false)
@@ -61,7 +61,7 @@ pub record HasFacts (names : Names) (f : FactsNow) (rows : Rows) (tickets : List
 
 -- each fact is in use, except these of a mode
 abbrev pub AreUsedBut : FactsNow → Mode → List NameId → Type 0
-AreUsedBut f mode fresh = (m : Mode) (id : ℕ) → is_fact (table_of f m) id ≡ true → (is_used (table_of f m) id || (same_mode mode m && has_end fresh id)) ≡ true
+AreUsedBut f mode fresh = (m : Mode) (id : ℕ) → is_fact (table_of f m) id ≡ true → (is_used (table_of f m) id || (same_mode mode m && has_end_of_fact fresh id)) ≡ true
 
 -- each fact is in use
 abbrev pub AreUsed : FactsNow → Type 0
@@ -71,13 +71,13 @@ AreUsed f = (m : Mode) (id : ℕ) → is_fact (table_of f m) id ≡ true → is_
 
 -- some name to which the fact leads is marked
 abbrev pub is_touched : Mode → Board → FactTable → ℕ → Bool
-is_touched mode board t id = list_any (λ (x : NameId). is_marked board x.0) (leads_of mode t id)
+is_touched mode board t id = list_any (λ (x : NameId). is_probe_marked board x.0) (leads_of mode t id)
 
 -- the facts that lead to one of these names
 abbrev pub found_from : Mode → FactTable → List NameId → ℕ → Bool
-found_from Plain t names id = has_end names id
+found_from Plain t names id = has_end_of_fact names id
 found_from Follow t names id = is_under_one t names id
 
 -- the changed facts are exactly those whose truth was replaced
 abbrev pub AreChanges : FactTable → FactTable → Type 0
-AreChanges old new = (id : ℕ) → has_end new.changed id ≡ differs (truth_of old id) (truth_of new id)
+AreChanges old new = (id : ℕ) → has_end_of_fact new.changed id ≡ truth_differs (truth_of_fact old id) (truth_of_fact new id)

@@ -4,9 +4,9 @@ use Rattle.name_index.specs.declared.table.NameId.{NameId}
 use Rattle.name_index.specs.Table.{Names, IsLive}
 use Rattle.cpe_rows.specs.Rows.{Rows}
 use Rattle.cpe_rows.specs.declared.statement.Mode.{Mode}
-use Rattle.kept_facts.specs.Moved.{MakesRoom}
-use Rattle.kept_facts.specs.declared.kept.Wanted.{Wanted}
-use Rattle.fact_rows.specs.Facts.{FactTable, has_end, has_room, name_id, truth_of}
+use Rattle.fact_boards.specs.Moved.{MakesFactRoom}
+use Rattle.fact_boards.specs.declared.kept.WantedRoom.{WantedRoom}
+use Rattle.fact_rows.specs.Facts.{FactTable, has_end_of_fact, has_fact_room, fact_name_id, truth_of_fact}
 use Rattle.fact_rows.specs.Calls.{FactAdded, FactLinked, SameFacts}
 use Rattle.facts.specs.Facts.{AreUsed, AreUsedBut, FactsNow, HasFacts, table_of}
 use Rattle.facts.specs.Calls.{FactsRemoved}
@@ -26,12 +26,12 @@ pub record UnusedAdded {Done Fault : Type 0} (old new : FactsNow) (mode : Mode) 
   pub table : FactAdded (table_of old mode) (table_of new mode) fact its_ends result
   pub only : OnlyMode old new mode
   -- each fact is in use, except those that were not, and it
-  pub used : (fresh : List NameId) → AreUsedBut old mode fresh → AreUsedBut new mode (name_id fact ∷ fresh)
+  pub used : (fresh : List NameId) → AreUsedBut old mode fresh → AreUsedBut new mode (fact_name_id fact ∷ fresh)
 
 -- Facts that no statement uses were removed.
 pub record UnusedRemoved (old new : FactsNow) (mode : Mode) (unused : List NameId) : Type 0 where
   pub facts : KeepsFacts old new
-  pub table : FactsRemoved (table_of old mode) (table_of new mode) (has_end unused)
+  pub table : FactsRemoved (table_of old mode) (table_of new mode) (has_end_of_fact unused)
   pub only : OnlyMode old new mode
   -- each fact is in use, if only these were not
   pub used : AreUsedBut old mode unused → AreUsed new
@@ -39,9 +39,9 @@ pub record UnusedRemoved (old new : FactsNow) (mode : Mode) (unused : List NameI
 -- Room was reserved for one more user of each of these facts, or memory ran out.
 pub record UsersReserved {Done Fault : Type 0} (old new : FactTable) (ids : List NameId) (result : Result Done Fault) : Type 0 where
   pub same : SameFacts old new
-  pub truths : (q : ℕ) → truth_of new q ≡ truth_of old q
+  pub truths : (q : ℕ) → truth_of_fact new q ≡ truth_of_fact old q
   pub changed : new.changed ≡ old.changed
-  pub room : OnOk result ((q : ℕ) → has_end ids q ≡ true → has_room new q ≡ true)
+  pub room : OnOk result ((q : ℕ) → has_end_of_fact ids q ≡ true → has_fact_room new q ≡ true)
 
 -- The same of the facts of a mode.
 pub record RoomForUsers {Done Fault : Type 0} (old new : FactsNow) (mode : Mode) (ids : List NameId) (result : Result Done Fault) : Type 0 where
@@ -57,8 +57,8 @@ pub record EndsLinked {Done Fault : Type 0} (old new : FactsNow) (fact : ℕ) (i
   pub plain : new.plain ≡ old.plain
 
 -- Room was reserved on the boards for these names, or memory ran out.
-pub record RoomOnBoards {Done Fault : Type 0} (old new : FactsNow) (table : Names) (in_plain in_follow : Wanted) (result : Result Done Fault) : Type 0 where
+pub record RoomOnBoards {Done Fault : Type 0} (old new : FactsNow) (table : Names) (in_plain in_follow : WantedRoom) (result : Result Done Fault) : Type 0 where
   pub facts : KeepsFacts old new
-  pub boards : MakesRoom old.boards new.boards table in_plain in_follow result
+  pub boards : MakesFactRoom old.boards new.boards table in_plain in_follow result
   pub plain : new.plain ≡ old.plain
   pub follow : new.follow ≡ old.follow

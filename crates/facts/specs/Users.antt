@@ -15,10 +15,10 @@ users_in mode n (t ∷ tickets) [] = []
 users_in mode n (t ∷ tickets) (s ∷ statements) = cond (refers_to mode n s) (t ∷ users_in mode n tickets statements) (users_in mode n tickets statements)
 
 -- the ticket of the first statement with an id
-abbrev pub ticket_of : List ℕ → List ℕ → List Statement → Option ℕ
-ticket_of id [] statements = None
-ticket_of id (t ∷ tickets) [] = None
-ticket_of id (t ∷ tickets) (s ∷ statements) = cond (has_id id s) (Some t) (ticket_of id tickets statements)
+abbrev pub statement_ticket : List ℕ → List ℕ → List Statement → Option ℕ
+statement_ticket id [] statements = None
+statement_ticket id (t ∷ tickets) [] = None
+statement_ticket id (t ∷ tickets) (s ∷ statements) = cond (has_id id s) (Some t) (statement_ticket id tickets statements)
 
 -- Each statement has a ticket, and tickets rise.
 pub record AreTickets (tickets : List ℕ) (statements : List Statement) : Type 0 where

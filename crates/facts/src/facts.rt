@@ -3,18 +3,18 @@ ghost use Rattle.std.specs.Prelude.{◌≡◌, ℕ, List, [], true};
 ghost use Rattle.cpe_rows.specs.Prelude.{fact_truth, no_rows, Rows};
 ghost use Rattle.name_index.specs.Table.{Names};
 ghost use Rattle.fact_laws.specs.Shown.{name_at};
-ghost use Rattle.kept_facts.specs.Kept.{AreSound};
-ghost use Rattle.fact_rows.specs.Facts.{has_end, is_fact, leads_of, truth_of, users_of};
+ghost use Rattle.fact_boards.specs.Kept.{AreSound};
+ghost use Rattle.fact_rows.specs.Facts.{has_end_of_fact, is_fact, leads_of, truth_of_fact, users_of};
 ghost use Rattle.facts.specs.Facts.{AreUsed, HasFacts, is_used, table_of};
 ghost use Rattle.facts.specs.LeadCalls.{EndsChanged, MayChangeEnds};
-ghost use Rattle.facts.specs.Calls.{ItemAdded, ItemRemoved, MayAddItem, MayAddStatement, MayRemoveItem, MayRemoveStatement, StatementAdded, StatementRemoved};
+ghost use Rattle.facts.specs.Calls.{ItemCovered, ItemRemoved, MayAddItem, MayAddStatement, MayRemoveItem, MayRemoveStatement, StatementUsed, StatementUnused};
 
 use crate::lead::{Led, lead_facts};
 use crate::refresh::settle;
 use crate::users::{add_statement_users, remove_statement_users};
 use cpe_rows::{Mode, Truth};
+use fact_boards::KeptFacts;
 use fact_rows::FactRows;
-use kept_facts::KeptFacts;
 use name_index::{NameId, NameTable, Steps};
 use std::alloc::Global;
 use std::marker::Model;
@@ -54,7 +54,7 @@ impl Facts {
 
     /// The truth of a fact, or UNKNOWN if it is no fact.
     pub fn truth(&self, mode: Mode, fact: NameId) -> Truth
-        ensures value { result ≡ truth_of (table_of self.now mode) fact.0 }
+        ensures value { result ≡ truth_of_fact (table_of self.now mode) fact.0 }
         ensures fact { (names : Names) (rows : Rows) (tickets : List ℕ) → HasFacts names self.now rows tickets → is_used (table_of self.now mode) fact.0 ≡ true → result ≡ fact_truth rows mode (name_at names fact) }
     {
         match mode {
@@ -87,7 +87,7 @@ impl Facts {
     /// The facts of a mode whose truth the last edit replaced, each once.
     pub fn changed(&self, mode: Mode) -> &[NameId]
         ensures value { result.now ≡ (table_of self.now mode).changed }
-        ensures facts { (q : ℕ) → has_end (table_of self.now mode).changed q ≡ true → is_fact (table_of self.now mode) q ≡ true }
+        ensures facts { (q : ℕ) → has_end_of_fact (table_of self.now mode).changed q ≡ true → is_fact (table_of self.now mode) q ≡ true }
     {
         match mode {
             Mode::Plain => self.plain.changed(),
@@ -120,15 +120,15 @@ impl Facts {
         steps: &mut Steps<L>,
     )
         requires { MayAddItem self.old table.now item ends.now }
-        ensures { ItemAdded self.old self.new table.now item ends.now steps.old steps.new }
+        ensures { ItemCovered self.old self.new table.now item ends.now steps.old steps.new }
     {
         table.lawful();
-        kept_facts::law::few_stand();
+        fact_boards::law::few_present();
         fact_laws::law::lawful_rows_ask_few();
         self.plain.clear_changed();
         self.follow.clear_changed();
         self.boards.lawful();
-        self.boards.item_comes(table, item, ends, steps);
+        self.boards.add_item_to_boards(table, item, ends, steps);
         self.boards.lawful();
         settle(&mut self.boards, &mut self.plain, &mut self.follow);
     }
@@ -150,7 +150,8 @@ impl Facts {
         self.plain.clear_changed();
         self.follow.clear_changed();
         self.boards.lawful();
-        self.boards.item_goes(table, item, ends, steps);
+        self.boards
+            .remove_item_from_boards(table, item, ends, steps);
         self.boards.lawful();
         settle(&mut self.boards, &mut self.plain, &mut self.follow);
     }
@@ -170,11 +171,11 @@ impl Facts {
         steps: &mut Steps<L>,
     )
         requires { MayAddStatement self.old table.now mode ids.now fresh.now asked.now ticket }
-        ensures { StatementAdded self.old self.new table.now mode ids.now fresh.now asked.now ticket steps.old steps.new }
+        ensures { StatementUsed self.old self.new table.now mode ids.now fresh.now asked.now ticket steps.old steps.new }
     {
         table.lawful();
-        kept_facts::law::few_stand();
-        kept_facts::law::looks_are_by_names();
+        fact_boards::law::few_present();
+        fact_boards::law::looks_are_by_names();
         self.plain.clear_changed();
         self.follow.clear_changed();
         self.boards.lawful();
@@ -213,7 +214,7 @@ impl Facts {
         steps: &mut Steps<L>,
     )
         requires { MayRemoveStatement self.old table.now mode ids.now last.now asked.now ticket }
-        ensures { StatementRemoved self.old self.new table.now mode ids.now last.now asked.now ticket steps.old steps.new }
+        ensures { StatementUnused self.old self.new table.now mode ids.now last.now asked.now ticket steps.old steps.new }
     {
         table.lawful();
         self.plain.clear_changed();
@@ -246,8 +247,8 @@ impl Facts {
     {
         table.lawful();
         cpe_rows::touching::deprecations_touch();
-        kept_facts::law::few_stand();
-        kept_facts::law::looks_are_by_names();
+        fact_boards::law::few_present();
+        fact_boards::law::looks_are_by_names();
         self.plain.clear_changed();
         self.follow.clear_changed();
         self.boards.lawful();

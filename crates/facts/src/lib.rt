@@ -15,6 +15,6 @@ mod refresh;
 mod room;
 mod users;
 
+pub use fact_boards::Met;
 pub use facts::Facts;
-pub use kept_facts::Met;
 pub use lead::Led;

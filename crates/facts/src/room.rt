@@ -1,14 +1,14 @@
 // Calls that take memory for an edit, and the call that gives it up. None of them changes what the facts show of the rows.
 ghost use Rattle.std.specs.Prelude.{◌≡◌, ◌≤◌, ℕ, [], List, None, false, true};
 ghost use Rattle.cpe_rows.specs.Prelude.{IsLawful, Rows};
-ghost use Rattle.fact_rows.specs.Facts.{fact_at, has_end, is_fact, users_of};
+ghost use Rattle.fact_rows.specs.Facts.{fact_at, has_end_of_fact, is_fact, users_of};
 ghost use Rattle.facts.specs.Facts.{HasFacts, table_of};
 ghost use Rattle.facts.specs.Room.{EndsLinked, RoomForUsers, RoomOnBoards, UnusedAdded, UnusedRemoved};
 
 use crate::facts::Facts;
 use crate::users::{remove_facts, reserve_users};
 use cpe_rows::{Memory, Mode};
-use kept_facts::Wanted;
+use fact_boards::WantedRoom;
 use name_index::{NameId, NameTable};
 use std::alloc::Global;
 
@@ -35,8 +35,8 @@ impl Facts {
 
     /// Removes facts of a mode that no statement uses, and whose truth the last edit did not replace. Allocates: no.
     pub fn remove_unused(&mut self, mode: Mode, unused: &[NameId])
-        requires users { (q : ℕ) → has_end unused.now q ≡ true → users_of (table_of self.old mode) q ≡ [] }
-        requires unchanged { (q : ℕ) → has_end unused.now q ≡ true → has_end (table_of self.old mode).changed q ≡ false }
+        requires users { (q : ℕ) → has_end_of_fact unused.now q ≡ true → users_of (table_of self.old mode) q ≡ [] }
+        requires unchanged { (q : ℕ) → has_end_of_fact unused.now q ≡ true → has_end_of_fact (table_of self.old mode).changed q ≡ false }
         ensures { UnusedRemoved self.old self.new mode unused.now }
     {
         match mode {
@@ -50,7 +50,7 @@ impl Facts {
     /// # Errors
     /// Only that memory ran out.
     pub fn reserve_users(&mut self, mode: Mode, ids: &[NameId]) -> Result<(), Memory>
-        requires { (q : ℕ) → has_end ids.now q ≡ true → is_fact (table_of self.old mode) q ≡ true }
+        requires { (q : ℕ) → has_end_of_fact ids.now q ≡ true → is_fact (table_of self.old mode) q ≡ true }
         ensures { RoomForUsers self.old self.new mode ids.now result }
     {
         match mode {
@@ -76,16 +76,16 @@ impl Facts {
     pub fn reserve(
         &mut self,
         table: &NameTable,
-        plain: Wanted,
-        follow: Wanted,
+        plain: WantedRoom,
+        follow: WantedRoom,
     ) -> Result<(), Memory>
         requires few { plain.there ≤ 268435456 }
         requires few_follow { follow.there ≤ 268435456 }
-        requires stood { (rows : Rows) × (tickets : List ℕ) × IsLawful rows × HasFacts table.now self.old rows tickets }
+        requires rows_before { (rows : Rows) × (tickets : List ℕ) × IsLawful rows × HasFacts table.now self.old rows tickets }
         ensures { RoomOnBoards self.old self.new table.now plain follow result }
     {
         table.lawful();
-        kept_facts::law::few_stand();
+        fact_boards::law::few_present();
         self.boards.lawful();
         self.boards.reserve(table, plain, follow)
     }

@@ -3,8 +3,8 @@
 // last vector of a table.
 ghost use Rattle.std.specs.Prelude.{◌≡◌, ◌+◌, ◌≤◌, [], ◌∷◌};
 ghost use Rattle.name_index.specs.Prelude.{IsLower, kept_at};
-ghost use Rattle.name_index.specs.Index.{Fits};
-ghost use Rattle.library_tests.specs.Tried.{plain};
+ghost use Rattle.name_index.specs.Index.{FitsTable};
+ghost use Rattle.library_tests.specs.Tried.{tried_value};
 
 use cpe_name::{Wfn, read_wfn};
 use cpe_rows::Memory;
@@ -80,7 +80,7 @@ fn uses_again(alloc: Global) -> bool {
 }
 
 #[test]
-fn a_number_that_goes_is_used_again(rt: HostRuntime) {
+fn a_removed_number_is_used_again(rt: HostRuntime) {
     assert!(rt; uses_again(rt.alloc()));
 }
 
@@ -93,15 +93,15 @@ fn look_at_one<L: Ledger>(
     name: &Wfn,
     steps: &mut Steps<L>,
 ) -> Result<Vec<NameId>, Memory>
-    requires fits { Fits index.now.held table.now }
+    requires fits { FitsTable index.now.held table.now }
     requires held { index.now.held ≡ (0, 0) ∷ (1, 1) ∷ (2, 2) ∷ (3, 3) ∷ (4, 4) ∷ [] }
-    requires first { (kept_at table.now 0).name.product ≡ plain (112 ∷ []) }
-    requires second { (kept_at table.now 1).name.product ≡ plain (113 ∷ 48 ∷ []) }
-    requires third { (kept_at table.now 2).name.product ≡ plain (113 ∷ 49 ∷ []) }
-    requires fourth { (kept_at table.now 3).name.product ≡ plain (113 ∷ 50 ∷ []) }
-    requires fifth { (kept_at table.now 4).name.product ≡ plain (113 ∷ 51 ∷ []) }
+    requires first { (kept_at table.now 0).name.product ≡ tried_value (112 ∷ []) }
+    requires second { (kept_at table.now 1).name.product ≡ tried_value (113 ∷ 48 ∷ []) }
+    requires third { (kept_at table.now 2).name.product ≡ tried_value (113 ∷ 49 ∷ []) }
+    requires fourth { (kept_at table.now 3).name.product ≡ tried_value (113 ∷ 50 ∷ []) }
+    requires fifth { (kept_at table.now 4).name.product ≡ tried_value (113 ∷ 51 ∷ []) }
     requires lower { IsLower name.now }
-    requires asked { name.now.product ≡ plain (112 ∷ []) }
+    requires asked { name.now.product ≡ tried_value (112 ∷ []) }
     ensures { steps.new ≤ steps.old + 1 }
 {
     index.covered_by(alloc, table, name, steps)

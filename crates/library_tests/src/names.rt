@@ -152,7 +152,7 @@ fn lends_none(said: &[u8]) -> bool {
 }
 
 #[test]
-fn what_stands_bare_is_lent(rt: HostRuntime) {
+fn bare_values_are_lent(rt: HostRuntime) {
     let fs = b"cpe:2.3:*:??a-z_09.:*:*:*:*:*:*:*:*:-x";
     let uri = b"CPE:/a:a-z_0~9.::::~-~~~~other";
     assert!(rt;

@@ -3,8 +3,8 @@
 use cpe_name::Wfn;
 use cpe_records::{Record, read_record};
 use cpe_rows::{CheckKey, Edit, Entry, Facts, Statement, Truth, evaluate};
+use record_writer::write_entry;
 use std::alloc::Global;
-use written_records::write_entry;
 
 // ---- an entry
 

@@ -1,5 +1,5 @@
 // A snapshot with one row of each kind, whose rows are read in one call.
-use cpe_snapshot::{PlacedEntry, PlacedRows, names_at, read_rows};
+use snapshot_bytes::{PlacedEntry, PlacedRows, names_at, read_rows};
 use std::alloc::Global;
 
 // The bytes of a snapshot: an entry, an item, a statement with a check, and the result of this check.

@@ -1,19 +1,19 @@
 // The order of versions.
-use cpe_versions::version_cmp;
+use advise_versions::version_cmp;
 use std::cmp::Ordering;
 
 // Whether the first version has this order to the second, and the second has the converse order to the first.
-fn stand(a: &str, b: &str, so: Ordering, conversely: Ordering) -> bool {
+fn are_present(a: &str, b: &str, so: Ordering, conversely: Ordering) -> bool {
     version_cmp(a.as_bytes(), b.as_bytes()) == so
         && version_cmp(b.as_bytes(), a.as_bytes()) == conversely
 }
 
 // Whether each version has this order to the next version, and the next has the converse order to it.
-fn each_stands(versions: &[&str], so: Ordering, conversely: Ordering) -> bool {
+fn each_present(versions: &[&str], so: Ordering, conversely: Ordering) -> bool {
     let mut last = None;
     for version in versions {
         if let Some(before) = last {
-            if !stand(before, version, so, conversely) {
+            if !are_present(before, version, so, conversely) {
                 return false;
             }
         }
@@ -23,11 +23,11 @@ fn each_stands(versions: &[&str], so: Ordering, conversely: Ordering) -> bool {
 }
 
 fn rise(versions: &[&str]) -> bool {
-    each_stands(versions, Ordering::Less, Ordering::Greater)
+    each_present(versions, Ordering::Less, Ordering::Greater)
 }
 
 fn are_equal(versions: &[&str]) -> bool {
-    each_stands(versions, Ordering::Equal, Ordering::Equal)
+    each_present(versions, Ordering::Equal, Ordering::Equal)
 }
 
 #[test]

@@ -1,4 +1,4 @@
--- Reads of a list by `slice_get`, after a write or a push; and a sum over lists that differ at one place.
+-- Lemmas: reading a list by `slice_get` after a write or an appended element; sums over lists that differ at one place.
 use Rattle.std.proofs.Common.{◌≡◌, ◌≢◌, ℕ, zero, suc, ◌+◌, ◌<◌, ◌≤◌, List, [], ◌∷◌, ◌++◌, length, get_or, set, Option, Some, None, is_some, count_by, cond, slice_get, refl, sym, ap, arith}
 use Rattle.std.specs.List.{sum_by}
 use Rattle.std.proofs.lemmas.List.Sums.{sum_by-cons}
@@ -26,7 +26,7 @@ module _ {X : Type 0} where
   slice_get-push_other (y ∷ xs) x zero h = refl
   slice_get-push_other (y ∷ xs) x (suc j) h = slice_get-push_other xs x j (λ e. h (ap suc e))
 
--- lists of optional things, read as if `None` stood after their ends
+-- A list of optional elements is read as if `None` followed its end.
 module _ {X : Type 0} (f : Option X → ℕ) (f-none : f None ≡ 0) where
   sum_none : (ls : List (Option X)) → ((j : ℕ) → get_or ls j None ≡ None) → sum_by f ls ≡ 0
   sum_none [] h = refl

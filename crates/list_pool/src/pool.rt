@@ -1,14 +1,14 @@
-// The pool, and its public calls.
+// A pool of lists: its public functions.
 ghost use Rattle.std.specs.Prelude.{◌≡◌, ◌+◌, ◌≤◌, ◌↔◌, [], length, IsNone, IsSome, IsTrue, IsOk, OnOk, OnErr, IfSome, None, Some, option_map};
 ghost use Rattle.std.specs.Bool.{OnTrue, OnFalse};
-ghost use Rattle.list_pool.specs.Pool.{list_at, IsLive, pool_size, live_count, Updates, Pushes, find_list, cell_at, IsCell, AreApart, NextIs, ValueIs, IsOn, Writes, TakesOut, last_cell_of, cell_with, value_at, has_value, without_first};
+ghost use Rattle.list_pool.specs.Pool.{list_at, IsLiveList, pool_size, live_count, Updates, Pushes, find_list, cell_at, IsCell, AreApart, NextIs, ValueIs, IsCellOf, WritesCell, TakesOut, last_cell_of, cell_with, cell_value_at, has_value, without_first_cell};
 
-use crate::store::{Cell, END, Head, Slot, Store};
+use crate::store::{Cell, END, Head, PoolSlot, Store};
 use out_of_memory::Memory;
 use std::alloc::Global;
 use std::marker::Model;
 
-/// The most lists and cells that may be there or reserved, together.
+/// The limit of the lists and cells that are used or reserved, together.
 pub const MOST_SLOTS: usize = 4_294_967_295;
 
 /// The name of a list.
@@ -19,7 +19,8 @@ pub struct ListName(pub u32);
 #[derive(Clone, Copy, Debug, PartialEq, Eq, PartialOrd, Ord)]
 pub struct CellName(pub u32);
 
-/// Many lists of numbers. Two lists never share a cell, and no call changes a list but the one that it names.
+/// Many lists of numbers. Two lists never share a cell. A function that changes a list leaves all other lists
+/// unchanged.
 #[derive(Drop)]
 pub struct Pool {
     store: Store,
@@ -39,7 +40,7 @@ impl Model for Pool {
 }
 
 impl Pool {
-    /// A pool without lists and without room. It takes no memory.
+    /// A pool without lists and without room. Allocates: no.
     pub fn new(alloc: Global) -> Pool
         ensures lists { result.lists ≡ [] }
         ensures spare { result.spare ≡ 0 }
@@ -54,12 +55,13 @@ impl Pool {
         }
     }
 
-    /// Makes room for `n` lists and cells together, beside those that are there: afterwards `spare` is `n` at least, and never
-    /// less than before. The lists stay. It costs a constant, or where the slots move a copy of each.
+    /// Makes room for `n` lists and cells together, in addition to those that exist. Afterwards `spare` is at least
+    /// `n`, and at least what it was before. The lists are unchanged. The time is constant, except if the slots are
+    /// moved: then each slot is copied.
     ///
     /// # Errors
     ///
-    /// [`Memory`] where memory ran out, and `spare` was less than `n`; the pool is as before.
+    /// [`Memory`] if memory ran out, and `spare` was less than `n`; the pool is then unchanged.
     pub fn reserve(&mut self, n: usize) -> Result<(), Memory>
         requires { pool_size self.old.lists + n ≤ MOST_SLOTS }
         ensures spare { OnOk result (n ≤ self.new.spare) }
@@ -78,24 +80,25 @@ impl Pool {
         Ok(())
     }
 
-    /// How many slots the live lists take: one each, and one for each of their values. A constant time.
+    /// How many slots the live lists take: one for each list, and one for each of its values. Constant time.
     pub fn size(&self) -> usize
         ensures { result ≡ pool_size self.now.lists }
     {
         self.store.items.len() - self.store.free_len as usize
     }
 
-    /// How many lists and cells may be added without memory. A constant time.
+    /// How many lists and cells can be added without memory. Constant time.
     pub fn spare(&self) -> usize
         ensures { result ≡ self.now.spare }
     {
         self.store.free_len as usize + self.store.room as usize
     }
 
-    /// Makes an empty list, and answers its name, which no live list had. It takes one off `spare`, no memory, and a constant
-    /// time.
+    /// Makes an empty list, and returns its name, which no live list had. `spare` is one less then. Constant time.
+    /// Allocates: no.
     ///
-    /// `None` exactly where [`MOST_SLOTS`] lists are live; where `spare` is 1 or more, as is asked here, it never comes.
+    /// `None` exactly if [`MOST_SLOTS`] lists are live. The contract requires that `spare` is at least 1, so this never
+    /// happens.
     pub fn make_list(&mut self) -> Option<ListName>
         requires { 1 ≤ self.old.spare }
         ensures left { IsSome result }
@@ -104,7 +107,7 @@ impl Pool {
         ensures made { IfSome result (λ list. Updates self.old.lists self.new.lists list.0 (Some [])) }
         ensures spare { self.new.spare + 1 ≡ self.old.spare }
     {
-        let at = self.store.take(Slot::Head(Head {
+        let at = self.store.take(PoolSlot::Head(Head {
             first: END,
             last: END,
             len: 0,
@@ -112,16 +115,16 @@ impl Pool {
         Some(ListName(at))
     }
 
-    /// Puts the value last, in a cell that was on no list. All other cells stay. It takes one off `spare`, no memory, and a
-    /// constant time.
+    /// Appends a value to a list, in a cell that was in no list. All other cells are unchanged. `spare` is one less
+    /// then. Constant time. Allocates: no.
     pub fn push(&mut self, list: ListName, value: u32)
-        requires live { IsLive self.old.lists list.0 }
+        requires live { IsLiveList self.old.lists list.0 }
         requires room { 1 ≤ self.old.spare }
         ensures pushed { Pushes self.old.lists self.new.lists list.0 value }
         ensures spare { self.new.spare + 1 ≡ self.old.spare }
     {
         let head = self.store.head(list.0);
-        let at = self.store.take(Slot::Cell(Cell {
+        let at = self.store.take(PoolSlot::Cell(Cell {
             list: list.0,
             value,
             next: END,
@@ -132,7 +135,7 @@ impl Pool {
                 last: at,
                 len: 1,
             };
-            self.store.put(list.0, Slot::Head(only));
+            self.store.put(list.0, PoolSlot::Head(only));
         } else {
             let last = self.store.cell(head.last);
             let linked = Cell {
@@ -145,30 +148,33 @@ impl Pool {
                 last: at,
                 len: head.len + 1,
             };
-            self.store.put(head.last, Slot::Cell(linked));
-            self.store.put(list.0, Slot::Head(longer));
+            self.store.put(head.last, PoolSlot::Cell(linked));
+            self.store.put(list.0, PoolSlot::Head(longer));
         }
     }
 
-    /// Whether the list is live: made, and not dropped since. A constant time.
+    /// Whether the list is live: it was made, and not dropped since. Constant time.
     pub fn live(&self, list: ListName) -> bool
-        ensures { IsTrue result ↔ IsLive self.now.lists list.0 }
+        ensures { IsTrue result ↔ IsLiveList self.now.lists list.0 }
     {
-        matches!(self.store.items.get(list.0 as usize), Some(Slot::Head(_)))
+        matches!(
+            self.store.items.get(list.0 as usize),
+            Some(PoolSlot::Head(_))
+        )
     }
 
-    /// The length of the list. A constant time.
+    /// The length of the list. Constant time.
     pub fn len(&self, list: ListName) -> usize
-        requires { IsLive self.now.lists list.0 }
+        requires { IsLiveList self.now.lists list.0 }
         ensures { result ≡ length (list_at self.now.lists list.0) }
     {
         let head = self.store.head(list.0);
         head.len as usize
     }
 
-    /// The cell of the first position; `None` exactly where the list is empty. A constant time.
+    /// The first cell of the list; `None` exactly if the list is empty. Constant time.
     pub fn first(&self, list: ListName) -> Option<CellName>
-        requires { IsLive self.now.lists list.0 }
+        requires { IsLiveList self.now.lists list.0 }
         ensures { option_map (λ c. c.0) result ≡ cell_at self.now.lists list.0 0 }
     {
         let head = self.store.head(list.0);
@@ -179,9 +185,9 @@ impl Pool {
         }
     }
 
-    /// The cell of the last position; `None` exactly where the list is empty. A constant time.
+    /// The last cell of the list; `None` exactly if the list is empty. Constant time.
     pub fn last(&self, list: ListName) -> Option<CellName>
-        requires { IsLive self.now.lists list.0 }
+        requires { IsLiveList self.now.lists list.0 }
         ensures { option_map (λ c. c.0) result ≡ last_cell_of self.now.lists list.0 }
     {
         let head = self.store.head(list.0);
@@ -192,10 +198,10 @@ impl Pool {
         }
     }
 
-    /// The cell of the first position with this value; `None` exactly where no position has it. It walks the list as far as that
-    /// position.
+    /// The first cell of the list with this value; `None` exactly if no cell has the value. Walks the list up to that
+    /// cell.
     pub fn find(&self, list: ListName, value: u32) -> Option<CellName>
-        requires { IsLive self.now.lists list.0 }
+        requires { IsLiveList self.now.lists list.0 }
         ensures { option_map (λ c. c.0) result ≡ cell_with value (list_at self.now.lists list.0) }
     {
         let head = self.store.head(list.0);
@@ -205,14 +211,14 @@ impl Pool {
         }
     }
 
-    /// Whether the cell stands on the list. A constant time.
+    /// Whether the cell is in the list. Constant time.
     pub fn holds(&self, list: ListName, cell: CellName) -> bool
-        ensures { IsTrue result ↔ IsOn self.now.lists list.0 cell.0 }
+        ensures { IsTrue result ↔ IsCellOf self.now.lists list.0 cell.0 }
     {
         self.store.has_cell(cell.0, list.0)
     }
 
-    /// The cell of the position after the cell's own; `None` exactly where that is the last. A constant time.
+    /// The cell after a cell in its list; `None` exactly if the cell is the last. Constant time.
     pub fn next(&self, cell: CellName) -> Option<CellName>
         requires { IsCell self.now.lists cell.0 }
         ensures { NextIs self.now.lists cell.0 (option_map (λ c. c.0) result) }
@@ -225,7 +231,7 @@ impl Pool {
         }
     }
 
-    /// The value at the cell's position. A constant time.
+    /// The value of a cell. Constant time.
     pub fn value(&self, cell: CellName) -> u32
         requires { IsCell self.now.lists cell.0 }
         ensures { ValueIs self.now.lists cell.0 result }
@@ -234,12 +240,12 @@ impl Pool {
         row.value
     }
 
-    /// Takes out the cell of the first position with this value. All other cells stay, and `spare` rises by one. `false` exactly
-    /// where no position has the value; the pool is as before. It walks the list as far as that position.
+    /// Removes the first cell with this value from the list. All other cells are unchanged, and `spare` is one more.
+    /// Returns `false` exactly if no cell has the value; the pool is then unchanged. Walks the list up to that cell.
     pub fn remove_value(&mut self, list: ListName, value: u32) -> bool
-        requires { IsLive self.old.lists list.0 }
+        requires { IsLiveList self.old.lists list.0 }
         ensures found { result ≡ has_value value (list_at self.old.lists list.0) }
-        ensures removed { OnTrue result (Updates self.old.lists self.new.lists list.0 (Some (without_first value (list_at self.old.lists list.0)))) }
+        ensures removed { OnTrue result (Updates self.old.lists self.new.lists list.0 (Some (without_first_cell value (list_at self.old.lists list.0)))) }
         ensures spare { OnTrue result (self.new.spare ≡ self.old.spare + 1) }
         ensures absent { OnFalse result (self.new ≡ self.old) }
     {
@@ -253,12 +259,12 @@ impl Pool {
         }
     }
 
-    /// Takes out the value at the cell's position in a constant time: the first value takes its place, the first cell goes, and
-    /// `spare` rises by one. Answers the value that went from the first position.
+    /// Removes the value of a cell from the list in constant time. The first value of the list moves into this cell,
+    /// and the first cell is removed. `spare` is one more then. Returns the value that was moved.
     pub fn remove_cell(&mut self, list: ListName, cell: CellName) -> u32
-        requires { IsOn self.old.lists list.0 cell.0 }
+        requires { IsCellOf self.old.lists list.0 cell.0 }
         ensures removed { TakesOut self.old.lists self.new.lists list.0 cell.0 }
-        ensures moved { value_at self.old.lists list.0 0 ≡ Some result }
+        ensures moved { cell_value_at self.old.lists list.0 0 ≡ Some result }
         ensures spare { self.new.spare ≡ self.old.spare + 1 }
     {
         let Some(first) = self.first(list) else {
@@ -270,16 +276,16 @@ impl Pool {
         value
     }
 
-    // Overwrites the value at the cell's position.
+    // Overwrites the value of a cell.
     fn set_value(&mut self, cell: CellName, value: u32)
         requires { IsCell self.old.lists cell.0 }
-        ensures written { Writes self.old.lists self.new.lists cell.0 value }
+        ensures written { WritesCell self.old.lists self.new.lists cell.0 value }
         ensures spare { self.new.spare ≡ self.old.spare }
     {
         let row = self.store.cell(cell.0);
         self.store.put(
             cell.0,
-            Slot::Cell(Cell {
+            PoolSlot::Cell(Cell {
                 list: row.list,
                 value,
                 next: row.next,
@@ -287,9 +293,9 @@ impl Pool {
         );
     }
 
-    /// Takes the list away: it isn't live any more, and `spare` rises by one and by its length. It walks the list.
+    /// Drops the list, which isn't live any more. `spare` grows by one and by the list's length. Walks the list.
     pub fn drop_list(&mut self, list: ListName)
-        requires { IsLive self.old.lists list.0 }
+        requires { IsLiveList self.old.lists list.0 }
         ensures dropped { Updates self.old.lists self.new.lists list.0 None }
         ensures spare { self.new.spare ≡ self.old.spare + 1 + length (list_at self.old.lists list.0) }
     {
@@ -300,8 +306,8 @@ impl Pool {
         self.store.give(list.0);
     }
 
-    /// What is so of every pool: no cell stands at two positions, and the live lists, their lengths and `spare` are together
-    /// [`MOST_SLOTS`] at most. It does nothing, and tells a proof so.
+    /// Law: no cell is at two positions of lists. The live lists, their lengths and `spare` add up to at most
+    /// [`MOST_SLOTS`].
     pub fn lawful(&self)
         ensures apart { AreApart self.now.lists }
         ensures few { pool_size self.now.lists + self.now.spare ≤ MOST_SLOTS }

@@ -1,4 +1,4 @@
--- The covered names among the near ones, sorted.
+-- Lemmas: the covered names among the near names, sorted.
 use Rattle.std.proofs.Common.{◌≡◌, ℕ, zero, suc, ◌+◌, ◌<◌, ◌≤◌, Bool, true, false, cond, eqb, List, [], ◌∷◌, ◌++◌, map, length, get_or, Option, Some, None, is_some, count_by, refl, sym, ap, subst, ◌∙◌, inl, inr, arith, eq-eqb, add-one, append_assoc}
 use Rattle.std.specs.Prelude.{nat_eq, IsSome}
 use Rattle.std.specs.List.{list_all, sum_by, filter, AllByRecursion, slice_index_or}
@@ -22,11 +22,11 @@ use Rattle.product_orders.specs.Near.{covers_product}
 use Rattle.product_orders.proofs.Sums.{if_passes, sum_filter, sum_passing}
 use Rattle.name_index.specs.declared.table.NameId.{NameId}
 use Rattle.name_index.specs.Table.{Names, Kept, find_kept, kept_at, IsLive}
-use Rattle.name_index.specs.Index.{ids, name_id, Fits, is_near, is_product_covered, times_held}
+use Rattle.name_index.specs.Index.{ids, name_id, FitsTable, is_near, is_product_covered, times_held}
 use Rattle.name_index.proofs.Postings.{sum_map}
 use Rattle.name_index.proofs.NearSums.{none_all}
 
--- ---- each walked number is live
+-- ---- each number of a walk is live
 
 abbrev dead : Names → NameId → ℕ
 dead names id = cond (is_some (find_kept names id.0)) 0 1
@@ -53,18 +53,18 @@ less_filtered f q xs h = sum_filter f q xs ∙ none_all (if_passes q f) xs (weak
     none true n e = e
     none false n e = refl
 
-pub walk_live : (names : Names) (held : List (ℕ × ℕ)) (q : NameId → Bool) (walk : List NameId) → Fits held names → SameElements (filter q (ids held)) walk → AllByRecursion (λ (id : NameId). IsLive names id.0) walk
+pub walk_live : (names : Names) (held : List (ℕ × ℕ)) (q : NameId → Bool) (walk : List NameId) → FitsTable held names → SameElements (filter q (ids held)) walk → AllByRecursion (λ (id : NameId). IsLive names id.0) walk
 walk_live names held q walk fits same =
     weaker (λ (id : NameId). dead names id ≡ 0) (λ (id : NameId). IsLive names id.0) walk (live_by names) (zero_terms (dead names) walk (sym (same (dead names)) ∙ less_filtered (dead names) q (ids held) (all_live held fits)))
   where
-    all_live : (held : List (ℕ × ℕ)) → Fits held names → sum_by (dead names) (ids held) ≡ 0
+    all_live : (held : List (ℕ × ℕ)) → FitsTable held names → sum_by (dead names) (ids held) ≡ 0
     all_live held fits = sum_map (dead names) (λ (x : ℕ × ℕ). name_id x.0) held ∙ none_all (λ (x : ℕ × ℕ). dead names (name_id x.0)) held (recursion_from_All (λ (x : ℕ × ℕ). dead names (name_id x.0) ≡ 0) held
         (All-weaker (λ (x : ℕ × ℕ). (k : Kept) × (find_kept names x.0 ≡ Some k) × (k.product ≡ x.1)) (λ (x : ℕ × ℕ). dead names (name_id x.0) ≡ 0) (λ x h. ap {B = ℕ} (λ (u : Option Kept). cond (is_some u) 0 1) h.1) held fits))
 
 pub tail_live : (names : Names) (id : NameId) (rest walk : List NameId) → walk ≡ id ∷ rest → AllByRecursion (λ (x : NameId). IsLive names x.0) walk → IsLive names id.0 × AllByRecursion (λ (x : NameId). IsLive names x.0) rest
 tail_live names id rest walk e h = let k = subst (λ (xs : List NameId). AllByRecursion (λ (x : NameId). IsLive names x.0) xs) e h in (k.0, k.1)
 
--- ---- what is found grows by what is looked at
+-- ---- the found names grow by the names that are looked at
 
 pub found_more : (q : NameId → Bool) (found all rest xs : List NameId) (x : NameId) (b : Bool) → xs ≡ x ∷ rest → q x ≡ b → found ++ filter q xs ≡ all → cond b (found ++ x ∷ []) found ++ filter q rest ≡ all
 found_more q found all rest xs x b e t h =
@@ -75,11 +75,11 @@ found_more q found all rest xs x b e t h =
     go true k = append_assoc found (x ∷ []) (filter q rest) ∙ k
     go false k = k
 
--- once nothing is left, all was looked at
+-- If nothing is left of a walk, the found names are all names that pass.
 pub found_all : (q : NameId → Bool) (found left all : List NameId) → left ≡ [] → found ++ filter q left ≡ filter q all → found ≡ filter q all
 found_all q found left all ends h = sym (append-nil found) ∙ ap (λ (xs : List NameId). found ++ filter q xs) (sym ends) ∙ h
 
--- ---- how many are near, and the covered ones among them
+-- ---- the number of near names, and the covered names among them
 
 pub walk_length : {X : Type 0} (q : X → Bool) (held walk : List X) → SameElements (filter q held) walk → length walk ≡ count_by q held
 walk_length q held walk same = sym (count_all walk) ∙ sym (same (λ x. 1)) ∙ count_all (filter q held) ∙ length-filter q held
@@ -109,7 +109,7 @@ covered_same p q held walk found imp same sorted f =
 above_in : Values → Values → List Attribute → Bool
 above_in a b ws = list_all is_above (map (λ w. relation (value_of a w) (value_of b w)) ws)
 
--- a name covers none whose product its own doesn't cover
+-- A name covers another only if its product covers the other's product.
 pub product_covered : (a b : Values) → covers a b ≡ true → covers_product a.product b.product ≡ true
 unfolding covers above_in
 product_covered a b h =
@@ -118,7 +118,7 @@ product_covered a b h =
     let q = and_parts (is_above (relation a.vendor b.vendor)) (above_in a b (Product ∷ from_version)) p.1 in
     (and_parts (is_above (relation a.product b.product)) (above_in a b from_version) q.1).0
 
--- the asked product is near those that it covers
+-- There are no more covered products than near products: a product is near each product that it covers.
 pub fewer_covered : (names : Names) (asked : Value) (xs : List NameId) → count_by (is_product_covered names asked) xs ≤ count_by (is_near names side.Source asked) xs
 fewer_covered names asked xs =
     sum_by-le-sum_by (λ id. cond (is_product_covered names asked id) 1 0) (λ id. cond (is_near names side.Source asked id) 1 0) xs
@@ -129,7 +129,7 @@ fewer_covered names asked xs =
     by true false n h = absurd (false≢true (h refl))
     by false b n h = omega arith
 
--- ---- rising, since each stands once
+-- ---- the numbers rise, since each is in the list once
 
 abbrev pub Rising : List NameId → Type 0
 Rising xs = IsStrictlyIncreasing (map (λ (id : NameId). id.0) xs)

@@ -1,4 +1,4 @@
--- Held numbers fit a table: what each change leaves.
+-- Lemmas: held numbers fit a table after each change.
 use Rattle.std.proofs.Common.{◌≡◌, ℕ, suc, ◌+◌, ◌≤◌, Bool, true, false, cond, eqb, List, [], ◌∷◌, Option, Some, None, refl, sym, ap, subst, ◌∙◌, arith, eqb-true, eq-eqb}
 use Rattle.std.specs.Prelude.{nat_eq, IsSome}
 use Rattle.std.specs.List.{sum_by, AllByRecursion, Contains}
@@ -8,10 +8,10 @@ use Rattle.std.proofs.lemmas.List.Sums.{sum_by-cons, get_or-le-sum_by}
 use Rattle.std.proofs.lemmas.List.Elements.{recursion_from_All, All-from_recursion}
 use Rattle.cpe_name.specs.Eleven.{Values}
 use Rattle.product_orders.specs.Elements.{SameElements}
-use Rattle.name_index.specs.Table.{Names, Kept, kept, find_kept, kept_or, kept_at, IsLive, HasName, Holding, Holds, Releases}
-use Rattle.name_index.specs.Index.{Fits, times_held}
+use Rattle.name_index.specs.Table.{Names, Kept, kept, find_kept, kept_or, kept_at, IsLive, HasName, HoldsOnce, HoldsName, Releases}
+use Rattle.name_index.specs.Index.{FitsTable, times_held}
 
--- the number is live with this product number
+-- The number is live, with this product number.
 abbrev FitsAt : Names → ℕ × ℕ → Type 0
 FitsAt names x = (k : Kept) × (find_kept names x.0 ≡ Some k) × (k.product ≡ x.1)
 
@@ -19,7 +19,7 @@ abbrev fits_by : Option Kept → ℕ → Bool
 fits_by None product = false
 fits_by (Some k) product = nat_eq k.product product
 
--- one where the number doesn't fit
+-- 1 if the number doesn't fit the table, else 0
 abbrev misfit : Names → ℕ × ℕ → ℕ
 misfit names x = cond (fits_by (find_kept names x.0) x.1) 0 1
 
@@ -47,18 +47,18 @@ sum_fits names [] h = tt
 sum_fits names (x ∷ held) h =
     (none_fit names x (omega (arith, h, sum_by-cons (misfit names) x held)), sum_fits names held (omega (arith, h, sum_by-cons (misfit names) x held)))
 
-opened : (names : Names) (held : List (ℕ × ℕ)) → Fits held names → AllByRecursion (FitsAt names) held
+opened : (names : Names) (held : List (ℕ × ℕ)) → FitsTable held names → AllByRecursion (FitsAt names) held
 opened names held fits = recursion_from_All (FitsAt names) held fits
 
-closed : (names : Names) (held : List (ℕ × ℕ)) → AllByRecursion (FitsAt names) held → Fits held names
+closed : (names : Names) (held : List (ℕ × ℕ)) → AllByRecursion (FitsAt names) held → FitsTable held names
 closed names held h = All-from_recursion (FitsAt names) held h
 
--- ---- a hold
+-- ---- a name is held
 
-hold_at : (old new : Names) (id : ℕ) (name : Values) (x : ℕ × ℕ) → Holds old new id name → FitsAt old x → FitsAt new x
+hold_at : (old new : Names) (id : ℕ) (name : Values) (x : ℕ × ℕ) → HoldsName old new id name → FitsAt old x → FitsAt new x
 hold_at old new id name x h fit = by (eqb x.0 id) refl
   where
-    raised : (o : Option Kept) → o ≡ Some fit.0 → Holding o name (find_kept new id) → (k : Kept) × (find_kept new id ≡ Some k) × (k.product ≡ fit.0.product)
+    raised : (o : Option Kept) → o ≡ Some fit.0 → HoldsOnce o name (find_kept new id) → (k : Kept) × (find_kept new id ≡ Some k) × (k.product ≡ fit.0.product)
     raised None e held = absurd (none-some fit.0 e)
     raised (Some k) e held = (kept k.name (k.holds + 1) k.product, held.1, ap (λ (j : Kept). j.product) (same_Some k fit.0 e))
 
@@ -69,21 +69,21 @@ hold_at old new id name x h fit = by (eqb x.0 id) refl
         (r.0, ap (find_kept new) is ∙ r.1, r.2 ∙ fit.2)
     by false e = (fit.0, h.others x.0 (λ is. both_ways _ e (eq-eqb x.0 id is)) ∙ fit.1, fit.2)
 
-hold_all : (old new : Names) (id : ℕ) (name : Values) (held : List (ℕ × ℕ)) → Holds old new id name → AllByRecursion (FitsAt old) held → AllByRecursion (FitsAt new) held
+hold_all : (old new : Names) (id : ℕ) (name : Values) (held : List (ℕ × ℕ)) → HoldsName old new id name → AllByRecursion (FitsAt old) held → AllByRecursion (FitsAt new) held
 hold_all old new id name [] h fits = tt
 hold_all old new id name (x ∷ held) h fits = (hold_at old new id name x h fits.0, hold_all old new id name held h fits.1)
 
-pub held_fits : (old new : Names) (id : ℕ) (name : Values) (held : List (ℕ × ℕ)) → Holds old new id name → Fits held old → Fits held new
+pub held_fits : (old new : Names) (id : ℕ) (name : Values) (held : List (ℕ × ℕ)) → HoldsName old new id name → FitsTable held old → FitsTable held new
 held_fits old new id name held h fits = closed new held (hold_all old new id name held h (opened old held fits))
 
-pub number_fresh : (old new : Names) (id : ℕ) (name : Values) → Holds old new id name → ((other : ℕ) → HasName old other name → ⊥) → find_kept old id ≡ None
+pub number_fresh : (old new : Names) (id : ℕ) (name : Values) → HoldsName old new id name → ((other : ℕ) → HasName old other name → ⊥) → find_kept old id ≡ None
 number_fresh old new id name h none = by (find_kept old id) refl h.held
   where
-    by : (o : Option Kept) → find_kept old id ≡ o → Holding o name (find_kept new id) → find_kept old id ≡ None
+    by : (o : Option Kept) → find_kept old id ≡ o → HoldsOnce o name (find_kept new id) → find_kept old id ≡ None
     by None e held = e
     by (Some k) e held = absurd (none id (k, e, held.0))
 
--- ---- a release
+-- ---- a number is released
 
 release_all : (old new : Names) (id : ℕ) (held : List (ℕ × ℕ)) → Releases old new id → times_held held id ≡ 0 → AllByRecursion (FitsAt old) held → AllByRecursion (FitsAt new) held
 release_all old new id [] r none fits = tt
@@ -92,10 +92,10 @@ release_all old new id (x ∷ held) r none fits = (
   release_all old new id held r (omega (arith, none, sum_by-cons (λ (y : ℕ × ℕ). cond (nat_eq id y.0) 1 0) x held)) fits.1,
 )
 
-pub released_fits : (old new : Names) (id : ℕ) (held : List (ℕ × ℕ)) → Releases old new id → times_held held id ≡ 0 → Fits held old → Fits held new
+pub released_fits : (old new : Names) (id : ℕ) (held : List (ℕ × ℕ)) → Releases old new id → times_held held id ≡ 0 → FitsTable held old → FitsTable held new
 released_fits old new id held r none fits = closed new held (release_all old new id held r none (opened old held fits))
 
--- what is kept of a live number
+-- For a live number, `find_kept` returns what `kept_at` returns.
 pub live_is : (names : Names) (id : ℕ) → IsLive names id → find_kept names id ≡ Some (kept_at names id)
 live_is names id h = by (find_kept names id) refl h
   where
@@ -103,7 +103,7 @@ live_is names id h = by (find_kept names id) refl h
     by None e h = absurd cc
     by (Some k) e h = refl
 
--- ---- an addition, and a drop
+-- ---- a number is added to the index, or removed
 
 live_fits : (names : Names) (id : ℕ) → IsLive names id → FitsAt names (id, (kept_at names id).product)
 live_fits names id live = by (find_kept names id) refl (subst IsSome refl live)
@@ -112,17 +112,17 @@ live_fits names id live = by (find_kept names id) refl (subst IsSome refl live)
     by None e some = absurd cc
     by (Some k) e some = (k, e, sym (ap (λ (o : Option Kept). (kept_or o).product) e))
 
-pub added_fits : (names : Names) (id : ℕ) (held more : List (ℕ × ℕ)) → IsLive names id → SameElements ((id, (kept_at names id).product) ∷ held) more → Fits held names → Fits more names
+pub added_fits : (names : Names) (id : ℕ) (held more : List (ℕ × ℕ)) → IsLive names id → SameElements ((id, (kept_at names id).product) ∷ held) more → FitsTable held names → FitsTable more names
 added_fits names id held more live same fits =
     let all = fits_sum names ((id, (kept_at names id).product) ∷ held) (live_fits names id live, opened names held fits) in
     closed names more (sum_fits names more (sym (same (misfit names)) ∙ all))
 
-pub dropped_fits : (names : Names) (id product : ℕ) (held fewer : List (ℕ × ℕ)) → SameElements held ((id, product) ∷ fewer) → Fits held names → Fits fewer names
+pub dropped_fits : (names : Names) (id product : ℕ) (held fewer : List (ℕ × ℕ)) → SameElements held ((id, product) ∷ fewer) → FitsTable held names → FitsTable fewer names
 dropped_fits names id product held fewer same fits =
     (λ (h : AllByRecursion (FitsAt names) ((id, product) ∷ fewer)). closed names fewer h.1)
     (sum_fits names ((id, product) ∷ fewer) (sym (same (misfit names)) ∙ fits_sum names held (opened names held fits)))
 
--- ---- what isn't live isn't held
+-- ---- a number that isn't live isn't held
 
 none_held : (names : Names) (id : ℕ) (held : List (ℕ × ℕ)) → AllByRecursion (FitsAt names) held → find_kept names id ≡ None → times_held held id ≡ 0
 none_held names id [] fits none = refl
@@ -132,10 +132,10 @@ none_held names id (x ∷ held) fits none = by (nat_eq id x.0) refl (none_held n
     by true e rest = absurd (none-some fits.0.0 (sym none ∙ ap (find_kept names) (eqb-true id x.0 e) ∙ fits.0.1))
     by false e rest = omega (arith, rest, sum_by-cons (λ (y : ℕ × ℕ). cond (nat_eq id y.0) 1 0) x held, ap {B = ℕ} (λ (b : Bool). cond b 1 0) e)
 
-pub fresh_held : (names : Names) (id : ℕ) (held : List (ℕ × ℕ)) → Fits held names → find_kept names id ≡ None → times_held held id ≡ 0
+pub fresh_held : (names : Names) (id : ℕ) (held : List (ℕ × ℕ)) → FitsTable held names → find_kept names id ≡ None → times_held held id ≡ 0
 fresh_held names id held fits none = none_held names id held (opened names held fits) none
 
--- ---- what stands in a list
+-- ---- members of a list
 
 abbrev pub is_pair : ℕ → ℕ → ℕ × ℕ → ℕ
 is_pair id product x = cond (nat_eq product x.1) (cond (nat_eq id x.0) 1 0) 0
@@ -145,9 +145,9 @@ pair_counts id product xs has =
     let itself : is_pair id product (id, product) ≡ 1 = ap {B = ℕ} (λ (b : Bool). cond b (cond (nat_eq id id) 1 0) 0) (eq-eqb product product refl) ∙ ap {B = ℕ} (λ (b : Bool). cond b 1 0) (eq-eqb id id refl) in
     omega (arith, get_or-le-sum_by (is_pair id product) xs has.0 (id, product) has.1, ap (is_pair id product) has.2, itself)
 
-pair_stands : (id product : ℕ) (xs : List (ℕ × ℕ)) → 1 ≤ sum_by (is_pair id product) xs → Contains xs (id, product)
-pair_stands id product [] h = absurd (omega (arith, h))
-pair_stands id product (x ∷ xs) h = by (nat_eq product x.1) (nat_eq id x.0) refl refl (λ more. pair_stands id product xs more)
+pair_present : (id product : ℕ) (xs : List (ℕ × ℕ)) → 1 ≤ sum_by (is_pair id product) xs → Contains xs (id, product)
+pair_present id product [] h = absurd (omega (arith, h))
+pair_present id product (x ∷ xs) h = by (nat_eq product x.1) (nat_eq id x.0) refl refl (λ more. pair_present id product xs more)
   where
     further : Contains xs (id, product) → Contains (x ∷ xs) (id, product)
     further has = (suc has.0, omega (arith, has.1), has.2)
@@ -158,20 +158,20 @@ pair_stands id product (x ∷ xs) h = by (nat_eq product x.1) (nat_eq id x.0) re
     by false b e f more = further (more (omega (arith, h, sum_by-cons (is_pair id product) x xs, ap {B = ℕ} (λ (b : Bool). cond b (cond (nat_eq id x.0) 1 0) 0) e)))
 
 pub pair_moves : (held more : List (ℕ × ℕ)) (id product : ℕ) → SameElements held more → Contains held (id, product) → Contains more (id, product)
-pair_moves held more id product same has = pair_stands id product more (omega (arith, same (is_pair id product), pair_counts id product held has))
+pair_moves held more id product same has = pair_present id product more (omega (arith, same (is_pair id product), pair_counts id product held has))
 
--- ---- a number that is held
+-- ---- the number of a held name
 
-pub held_live : (old new : Names) (id : ℕ) (name : Values) → Holds old new id name → IsLive new id
+pub held_live : (old new : Names) (id : ℕ) (name : Values) → HoldsName old new id name → IsLive new id
 held_live old new id name h = by (find_kept old id) h.held
   where
-    by : (o : Option Kept) → Holding o name (find_kept new id) → IsLive new id
+    by : (o : Option Kept) → HoldsOnce o name (find_kept new id) → IsLive new id
     by None held = subst IsSome (sym held.1) refl
     by (Some k) held = subst IsSome (sym held.1) refl
 
-pub held_name : (old new : Names) (id : ℕ) (name : Values) → Holds old new id name → (kept_at new id).name ≡ name
+pub held_name : (old new : Names) (id : ℕ) (name : Values) → HoldsName old new id name → (kept_at new id).name ≡ name
 held_name old new id name h = by (find_kept old id) h.held
   where
-    by : (o : Option Kept) → Holding o name (find_kept new id) → (kept_at new id).name ≡ name
+    by : (o : Option Kept) → HoldsOnce o name (find_kept new id) → (kept_at new id).name ≡ name
     by None held = ap (λ (o : Option Kept). (kept_or o).name) held.1
     by (Some k) held = ap (λ (o : Option Kept). (kept_or o).name) held.1 ∙ held.0

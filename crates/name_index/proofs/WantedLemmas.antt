@@ -1,4 +1,4 @@
--- What a walk over products comes to.
+-- Lemmas: which products a walk visits.
 use Rattle.std.proofs.Common.{◌≡◌, ℕ, Bool, true, false, cond, length, List, [], ◌∷◌, ◌++◌, map, Option, refl, sym, ap, ◌∙◌}
 use Rattle.std.specs.List.{filter, flat_map, sum_by}
 use Rattle.cpe_values.specs.declared.value.Value.{Value}
@@ -8,39 +8,39 @@ use Rattle.list_pool.specs.declared.ListName.{ListName}
 use Rattle.product_orders.specs.declared.products.Side.{Side}
 use Rattle.product_orders.specs.declared.products.Side.TheVariants as side
 use Rattle.product_orders.specs.Elements.{SameElements}
-use Rattle.product_orders.specs.Listed.{Listed, value_at, live}
+use Rattle.product_orders.specs.Listed.{ProductList, product_value_at, live}
 use Rattle.product_orders.specs.Near.{near_on, covers_product}
 use Rattle.product_orders.proofs.Sums.{filter_all, filter_stronger}
-use Rattle.name_index.specs.declared.wanted.Wanted.{Wanted}
-use Rattle.name_index.specs.Wanted.{is_wanted, wanted_of}
-use Rattle.name_index.specs.Index.{values, posting, last_values, walk_left, name_id}
+use Rattle.name_index.specs.declared.wanted.WantedProducts.{WantedProducts}
+use Rattle.name_index.specs.Wanted.{is_wanted_name, wanted_of}
+use Rattle.name_index.specs.Index.{cell_values, posting, last_values, walk_left, name_id}
 
--- near products, of which all are wanted
-pub near_walked : (asked : Value) (products : Listed) (walk : List ℕ) (s : Side)
-    → SameElements (filter (λ n. near_on s asked (value_at products n)) (live products)) walk → SameElements (filter (λ n. near_on s asked (value_at products n)) (live products)) (filter (λ n. true) walk)
+-- If all near products are wanted, the walk visits all near products.
+pub near_walked : (asked : Value) (products : ProductList) (walk : List ℕ) (s : Side)
+    → SameElements (filter (λ n. near_on s asked (product_value_at products n)) (live products)) walk → SameElements (filter (λ n. near_on s asked (product_value_at products n)) (live products)) (filter (λ n. true) walk)
 near_walked asked products walk s same f = same f ∙ sym (ap (sum_by f) (filter_all (λ n. true) (λ n. refl) walk))
 
--- near products, of which those are wanted that the asked one covers
-pub covered_walked : (asked : Value) (products : Listed) (walk : List ℕ)
-    → SameElements (filter (λ n. near_on side.Source asked (value_at products n)) (live products)) walk → SameElements (filter (λ n. covers_product asked (value_at products n)) (live products)) (filter (λ n. covers_product asked (value_at products n)) walk)
+-- If the covered products are wanted, the walk visits all products that the asked product covers.
+pub covered_walked : (asked : Value) (products : ProductList) (walk : List ℕ)
+    → SameElements (filter (λ n. near_on side.Source asked (product_value_at products n)) (live products)) walk → SameElements (filter (λ n. covers_product asked (product_value_at products n)) (live products)) (filter (λ n. covers_product asked (product_value_at products n)) walk)
 covered_walked asked products walk same =
-    filter_stronger (λ n. covers_product asked (value_at products n)) (λ n. near_on side.Source asked (value_at products n)) (λ n h. above_near asked (value_at products n) h) (live products) walk same
+    filter_stronger (λ n. covers_product asked (product_value_at products n)) (λ n. near_on side.Source asked (product_value_at products n)) (λ n h. above_near asked (product_value_at products n) h) (live products) walk same
 
 -- ---- a step of the walk
 
-pub none_of : (xs : List CellRow) → length xs ≡ 0 → values xs ≡ []
+pub none_of : (xs : List CellRow) → length xs ≡ 0 → cell_values xs ≡ []
 none_of [] e = refl
 none_of (x ∷ xs) e = absurd cc
 
-module _ (lists : List (Option (List CellRow))) (heads : List ListName) (w : Wanted) where
-  -- a product is passed over whose names aren't wanted, or that has none
-  pub passed_over : (name left p : ℕ) (ps rest : List ℕ) → ps ≡ p ∷ rest → (is_wanted w p ≡ true → posting lists heads p ≡ []) → walk_left lists heads name left (wanted_of w ps) ≡ walk_left lists heads name left (wanted_of w rest)
-  passed_over name left p ps rest e none = ap (λ (qs : List ℕ). walk_left lists heads name left (wanted_of w qs)) e ∙ by (is_wanted w p) none
+module _ (lists : List (Option (List CellRow))) (heads : List ListName) (w : WantedProducts) where
+  -- A product is skipped if it isn't wanted, or if it has no held names.
+  pub passed_over : (name left p : ℕ) (ps rest : List ℕ) → ps ≡ p ∷ rest → (is_wanted_name w p ≡ true → posting lists heads p ≡ []) → walk_left lists heads name left (wanted_of w ps) ≡ walk_left lists heads name left (wanted_of w rest)
+  passed_over name left p ps rest e none = ap (λ (qs : List ℕ). walk_left lists heads name left (wanted_of w qs)) e ∙ by (is_wanted_name w p) none
     where
       by : (b : Bool) → (b ≡ true → posting lists heads p ≡ []) → walk_left lists heads name left (cond b (p ∷ wanted_of w rest) (wanted_of w rest)) ≡ walk_left lists heads name left (wanted_of w rest)
       by true nothing = ap (λ (xs : List ℕ). map name_id (last_values lists name left ++ (xs ++ flat_map (posting lists heads) (wanted_of w rest)))) (nothing refl)
       by false nothing = refl
 
-  -- one that is wanted comes next
-  pub comes_next : (p : ℕ) (ps rest : List ℕ) → ps ≡ p ∷ rest → is_wanted w p ≡ true → wanted_of w ps ≡ p ∷ wanted_of w rest
-  comes_next p ps rest e wanted = ap (wanted_of w) e ∙ ap (λ (b : Bool). cond b (p ∷ wanted_of w rest) (wanted_of w rest)) wanted
+  -- If the first product is wanted, the walk visits it next.
+  pub next_is_added : (p : ℕ) (ps rest : List ℕ) → ps ≡ p ∷ rest → is_wanted_name w p ≡ true → wanted_of w ps ≡ p ∷ wanted_of w rest
+  next_is_added p ps rest e wanted = ap (wanted_of w) e ∙ ap (λ (b : Bool). cond b (p ∷ wanted_of w rest) (wanted_of w rest)) wanted

@@ -5,6 +5,6 @@ pub mod Wanted
 pub mod Laws
 pub mod Prelude
 pub use Rattle.product_orders.specs as product_orders
-pub use Rattle.cpe_steps.specs as cpe_steps
+pub use Rattle.step_count.specs as step_count
 pub use Rattle.cpe_name.specs as cpe_name
 pub use Rattle.cpe_values.specs as cpe_values

@@ -14,7 +14,7 @@ pub record Kept : Type 0 where
 abbrev pub kept : Values → ℕ → ℕ → Kept
 kept name holds product = record { name = name; holds = holds; product = product }
 
--- by number; nothing where the number is not live
+-- what is kept of each number, by number; none if the number is not live
 abbrev pub Names : Type 0
 Names = List (Option Kept)
 
@@ -32,22 +32,22 @@ kept_or (Some k) = k
 abbrev pub kept_at : Names → ℕ → Kept
 kept_at names id = kept_or (find_kept names id)
 
--- the number is live, and has the name
+-- The number is live, and has the name.
 abbrev pub HasName : Names → ℕ → Values → Type 0
 HasName names id name = (k : Kept) × (find_kept names id ≡ Some k) × (k.name ≡ name)
 
--- a number that was not live gets the name with one hold, and one that had it gets one more
-abbrev pub Holding : Option Kept → Values → Option Kept → Type 0
-Holding None name after = (product : ℕ) × (after ≡ Some (kept name 1 product))
-Holding (Some k) name after = (k.name ≡ name) × (after ≡ Some (kept k.name (k.holds + 1) k.product))
+-- If a number wasn't live, it has the name with one hold. If it had the name, it has one hold more.
+abbrev pub HoldsOnce : Option Kept → Values → Option Kept → Type 0
+HoldsOnce None name after = (product : ℕ) × (after ≡ Some (kept name 1 product))
+HoldsOnce (Some k) name after = (k.name ≡ name) × (after ≡ Some (kept k.name (k.holds + 1) k.product))
 
--- the number of the name: every other number keeps what it had
-pub record Holds (old new : Names) (id : ℕ) (name : Values) : Type 0 where
-  pub held : Holding (find_kept old id) name (find_kept new id)
+-- A name was held: its number has one hold more, and every other number is unchanged.
+pub record HoldsName (old new : Names) (id : ℕ) (name : Values) : Type 0 where
+  pub held : HoldsOnce (find_kept old id) name (find_kept new id)
   pub others : (other : ℕ) → other ≢ id → find_kept new other ≡ find_kept old other
   pub same : (other : ℕ) → HasName old other name → other ≡ id
 
--- with one hold less, and nothing after the last
+-- what is kept with one hold less; none after the last hold
 abbrev pub released : Option Kept → Option Kept
 released None = None
 released (Some k) = cond (nat_lt 1 k.holds) (Some (kept k.name (k.holds - 1) k.product)) None
@@ -56,8 +56,8 @@ pub record Releases (old new : Names) (id : ℕ) : Type 0 where
   pub dropped : find_kept new id ≡ released (find_kept old id)
   pub others : (other : ℕ) → other ≢ id → find_kept new other ≡ find_kept old other
 
--- what holds of every table
-pub record AreNames (names : Names) : Type 0 where
+-- What is true of every table.
+pub record IsNameTable (names : Names) : Type 0 where
   pub lower : (id : ℕ) (k : Kept) → find_kept names id ≡ Some k → IsLower k.name
   pub held : (id : ℕ) (k : Kept) → find_kept names id ≡ Some k → 0 < k.holds
   pub different : (id other : ℕ) (k l : Kept) → find_kept names id ≡ Some k → find_kept names other ≡ Some l → k.name ≡ l.name → id ≡ other

@@ -1,8 +1,8 @@
-// The held names by product.
+// An index of names by product: which numbers it holds, and where.
 ghost use Rattle.std.specs.Prelude.{◌≡◌, ℕ, ◌+◌, ◌-◌, ◌<◌, ◌≤◌, [], ◌∷◌, length, Some, OnOk, OnErr, vec_capacity, slice_get, Contains};
 ghost use Rattle.product_orders.specs.Elements.{SameElements};
 ghost use Rattle.name_index.specs.Table.{Kept, find_kept, IsLive, kept_at};
-ghost use Rattle.name_index.specs.Index.{times_held, pairs, Adds, IsIndex};
+ghost use Rattle.name_index.specs.Index.{times_held, pairs, AddsName, IsIndex};
 
 use crate::{NameId, NameTable};
 use cpe_values::Memory;
@@ -10,9 +10,9 @@ use list_pool::{ListName, MOST_SLOTS, Pool};
 use std::alloc::Global;
 use std::marker::Model;
 
-/// A set of name numbers, each with the number of its product, kept by product in lists of one pool.
+/// A set of numbers of names. Each product has a list of its names' numbers; all lists are in one pool.
 ///
-/// A product takes 20 bytes and a held number 16.
+/// A product takes 20 bytes, and a held number 16.
 #[derive(Drop)]
 pub struct NameIndex {
     pub(crate) pool: Pool,
@@ -51,7 +51,7 @@ fn make_lists(pool: &mut Pool, heads: &mut Vec<ListName>, wide: usize)
     }
 }
 
-// Makes room for `more` lists, and for `want` lists or values beside them.
+// Makes room for `more` lists, and for `want` lists or values more.
 fn make_room(
     pool: &mut Pool,
     heads: &mut Vec<ListName>,
@@ -87,7 +87,7 @@ fn head_of(heads: &Vec<ListName>, product: u32) -> ListName
 }
 
 impl NameIndex {
-    /// An index that holds nothing. It takes no memory.
+    /// An empty index. Allocates: no.
     pub fn new(alloc: Global) -> NameIndex
         ensures held { result.held ≡ [] }
         ensures spare { result.spare ≡ 0 }
@@ -99,13 +99,13 @@ impl NameIndex {
         }
     }
 
-    /// Makes room for `n` numbers more, and a list for each product of the table: afterwards `spare` is `n` at least, and `wide`
-    /// above the product number of each live name. What is held stays.
+    /// Makes room for `n` numbers more, and a list for each product of the table. Afterwards `spare` is at least `n`,
+    /// and `wide` is above the product number of each live name. The held numbers are unchanged.
     ///
     /// # Errors
     ///
-    /// [`Memory`] where memory ran out, or where products, held numbers and room together would pass 2^32 - 1; the index is
-    /// then as it was.
+    /// [`Memory`] if memory ran out, or if products, held numbers and room together would pass 2^32 - 1; the index is
+    /// then unchanged.
     pub fn reserve(&mut self, table: &NameTable, n: u32) -> Result<(), Memory>
         ensures held { self.new.held ≡ self.old.held }
         ensures spare { OnOk result (n ≤ self.new.spare) }
@@ -122,21 +122,21 @@ impl NameIndex {
         Ok(())
     }
 
-    /// Holds a number, which was not held. It takes no memory.
+    /// Adds a live number that the index doesn't hold yet, and for which there is room. Allocates: no.
     pub fn add(&mut self, table: &NameTable, id: NameId)
         requires live { IsLive table.now id.0 }
         requires fresh { times_held self.old.held id.0 ≡ 0 }
         requires room { 1 ≤ self.old.spare }
         requires product { (kept_at table.now id.0).product < self.old.wide }
-        ensures { Adds self.old self.new id.0 (kept_at table.now id.0).product }
+        ensures { AddsName self.old self.new id.0 (kept_at table.now id.0).product }
     {
         let product = table.product(id);
         let head = head_of(&self.heads, product.0);
         self.pool.push(head, id.0);
     }
 
-    /// Lets a number go, which was held with the product number that the table keeps for it. It walks to it in the list of its
-    /// product, and takes no memory.
+    /// Removes a number that the index holds with the product number that the table keeps for it. Walks to the number
+    /// in the list of its product. Allocates: no.
     pub fn drop_name(&mut self, table: &NameTable, id: NameId)
         requires held { Contains self.old.held (id.0, (kept_at table.now id.0).product) }
         requires live { IsLive table.now id.0 }
@@ -149,7 +149,7 @@ impl NameIndex {
         let _ = self.pool.remove_value(head, id.0);
     }
 
-    /// What is so of every index: no number is held twice. It does nothing, and tells a proof so.
+    /// Law: no number is held twice.
     pub fn lawful(&self)
         ensures { (id : ℕ) → times_held self.now.held id ≤ 1 }
     {

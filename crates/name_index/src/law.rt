@@ -1,9 +1,15 @@
-// Laws of held numbers and the table that they belong to. The function does nothing: its clauses are the laws.
+// Laws of held numbers and the table of their names. The function does nothing: its clauses are the laws.
 ghost use Rattle.name_index.specs.Laws.{FittingLaws};
 
-/// When held numbers fit a table: they do after a name is held, after a number that isn't held is released, and after one is
-/// added or let go. A number that isn't live isn't held, what is held stands in each list with the same elements, and a name that
-/// no live number had gets a number that wasn't live. A number is live after it is held, and has the name.
+/// Law: held numbers still fit a table after each of these changes:
+///
+/// - a name is held
+/// - a number is released that the index doesn't hold
+/// - a live number is added to the index, or one is removed
+///
+/// A number that isn't live isn't held. If two lists of held numbers have the same elements, each pair of one list is
+/// in the other list. If no live number has a name, holding this name returns a number that wasn't live. After a name
+/// is held, the returned number is live and has this name.
 pub fn fitting_laws()
     ensures { FittingLaws }
 {}

@@ -10,8 +10,8 @@
 //! reading the name of a known number ([`NameTable::name`], [`NameTable::get`]).
 //!
 //! An index fits a table if each number of the index is live in the table, with the product number that the index has
-//! for it. [`fitting_laws`] says which changes keep this: a number is removed from the index before its name is
-//! released for the last time.
+//! for it. A number is live if a name has it in the table. The law [`fitting_laws`] lists the changes that keep an
+//! index fitting. So a number is removed from the index before its name is released for the last time.
 #![tactic(auto)]
 
 mod index;
@@ -21,9 +21,9 @@ mod table;
 mod wanted;
 
 pub use cpe_name::{Attribute, Wfn};
-pub use cpe_steps::Steps;
 pub use cpe_values::Memory;
 pub use index::NameIndex;
 pub use near::Near;
 pub use product_orders::Side;
+pub use step_count::Steps;
 pub use table::{NameId, NameTable, ProductId};

@@ -1,40 +1,41 @@
 // A walk over the held names whose products are near a product, or are covered by it.
 ghost use Rattle.std.specs.Prelude.{◌≡◌, ◌+◌, ℕ, Bool, true, [], Some, map, filter, slice_get, count_by, IfOk, IfSome, IsNone, OnOk};
-ghost use Rattle.list_pool.specs.Pool.{IsLive};
+ghost use Rattle.list_pool.specs.Pool.{IsLiveList};
 ghost use Rattle.list_pool.specs.declared.ListName.{ListName};
 ghost use Rattle.std.specs.List.Sorted.{IsStrictlyIncreasing};
 ghost use Rattle.std.specs.Iterator.{YieldsFirst, item_count};
 ghost use Rattle.cpe_relation.specs.Prelude.{covers, IsLower, IsOrder};
 ghost use Rattle.product_orders.specs.Elements.{SameElements};
-ghost use Rattle.cpe_steps.specs.Within.{StepsWithin};
+ghost use Rattle.step_count.specs.Within.{StepsWithin};
 ghost use Rattle.cpe_values.specs.declared.value.Value.{Value};
 ghost use Rattle.product_orders.specs.declared.products.Side.TheVariants as side;
 ghost use Rattle.name_index.specs.Table.{Names, kept_at};
-ghost use Rattle.name_index.specs.Index.{ids, Fits, WalksProducts, is_near, is_product_covered, is_covered, posting};
-ghost use Rattle.name_index.specs.Wanted.{is_wanted, walked};
+ghost use Rattle.name_index.specs.Index.{ids, FitsTable, WalksProducts, is_near, is_product_covered, is_covered, posting};
+ghost use Rattle.name_index.specs.Wanted.{is_wanted_name, walked};
 
 use crate::index::NameIndex;
-use crate::wanted::{ProductWalk, Wanted};
+use crate::wanted::{ProductWalk, WantedProducts};
 use crate::{NameId, NameTable};
 use cpe_name::{Attribute, Wfn};
 use cpe_relation::{covers_in_order, deciding_order};
-use cpe_steps::Steps;
 use cpe_values::{Memory, Value};
 use list_pool::{CellName, ListName, Pool};
 use product_orders::{NearProducts, Side};
 use std::alloc::Global;
 use std::marker::Model;
 use std::sync::ledger::Ledger;
+use step_count::Steps;
 
-/// The held names whose products are near, or are covered, each once. Contracts see those that are left. A step takes no memory.
+/// The numbers of the held names whose products are near or covered, each once. Contracts see the numbers that are
+/// left. A step doesn't allocate.
 #[derive(Drop)]
 pub struct Near<'a> {
     pool: &'a Pool,
     heads: &'a [ListName],
-    // The products to come, and which of them are wanted; the list that is gone over, how many of its values are left, and the cell of
-    // the first of these.
+    // `products`: the products still to visit. `wanted`: which of them are wanted. `list`: the list that is read now.
+    // `left`: how many of its values are left. `cell`: the cell of the first value that is left.
     products: NearProducts<'a>,
-    wanted: Wanted<'a>,
+    wanted: WantedProducts<'a>,
     list: ListName,
     left: usize,
     cell: CellName,
@@ -43,17 +44,17 @@ pub struct Near<'a> {
 impl<'a> Model for Near<'a> {
     ghost use Rattle.std.specs.Prelude.{List};
     ghost use Rattle.name_index.specs.declared.table.NameId.{NameId};
-    ghost use Rattle.name_index.specs.Index.{walk_left, StandsAt};
+    ghost use Rattle.name_index.specs.Index.{walk_left, IsWalkAt};
     ghost use Rattle.name_index.specs.Wanted.{wanted_of};
 
     ghost Value = { List NameId };
 
     ghost view = { λ a. walk_left a.pool.now.lists a.heads.now a.list.0 a.left (wanted_of a.wanted a.products) };
 
-    ghost invariant = { λ a. StandsAt a.pool.now.lists a.heads.now a.list.0 a.left a.cell.0 };
+    ghost invariant = { λ a. IsWalkAt a.pool.now.lists a.heads.now a.list.0 a.left a.cell.0 };
 }
 
-// Whether a name covers another, by an order of the attributes.
+// Whether a name covers another. The attributes are compared in the given order.
 fn is_covering(order: &[Attribute], name: &Wfn, other: &Wfn) -> bool
     requires { IsOrder order.now }
     ensures { result ≡ covers name.now other.now }
@@ -76,11 +77,17 @@ fn head_of(heads: &[ListName], product: u32) -> Option<ListName>
     }
 }
 
-// The list of a product whose names are wanted, where it has some. Where it has none, no products are compared.
-fn list_of(pool: &Pool, heads: &[ListName], wanted: &Wanted, product: u32) -> Option<ListName>
-    requires { (p : ℕ) (h : ListName) → slice_get heads.now p ≡ Some h → IsLive pool.now.lists h.0 }
-    ensures some { IfSome result (λ h. (slice_get heads.now product ≡ Some h) × (is_wanted wanted.now product ≡ true)) }
-    ensures none { IsNone result → is_wanted wanted.now product ≡ true → posting pool.now.lists heads.now product ≡ [] }
+// The list of a product, if the product is wanted and its list isn't empty. If the list is empty, no products are
+// compared.
+fn list_of(
+    pool: &Pool,
+    heads: &[ListName],
+    wanted: &WantedProducts,
+    product: u32,
+) -> Option<ListName>
+    requires { (p : ℕ) (h : ListName) → slice_get heads.now p ≡ Some h → IsLiveList pool.now.lists h.0 }
+    ensures some { IfSome result (λ h. (slice_get heads.now product ≡ Some h) × (is_wanted_name wanted.now product ≡ true)) }
+    ensures none { IsNone result → is_wanted_name wanted.now product ≡ true → posting pool.now.lists heads.now product ≡ [] }
 {
     let head = head_of(heads, product)?;
     if pool.len(head) == 0 || !wanted.wants(product) {
@@ -119,9 +126,9 @@ impl<'a> Iterator for Near<'a> {
 }
 
 impl NameIndex {
-    // A walk over the held names by the products that pass a test.
+    // A walk over the held names whose products pass a test.
     fn walk<'a>(&'a self, products: ProductWalk<'a>) -> Near<'a>
-        ensures { (names : Names) (test : Value → Bool) → Fits self.now.held names → WalksProducts names test (walked products.entry) → SameElements (filter (λ id. test (kept_at names id.0).name.product) (ids self.now.held)) result }
+        ensures { (names : Names) (test : Value → Bool) → FitsTable self.now.held names → WalksProducts names test (walked products.entry) → SameElements (filter (λ id. test (kept_at names id.0).name.product) (ids self.now.held)) result }
     {
         Near {
             pool: &self.pool,
@@ -134,28 +141,31 @@ impl NameIndex {
         }
     }
 
-    /// A walk over the held names whose products are near the name's: with `Source` those to which it is near, and with `Target`
-    /// those that are near it. It takes no memory and no step.
+    /// A walk over the held names by their products. With `Source` it visits the names to whose products the given
+    /// name's product is near. With `Target` it visits the names whose products are near the given name's product.
+    /// Takes no step. Allocates: no.
     pub fn near<'a>(&'a self, table: &'a NameTable, name: &'a Wfn, side: Side) -> Near<'a>
-        requires fits { Fits self.now.held table.now }
+        requires fits { FitsTable self.now.held table.now }
         requires lower { IsLower name.now }
         ensures { SameElements (filter (is_near table.now side name.now.product) (ids self.now.held)) result }
     {
         self.walk(table.near_products(product_of(name), side))
     }
 
-    /// A walk over the held names whose products the name's covers. It compares the name's product with each near one
-    /// that has held names, and passes over all names of a product that isn't covered. It takes no memory and no step.
+    /// A walk over the held names whose products the given name's product covers. It compares the given product with
+    /// each near product that has held names. If the product isn't covered, the walk skips all its names. Takes no
+    /// step. Allocates: no.
     pub fn with_covered_product<'a>(&'a self, table: &'a NameTable, name: &'a Wfn) -> Near<'a>
-        requires fits { Fits self.now.held table.now }
+        requires fits { FitsTable self.now.held table.now }
         requires lower { IsLower name.now }
         ensures { SameElements (filter (is_product_covered table.now name.now.product) (ids self.now.held)) result }
     {
         self.walk(table.covered_products(product_of(name)))
     }
 
-    /// The held names that the name covers, in rising order of their numbers. It looks once at each held name whose product the name's
-    /// covers, and at no other: all these are names to whose product the name's is near.
+    /// The held names that the given name covers, in rising order of their numbers. Looks once at each held name whose
+    /// product the given name's product covers, and at no other name. The given name's product is near each of these
+    /// products.
     ///
     /// # Errors
     ///
@@ -167,7 +177,7 @@ impl NameIndex {
         name: &Wfn,
         steps: &mut Steps<L>,
     ) -> Result<Vec<NameId>, Memory>
-        requires fits { Fits self.now.held table.now }
+        requires fits { FitsTable self.now.held table.now }
         requires lower { IsLower name.now }
         ensures covered { IfOk result (λ v. SameElements (filter (is_covered table.now name.now) (ids self.now.held)) v.items) }
         ensures rising { IfOk result (λ v. IsStrictlyIncreasing (map (λ id. id.0) v.items)) }

@@ -1,4 +1,4 @@
-// Names by number.
+// A table of names by number.
 ghost use Rattle.std.specs.Prelude.{◌≡◌, ℕ, ◌+◌, ◌-◌, ◌<◌, ◌≤◌, false, not, [], length, set, cond, nat_lt, option_map, slice_get, None, Some, IsNone, IsSome, IfSome, IfOk, OnOk, OnErr, option_copied};
 ghost use Rattle.std.specs.Prelude.{vec_len, vec_capacity};
 ghost use Rattle.std.specs.List.{IsDistinct, list_any, position_or_len, swap_remove};
@@ -6,22 +6,22 @@ ghost use Rattle.indexmap.specs.IndexSet.{insert_key};
 ghost use Rattle.cpe_name.specs.Prelude.{IsLower, same_name};
 ghost use Rattle.cpe_values.specs.declared.value.Value.{Value};
 ghost use Rattle.cpe_values.specs.Lower.{lower_value};
-ghost use Rattle.name_index.specs.Table.{Kept, find_kept, IsLive, kept_at, HasName, Holds, Releases, AreNames};
+ghost use Rattle.name_index.specs.Table.{Kept, find_kept, IsLive, kept_at, HasName, HoldsName, Releases, IsNameTable};
 ghost use Rattle.name_index.specs.Index.{WalksProducts};
 ghost use Rattle.name_index.specs.Wanted.{walked};
-ghost use Rattle.name_index.specs.Rows.{row_with, row_at, number_at, name_at, Grows, freed_rows, freed_numbers, count_at, IsGiven};
+ghost use Rattle.name_index.specs.Rows.{product_row_with, product_row_at, row_number_at, name_in_place, Grows, freed_rows, freed_row_numbers, product_count_at, HasProductNumber};
 ghost use Rattle.product_orders.specs.Listed.{product_at, Removes};
 ghost use Rattle.product_orders.specs.Near.{near_on, covers_product};
 
-use crate::wanted::{ProductWalk, Wanted};
+use crate::wanted::{ProductWalk, WantedProducts};
 use cpe_name::{Attribute, Wfn};
-use cpe_steps::Steps;
 use cpe_values::{Memory, Value};
 use indexmap::IndexSet;
 use product_orders::{Products, Side};
 use std::alloc::Global;
 use std::marker::Model;
 use std::sync::ledger::Ledger;
+use step_count::Steps;
 
 /// The number of a name in a [`NameTable`].
 #[derive(Clone, Copy, Debug, PartialEq, Eq, PartialOrd, Ord)]
@@ -31,46 +31,48 @@ pub struct NameId(pub u32);
 #[derive(Clone, Copy, Debug, PartialEq, Eq, PartialOrd, Ord)]
 pub struct ProductId(pub u32);
 
-// What is kept of a number. Without holds it is free, and its place lies after those of the names.
+// The row of a number: its place, its holds, and the number of its product. A number without holds is free, and its
+// place is after the places of the names.
 #[derive(Clone, Copy)]
-pub(crate) struct Row {
+pub(crate) struct NameRow {
     pub(crate) place: u32,
     pub(crate) holds: u32,
     pub(crate) product: u32,
 }
 
-/// Different names in lower case by number, each with a count of its holds and the number of its product. Two names have
-/// the same product number exactly where their products are equal.
+/// Different names in lower case by number, each with a count of its holds and the number of its product. Two names
+/// have the same product number exactly if their products are equal.
 ///
-/// A name is found by its hash, so [`hold`](NameTable::hold) and [`find`](NameTable::find) do not slow down as names are
-/// added, but for the place of a product that is new. Numbers of released names are used again. A product goes with the last
-/// of its names: its memory is given back, and its number is used again.
+/// A name is found by its hash. So [`hold`](NameTable::hold) and [`find`](NameTable::find) don't slow down as names are
+/// added, except to find the place of a new product. Numbers of released names are used again. A product is removed
+/// with the last of its names: its memory is released, and its number is used again.
 #[derive(Drop)]
 pub struct NameTable {
     alloc: Global,
-    // The live names, and the number of each place; after them the numbers that are free.
+    // `names`: the live names. `numbers`: the number of each place, and after the names' places the free numbers.
+    // `rows`: the row of each number.
     names: IndexSet<Wfn>,
     numbers: Vec<u32>,
-    rows: Vec<Row>,
-    // The products of the live names, and how many names each has, by product number.
+    rows: Vec<NameRow>,
+    // `products`: the products of the live names. `counts`: how many names each product has, by product number.
     products: Products,
     counts: Vec<u32>,
 }
 
 impl Model for NameTable {
     ghost use Rattle.name_index.specs.Table.{Names};
-    ghost use Rattle.name_index.specs.Rows.{names_of, AreRows, AreCounted};
+    ghost use Rattle.name_index.specs.Rows.{table_of_rows, AreProductRows, AreProductCounts};
 
     ghost Value = { Names };
 
-    ghost view = { λ t. names_of t.names.keys t.rows.items };
+    ghost view = { λ t. table_of_rows t.names.keys t.rows.items };
 
-    ghost invariant = { λ t. AreRows t.names.keys t.rows.items t.numbers.items t.products × AreCounted t.rows.items t.products t.counts.items };
+    ghost invariant = { λ t. AreProductRows t.names.keys t.rows.items t.numbers.items t.products × AreProductCounts t.rows.items t.products t.counts.items };
 }
 
-// Makes room for the count of a product number. A count that isn't there yet is none.
+// Makes room for the count of a product number. A missing count is 0.
 fn make_count(counts: &mut Vec<u32>, number: usize) -> Result<(), Memory>
-    ensures same { (p : ℕ) → count_at counts.new.items p ≡ count_at counts.old.items p }
+    ensures same { (p : ℕ) → product_count_at counts.new.items p ≡ product_count_at counts.old.items p }
     ensures room { OnOk result (number < length counts.new.items) }
 {
     while counts.len() <= number {
@@ -79,7 +81,7 @@ fn make_count(counts: &mut Vec<u32>, number: usize) -> Result<(), Memory>
     Ok(())
 }
 
-// The number of a product, which is added where it is new, and room for the count of its names.
+// The number of a product, which is added if it is new. Makes room for the count of its names.
 fn product_number(
     alloc: Global,
     products: &mut Products,
@@ -87,9 +89,9 @@ fn product_number(
     value: &Value,
 ) -> Result<u32, Memory>
     requires { lower_value value.now ≡ value.now }
-    ensures same { (p : ℕ) → count_at counts.new.items p ≡ count_at counts.old.items p }
+    ensures same { (p : ℕ) → product_count_at counts.new.items p ≡ product_count_at counts.old.items p }
     ensures room { IfOk result (λ number. number < length counts.new.items) }
-    ensures number { IfOk result (λ number. IsGiven products.old products.new number value.now) }
+    ensures number { IfOk result (λ number. HasProductNumber products.old products.new number value.now) }
     ensures err { OnErr result (products.new ≡ products.old) }
 {
     let next = products.len();
@@ -103,7 +105,7 @@ fn product_number(
 
 fn count_of(counts: &Vec<u32>, product: u32) -> u32
     requires { product < length counts.now.items }
-    ensures { result ≡ count_at counts.now.items product }
+    ensures { result ≡ product_count_at counts.now.items product }
 {
     counts[product as usize]
 }
@@ -115,32 +117,32 @@ fn set_count(counts: &mut Vec<u32>, product: u32, count: u32)
     counts[product as usize] = count;
 }
 
-// A product has one name more.
+// Adds 1 to the number of a product's names.
 fn raise_count(counts: &mut Vec<u32>, product: u32)
     requires inside { product < length counts.old.items }
-    requires few { count_at counts.old.items product < 4294967295 }
-    ensures { counts.new.items ≡ set counts.old.items product (count_at counts.old.items product + 1) }
+    requires few { product_count_at counts.old.items product < 4294967295 }
+    ensures { counts.new.items ≡ set counts.old.items product (product_count_at counts.old.items product + 1) }
 {
     let count = count_of(counts, product);
     set_count(counts, product, count + 1);
 }
 
-// A product has one name less.
+// Subtracts 1 from the number of a product's names.
 fn lower_count(counts: &mut Vec<u32>, product: u32)
-    requires some { 0 < count_at counts.old.items product }
+    requires some { 0 < product_count_at counts.old.items product }
     requires inside { product < length counts.old.items }
-    ensures { counts.new.items ≡ set counts.old.items product (count_at counts.old.items product - 1) }
+    ensures { counts.new.items ≡ set counts.old.items product (product_count_at counts.old.items product - 1) }
 {
     let count = count_of(counts, product);
     set_count(counts, product, count - 1);
 }
 
-// Lets a product go that no name has.
-fn let_go(products: &mut Products, counts: &Vec<u32>, product: u32)
+// Removes a product if no name has it.
+fn discard(products: &mut Products, counts: &Vec<u32>, product: u32)
     requires inside { product < length counts.now.items }
     requires there { IsSome (product_at products.old product) }
-    ensures stays { 0 < count_at counts.now.items product → products.new ≡ products.old }
-    ensures goes { count_at counts.now.items product ≡ 0 → Removes products.old products.new product }
+    ensures stays { 0 < product_count_at counts.now.items product → products.new ≡ products.old }
+    ensures rest_goes { product_count_at counts.now.items product ≡ 0 → Removes products.old products.new product }
 {
     if count_of(counts, product) == 0 {
         products.remove(product);
@@ -149,20 +151,24 @@ fn let_go(products: &mut Products, counts: &Vec<u32>, product: u32)
 
 fn number_of(numbers: &Vec<u32>, place: usize) -> u32
     requires { place < length numbers.now.items }
-    ensures { result ≡ number_at numbers.now.items place }
+    ensures { result ≡ row_number_at numbers.now.items place }
 {
     numbers[place]
 }
 
-fn row_of(rows: &Vec<Row>, number: u32) -> Row
+fn row_of(rows: &Vec<NameRow>, number: u32) -> NameRow
     requires { number < length rows.now.items }
-    ensures { result ≡ row_at rows.now.items number }
+    ensures { result ≡ product_row_at rows.now.items number }
 {
     rows[number as usize]
 }
 
 // Makes room for a number at the first place after the names.
-fn reserve_number(numbers: &mut Vec<u32>, rows: &mut Vec<Row>, place: usize) -> Result<(), Memory>
+fn reserve_number(
+    numbers: &mut Vec<u32>,
+    rows: &mut Vec<NameRow>,
+    place: usize,
+) -> Result<(), Memory>
     ensures numbers { numbers.new.items ≡ numbers.old.items }
     ensures rows { rows.new.items ≡ rows.old.items }
     ensures few { OnOk result (length rows.old.items ≤ place → place < 4294967295) }
@@ -183,7 +189,7 @@ fn reserve_number(numbers: &mut Vec<u32>, rows: &mut Vec<Row>, place: usize) -> 
 // The product of the name at a place.
 fn product_of(names: &IndexSet<Wfn>, place: usize) -> &Value
     requires { place < length names.now.keys }
-    ensures { result.now ≡ (name_at names.now.keys place).product }
+    ensures { result.now ≡ (name_in_place names.now.keys place).product }
 {
     match names.get_index(place) {
         Some(name) => name.get(Attribute::Product),
@@ -191,21 +197,21 @@ fn product_of(names: &IndexSet<Wfn>, place: usize) -> &Value
     }
 }
 
-// Makes room for a number of the name at a place, and gives the number of its product.
+// Makes room for a number of the name at a place. Returns the number of the name's product.
 fn make_room(
     alloc: Global,
     names: &IndexSet<Wfn>,
     place: usize,
     numbers: &mut Vec<u32>,
-    rows: &mut Vec<Row>,
+    rows: &mut Vec<NameRow>,
     products: &mut Products,
     counts: &mut Vec<u32>,
 ) -> Result<u32, Memory>
     requires place { place < length names.now.keys }
-    requires lower { IsLower (name_at names.now.keys place) }
-    ensures same { (p : ℕ) → count_at counts.new.items p ≡ count_at counts.old.items p }
+    requires lower { IsLower (name_in_place names.now.keys place) }
+    ensures same { (p : ℕ) → product_count_at counts.new.items p ≡ product_count_at counts.old.items p }
     ensures room { IfOk result (λ number. number < length counts.new.items) }
-    ensures product { IfOk result (λ number. IsGiven products.old products.new number (name_at names.now.keys place).product) }
+    ensures product { IfOk result (λ number. HasProductNumber products.old products.new number (name_in_place names.now.keys place).product) }
     ensures err { OnErr result (products.new ≡ products.old) }
     ensures numbers { numbers.new.items ≡ numbers.old.items }
     ensures rows { rows.new.items ≡ rows.old.items }
@@ -217,14 +223,14 @@ fn make_room(
     product_number(alloc, products, counts, product_of(names, place))
 }
 
-// The number of the first place after the names; a new one where none is free.
-fn free_number(numbers: &mut Vec<u32>, rows: &mut Vec<Row>, place: usize) -> u32
+// The number at the first place after the names, or a new number if none is free.
+fn free_number(numbers: &mut Vec<u32>, rows: &mut Vec<NameRow>, place: usize) -> u32
     requires paired { length numbers.old.items ≡ length rows.old.items }
     requires within { place ≤ length rows.old.items }
     requires few { length rows.old.items ≤ place → place < 4294967295 }
     requires numbers_room { length rows.old.items ≤ place → vec_len numbers.old < vec_capacity numbers.old }
     requires rows_room { length rows.old.items ≤ place → vec_len rows.old < vec_capacity rows.old }
-    ensures number { result ≡ number_at numbers.new.items place }
+    ensures number { result ≡ row_number_at numbers.new.items place }
     ensures grown { Grows rows.old.items numbers.old.items place rows.new.items numbers.new.items }
 {
     if place < rows.len() {
@@ -232,7 +238,7 @@ fn free_number(numbers: &mut Vec<u32>, rows: &mut Vec<Row>, place: usize) -> u32
     }
     let number = place as u32;
     numbers.push_reserved(number);
-    rows.push_reserved(Row {
+    rows.push_reserved(NameRow {
         place: number,
         holds: 0,
         product: 0,
@@ -240,29 +246,29 @@ fn free_number(numbers: &mut Vec<u32>, rows: &mut Vec<Row>, place: usize) -> u32
     number
 }
 
-// One hold more.
-fn raise(rows: &mut Vec<Row>, number: u32)
+// Adds 1 to the holds of a number.
+fn raise(rows: &mut Vec<NameRow>, number: u32)
     requires known { number < length rows.old.items }
-    requires few { (row_at rows.old.items number).holds < 4294967295 }
-    ensures { rows.new.items ≡ set rows.old.items number (row_with (row_at rows.old.items number).place ((row_at rows.old.items number).holds + 1) (row_at rows.old.items number).product) }
+    requires few { (product_row_at rows.old.items number).holds < 4294967295 }
+    ensures { rows.new.items ≡ set rows.old.items number (product_row_with (product_row_at rows.old.items number).place ((product_row_at rows.old.items number).holds + 1) (product_row_at rows.old.items number).product) }
 {
     let row = row_of(rows, number);
-    rows[number as usize] = Row {
+    rows[number as usize] = NameRow {
         place: row.place,
         holds: row.holds + 1,
         product: row.product,
     };
 }
 
-// Gives a number, and what is kept of it.
-fn set_row(rows: &mut Vec<Row>, number: u32, row: Row)
+// Writes the row of a number.
+fn set_row(rows: &mut Vec<NameRow>, number: u32, row: NameRow)
     requires { number < length rows.old.items }
     ensures { rows.new.items ≡ set rows.old.items number row }
 {
     rows[number as usize] = row;
 }
 
-// Puts a name last, if it isn't there; gives its place, and tells whether it is new.
+// Appends a name, if it isn't in the list. Returns the place of the name, and whether the name is new.
 fn insert_name(names: &mut IndexSet<Wfn>, name: Wfn) -> Result<(usize, bool), Memory>
     ensures place { IfOk result (λ put. put.0 ≡ position_or_len (same_name name) names.old.keys) }
     ensures new { IfOk result (λ put. put.1 ≡ not (list_any (same_name name) names.old.keys)) }
@@ -277,30 +283,30 @@ fn insert_name(names: &mut IndexSet<Wfn>, name: Wfn) -> Result<(usize, bool), Me
     }
 }
 
-// Lets a name go for which memory ran out.
+// Drops a name that wasn't added because memory ran out.
 fn let_name_go(name: Wfn, memory: Memory) -> Memory {
     drop(name);
     memory
 }
 
-// Takes out the name at a place, and puts the last one there.
+// Removes the name at a place, and moves the last name there.
 fn take_name(names: &mut IndexSet<Wfn>, place: u32)
     requires { place < length names.old.keys }
-    ensures keys { names.new.keys ≡ swap_remove names.old.keys place (name_at names.old.keys place) }
+    ensures keys { names.new.keys ≡ swap_remove names.old.keys place (name_in_place names.old.keys place) }
     ensures unique { IsDistinct same_name names.new.keys }
 {
     let _ = names.swap_remove_index(place as usize);
 }
 
-// Frees a number: the number of the last name's place takes its place.
-fn free_row(rows: &mut Vec<Row>, numbers: &mut Vec<u32>, number: u32, last: usize)
+// Frees a number. The number of the last name moves to the place of the freed number.
+fn free_row(rows: &mut Vec<NameRow>, numbers: &mut Vec<u32>, number: u32, last: usize)
     requires number { number < length rows.old.items }
-    requires place { (row_at rows.old.items number).place < length numbers.old.items }
+    requires place { (product_row_at rows.old.items number).place < length numbers.old.items }
     requires last { last < length numbers.old.items }
-    requires moved { number_at numbers.old.items last < length rows.old.items }
+    requires moved { row_number_at numbers.old.items last < length rows.old.items }
     requires few { last < 4294967296 }
     ensures rows { rows.new.items ≡ freed_rows rows.old.items numbers.old.items number last }
-    ensures numbers { numbers.new.items ≡ freed_numbers rows.old.items numbers.old.items number last }
+    ensures numbers { numbers.new.items ≡ freed_row_numbers rows.old.items numbers.old.items number last }
 {
     let place = row_of(rows, number).place;
     let moved = number_of(numbers, last);
@@ -310,7 +316,7 @@ fn free_row(rows: &mut Vec<Row>, numbers: &mut Vec<u32>, number: u32, last: usiz
     set_row(
         rows,
         moved,
-        Row {
+        NameRow {
             place,
             holds: row.holds,
             product: row.product,
@@ -319,7 +325,7 @@ fn free_row(rows: &mut Vec<Row>, numbers: &mut Vec<u32>, number: u32, last: usiz
     set_row(
         rows,
         number,
-        Row {
+        NameRow {
             place: last as u32,
             holds: 0,
             product: 0,
@@ -327,8 +333,8 @@ fn free_row(rows: &mut Vec<Row>, numbers: &mut Vec<u32>, number: u32, last: usiz
     );
 }
 
-// The name of a row, if it is held.
-fn name_of<'a>(names: &'a IndexSet<Wfn>, row: &Row) -> Option<&'a Wfn>
+// The name of a row, if the row has holds.
+fn name_of<'a>(names: &'a IndexSet<Wfn>, row: &NameRow) -> Option<&'a Wfn>
     ensures { option_copied result ≡ cond (nat_lt 0 row.now.holds) (slice_get names.now.keys row.now.place) None }
 {
     if row.holds > 0 {
@@ -339,7 +345,7 @@ fn name_of<'a>(names: &'a IndexSet<Wfn>, row: &Row) -> Option<&'a Wfn>
 }
 
 impl NameTable {
-    /// A table without names. It takes no memory.
+    /// A table without names. Allocates: no.
     pub fn new(alloc: Global) -> NameTable
         ensures { result ≡ [] }
     {
@@ -353,10 +359,10 @@ impl NameTable {
         }
     }
 
-    /// Makes room for so many names more, so that their memory is taken at once. Room for their products and texts is made as they come.
+    /// Reserves memory for `names` names more. Memory for their products and texts is taken later, by each name.
     ///
     /// # Errors
-    /// That memory ran out.
+    /// Only that memory ran out.
     pub fn reserve(&mut self, names: u32) -> Result<(), Memory>
         ensures { self.new ≡ self.old }
     {
@@ -366,7 +372,7 @@ impl NameTable {
         Ok(())
     }
 
-    /// The number of a name. None exactly where no live number has it.
+    /// The number of a name, or none exactly if no live number has the name.
     pub fn find(&self, name: &Wfn) -> Option<NameId>
         ensures found { IfSome result (λ id. HasName self.now id.0 name.now) }
         ensures none { IsNone result → (id : ℕ) → HasName self.now id name.now → ⊥ }
@@ -377,14 +383,15 @@ impl NameTable {
         }
     }
 
-    /// The number of a name, with one hold more: its own, where it has one, and else one that no name has. It is copied then.
+    /// The number of a name, which has one hold more then. If no live number has the name, the name is copied, and gets
+    /// a number that wasn't live.
     ///
     /// # Errors
-    /// That memory or numbers below 2^32 - 1 ran out; the table is then as it was.
+    /// Memory ran out, or no number below 2^32 - 1 is free; the table is then unchanged.
     pub fn hold(&mut self, name: &Wfn) -> Result<NameId, Memory>
         requires lower { IsLower name.now }
         requires few { (id : ℕ) → HasName self.old id name.now → (kept_at self.old id).holds < 4294967295 }
-        ensures held { IfOk result (λ id. Holds self.old self.new id.0 name.now) }
+        ensures held { IfOk result (λ id. HoldsName self.old self.new id.0 name.now) }
         ensures new { OnErr result ((id : ℕ) → HasName self.old id name.now → ⊥) }
         ensures err { OnErr result (self.new ≡ self.old) }
     {
@@ -396,14 +403,15 @@ impl NameTable {
         self.hold_moved(copied)
     }
 
-    /// The same by moving the name: it isn't copied, and goes where it had a number. It is hashed once, new or not.
+    /// As [`hold`](NameTable::hold), but the name is moved instead of copied. If a live number has the name already,
+    /// the moved name is dropped. The name is hashed once, new or not.
     ///
     /// # Errors
-    /// That memory or numbers below 2^32 - 1 ran out; the table is then as it was, and the name is gone.
+    /// Memory ran out, or no number below 2^32 - 1 is free; the table is then unchanged, and the name is dropped.
     pub fn hold_moved(&mut self, name: Wfn) -> Result<NameId, Memory>
         requires lower { IsLower name }
         requires few { (id : ℕ) → HasName self.old id name → (kept_at self.old id).holds < 4294967295 }
-        ensures held { IfOk result (λ id. Holds self.old self.new id.0 name) }
+        ensures held { IfOk result (λ id. HoldsName self.old self.new id.0 name) }
         ensures new { OnErr result ((id : ℕ) → HasName self.old id name → ⊥) }
         ensures err { OnErr result (self.new ≡ self.old) }
     {
@@ -430,7 +438,7 @@ impl NameTable {
             }
         };
         let number = free_number(&mut self.numbers, &mut self.rows, place);
-        let row = Row {
+        let row = NameRow {
             place: place as u32,
             holds: 1,
             product,
@@ -440,24 +448,24 @@ impl NameTable {
         Ok(NameId(number))
     }
 
-    /// One hold more of a name that has this number. It takes no memory.
+    /// Adds a hold to the name of a live number. Allocates: no.
     pub fn hold_again(&mut self, id: NameId)
         requires live { IsLive self.old id.0 }
         requires few { (kept_at self.old id.0).holds < 4294967295 }
-        ensures { Holds self.old self.new id.0 (kept_at self.old id.0).name }
+        ensures { HoldsName self.old self.new id.0 (kept_at self.old id.0).name }
     {
         raise(&mut self.rows, id.0);
     }
 
-    /// One hold less. After the last the number isn't live any more, and the name's memory is given back, and with the
-    /// last name of a product the product's. It takes no memory.
+    /// Removes a hold of a number. After the last hold the number isn't live any more, and the name's memory is
+    /// released. With the last name of a product, the product's memory is released, too. Allocates: no.
     pub fn release(&mut self, id: NameId)
         requires { IsLive self.old id.0 }
         ensures { Releases self.old self.new id.0 }
     {
         let row = row_of(&self.rows, id.0);
         if row.holds > 1 {
-            let less = Row {
+            let less = NameRow {
                 place: row.place,
                 holds: row.holds - 1,
                 product: row.product,
@@ -469,10 +477,10 @@ impl NameTable {
         take_name(&mut self.names, row.place);
         free_row(&mut self.rows, &mut self.numbers, id.0, last);
         lower_count(&mut self.counts, row.product);
-        let_go(&mut self.products, &self.counts, row.product);
+        discard(&mut self.products, &self.counts, row.product);
     }
 
-    /// The number of the product of a name.
+    /// The product number of the name of a live number.
     pub fn product(&self, id: NameId) -> ProductId
         requires { IsLive self.now id.0 }
         ensures { result.0 ≡ (kept_at self.now id.0).product }
@@ -481,7 +489,8 @@ impl NameTable {
         ProductId(row.product)
     }
 
-    /// A look at a name, which is one step: what a search compares is looked at so.
+    /// The name of a live number, counted as a look, which is one step. A search gets each name that it compares by
+    /// this function.
     pub fn look<L: Ledger>(&self, id: NameId, steps: &mut Steps<L>) -> &Wfn
         requires { IsLive self.now id.0 }
         ensures name { result.now ≡ (kept_at self.now id.0).name }
@@ -491,7 +500,7 @@ impl NameTable {
         self.name(id)
     }
 
-    /// The name of a number, for a row that is told by its number. It is no look, and no step: a search has
+    /// The name of a live number, without a look or a step. It is for callers that know the number; a search uses
     /// [`look`](NameTable::look).
     pub fn name(&self, id: NameId) -> &Wfn
         requires { IsLive self.now id.0 }
@@ -504,7 +513,7 @@ impl NameTable {
         }
     }
 
-    /// The name of a number, or none exactly where it isn't live. It is no step.
+    /// The name of a number, or none exactly if the number isn't live. Takes no step.
     pub fn get(&self, id: NameId) -> Option<&Wfn>
         ensures { option_copied result ≡ option_map (λ k. k.name) (find_kept self.now id.0) }
     {
@@ -514,29 +523,29 @@ impl NameTable {
         }
     }
 
-    /// Every table is lawful: its names are in lower case and different, and names have the same product number exactly
-    /// where their products are equal. It does nothing.
+    /// Law: all names of a table are in lower case and different. Two names have the same product number exactly if
+    /// their products are equal.
     pub fn lawful(&self)
-        ensures { AreNames self.now }
+        ensures { IsNameTable self.now }
     {
         self.products.lawful();
     }
 
-    // Above the product number of each live name.
+    // A number above the product number of each live name.
     pub(crate) fn product_count(&self) -> usize
         ensures { (id : ℕ) (k : Kept) → find_kept self.now id ≡ Some k → k.product < result }
     {
         self.products.len()
     }
 
-    // The products near a product on a side.
+    // The products that are near a product, which is the source or the target, by `side`.
     pub(crate) fn near_products<'a>(&'a self, asked: &'a Value, side: Side) -> ProductWalk<'a>
         requires { lower_value asked.now ≡ asked.now }
         ensures { WalksProducts self.now (near_on side asked.now) (walked result) }
     {
         ProductWalk {
             near: self.products.near(asked, side),
-            wanted: Wanted {
+            wanted: WantedProducts {
                 all: &self.products,
                 asked,
                 covered: false,
@@ -551,7 +560,7 @@ impl NameTable {
     {
         ProductWalk {
             near: self.products.near(asked, Side::Source),
-            wanted: Wanted {
+            wanted: WantedProducts {
                 all: &self.products,
                 asked,
                 covered: true,

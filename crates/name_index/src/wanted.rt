@@ -1,22 +1,22 @@
-// Which products' names a walk comes to.
+// The products that a walk visits: near products, and which of them are wanted.
 ghost use Rattle.std.specs.Prelude.{◌≡◌};
-ghost use Rattle.name_index.specs.Wanted.{is_wanted};
+ghost use Rattle.name_index.specs.Wanted.{is_wanted_name};
 
 use cpe_values::Value;
 use product_orders::{NearProducts, Products};
 
-// Those of all products, or those alone that a product covers.
+// Which products are wanted: all, or only those that the product `asked` covers.
 #[derive(Clone, Copy)]
-pub(crate) struct Wanted<'a> {
+pub(crate) struct WantedProducts<'a> {
     pub all: &'a Products,
     pub asked: &'a Value,
     pub covered: bool,
 }
 
-impl Wanted<'_> {
-    // Whether the names of the product of a number are wanted.
+impl WantedProducts<'_> {
+    // Whether the product with this number is wanted.
     pub(crate) fn wants(&self, product: u32) -> bool
-        ensures { result ≡ is_wanted self.now product }
+        ensures { result ≡ is_wanted_name self.now product }
     {
         !self.covered || self.all.is_covered(self.asked, product)
     }
@@ -26,5 +26,5 @@ impl Wanted<'_> {
 #[derive(Drop)]
 pub(crate) struct ProductWalk<'a> {
     pub near: NearProducts<'a>,
-    pub wanted: Wanted<'a>,
+    pub wanted: WantedProducts<'a>,
 }

@@ -1,4 +1,4 @@
--- The first place at which one of some numbers stands.
+-- Lemmas: the first place whose slot has one of several numbers.
 use Rattle.std.proofs.Common.{◌≡◌, ◌≢◌, ◌∙◌, ℕ, zero, suc, Bool, true, false, cond, List, [], ◌∷◌, ◌++◌, ◌||◌, get_or, Option, Some, None, slice_get, refl, sym, ap, subst, inl, inr, arith, ltb-true, ltb-false}
 use Rattle.std.specs.Prelude.{find, nat_lt}
 use Rattle.std.specs.List.{list_any}
@@ -11,7 +11,7 @@ use Rattle.names_in_order.specs.Marked.{HavePlaces, IsFirstPlace, earlier, found
 use Rattle.names_in_order.proofs.MarkedLemmas.{Slots, found_or_nowhere, once}
 use Rattle.names_in_order.proofs.OrderLemmas.{itself, same_number}
 
--- one of the numbers, or of these and one more
+-- A number is in a longer list of numbers if it is in the shorter list, or equals the added number.
 any_more : (x id : NameId) (ids : List NameId) → list_any (same_id x) (ids ++ id ∷ []) ≡ (list_any (same_id x) ids || same_id x id)
 any_more x id ids = list_any-append (same_id x) ids (id ∷ []) ∙ ap (λ (b : Bool). list_any (same_id x) ids || b) (alone (same_id x id))
   where
@@ -30,36 +30,36 @@ module _ (slots : Slots) (places : List ℕ) (placed : HavePlaces slots places) 
   one_of_these : (x : NameId) → list_any (same_id x) ids ≡ true → list_any (same_id x) (ids ++ id ∷ []) ≡ true
   one_of_these x among = any_more x id ids ∙ or_left (list_any (same_id x) ids) (same_id x id) among
 
-  -- no other place has the number
+  -- No other place has the number.
   apart : (j k : ℕ) (x : NameId) → get_or slots j None ≡ Some id → get_or slots k None ≡ Some x → k ≢ j → x ≡ id → ⊥
   apart j k x at other ne is = ne (once slots places placed k j id (other ∙ ap {B = Option NameId} (λ (y : NameId). Some y) is) at)
 
   with_found : (first : Option ℕ) (place : ℕ) → get_or slots place None ≡ Some id → IsFirstPlace slots ids first → IsFirstPlace slots (ids ++ id ∷ []) (earlier first (Some place))
   with_found None place at none = (id, at, its_own, λ k x lt there. neither x id ids (none k x there) (apart place k x at there (λ e. absurd (omega (arith, lt, e)))))
-  with_found (Some first) place at (x, stands, among, before) = by (nat_lt place first) refl
+  with_found (Some first) place at (x, present, among, before) = by (nat_lt place first) refl
     where
       by : (b : Bool) → nat_lt place first ≡ b → IsFirstPlace slots (ids ++ id ∷ []) (Some (cond b place first))
       by true lt = (id, at, its_own, λ k y sooner there. neither y id ids (before k y (omega (arith, sooner, ltb-true place first lt)) there) (apart place k y at there (λ e. absurd (omega (arith, sooner, e)))))
-      by false ge = (x, stands, one_of_these x among, λ k y sooner there. neither y id ids (before k y sooner there) (apart place k y at there (λ e. absurd (omega (arith, sooner, e, ltb-false place first ge)))))
+      by false ge = (x, present, one_of_these x among, λ k y sooner there. neither y id ids (before k y sooner there) (apart place k y at there (λ e. absurd (omega (arith, sooner, e, ltb-false place first ge)))))
 
   with_none : (first : Option ℕ) → ((k : ℕ) → get_or slots k None ≢ Some id) → IsFirstPlace slots ids first → IsFirstPlace slots (ids ++ id ∷ []) (earlier first None)
   with_none None nowhere none = λ k x there. neither x id ids (none k x there) (λ is. nowhere k (there ∙ ap {B = Option NameId} (λ (y : NameId). Some y) is))
-  with_none (Some first) nowhere (x, stands, among, before) =
-      (x, stands, one_of_these x among, λ k y sooner there. neither y id ids (before k y sooner there) (λ is. nowhere k (there ∙ ap {B = Option NameId} (λ (z : NameId). Some z) is)))
+  with_none (Some first) nowhere (x, present, among, before) =
+      (x, present, one_of_these x among, λ k y sooner there. neither y id ids (before k y sooner there) (λ is. nowhere k (there ∙ ap {B = Option NameId} (λ (z : NameId). Some z) is)))
 
-  -- the first place of one more
+  -- the first place after one number was added to the searched numbers
   pub first_more : (first : Option ℕ) → IsFirstPlace slots ids first → IsFirstPlace slots (ids ++ id ∷ []) (earlier first (found_place slots (slice_get places id.0) id))
   first_more first is = elim (found_or_nowhere slots places placed id (slice_get places id.0) refl) [
     | inl at ↦ subst (λ (o : Option ℕ). IsFirstPlace slots (ids ++ id ∷ []) (earlier first o)) (sym at.1) (with_found first at.0 at.2 is)
     | inr absent ↦ subst (λ (o : Option ℕ). IsFirstPlace slots (ids ++ id ∷ []) (earlier first o)) (sym absent.0) (with_none first absent.1 is)
   ]
 
--- what stands at a place, if there is one
+-- the slot at a place, if a place is given
 abbrev pub slot_in : Slots → Option ℕ → Option NameId
 slot_in slots None = None
 slot_in slots (Some place) = get_or slots place None
 
--- it is the first of the numbers that is one of these
+-- The slot at the first place has the first number of the list that is among `ids`.
 pub first_is : (slots : Slots) (ids : List NameId) (first : Option ℕ) → IsFirstPlace slots ids first → slot_in slots first ≡ find (λ (id : NameId). list_any (same_id id) ids) (numbers_in slots)
 first_is [] ids None none = refl
 first_is [] ids (Some place) (x, at, among, before) = absurd (none-some x at)

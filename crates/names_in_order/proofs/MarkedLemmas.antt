@@ -1,4 +1,4 @@
--- Numbers by place, with marks, and the place of each.
+-- Lemmas: numbers by place, with marks, and the place of each number.
 use Rattle.std.proofs.Common.{◌≡◌, ◌≢◌, ◌⊎◌, ℕ, zero, suc, ◌+◌, ◌^◌, ◌<◌, ◌≤◌, Bool, true, false, cond, List, [], ◌∷◌, ◌++◌, length, get_or, set, take, drop, Option, Some, None, slice_get, refl, sym, ap, subst, ◌∙◌, inl, inr, arith, append_assoc}
 use Rattle.std.specs.Prelude.{IfSome, IsSome}
 use Rattle.std.specs.List.{AllByRecursion, IsDistinct, cons_option, filter, filter_map, list_any, range_with_len, sum_by}
@@ -14,7 +14,7 @@ use Rattle.name_index.specs.product_orders.Elements.{SameElements}
 use Rattle.name_index.specs.declared.table.NameId.{NameId}
 use Rattle.name_index.specs.Index.{name_id}
 use Rattle.names_in_order.specs.InOrder.{same_id}
-use Rattle.names_in_order.specs.Marked.{AreClosing, AreMarked, HavePlaces, PutsInOrder, closing_numbers, found_place, is_slot_of, numbers_in, places_of, standing_at, without_first}
+use Rattle.names_in_order.specs.Marked.{AreClosing, AreMarkedPlaces, HavePlaces, PutsInOrder, closing_numbers, found_place, is_slot_of, numbers_in, places_of, standing_at, without_first_place}
 use Rattle.names_in_order.proofs.OrderLemmas.{itself, old_place, same_number, set_other, set_same}
 use Rattle.names_in_order.proofs.Rising.{sorted_filter}
 
@@ -60,15 +60,15 @@ among id (Some x ∷ slots) zero e =
     rw head refl
 among id (Some x ∷ slots) (suc k) e = or_right (same_id id x) (list_any (same_id id) (numbers_in slots)) (among id slots k e)
 
-stays_whole : (id : NameId) (slots : Slots) → IsNowhere id slots → without_first (same_id id) (numbers_in slots) ≡ numbers_in slots
+stays_whole : (id : NameId) (slots : Slots) → IsNowhere id slots → without_first_place (same_id id) (numbers_in slots) ≡ numbers_in slots
 stays_whole id [] none = refl
 stays_whole id (None ∷ slots) none = stays_whole id slots (λ k. none (suc k))
 stays_whole id (Some x ∷ slots) none =
     let head : same_id id x ≡ false = other_number id x (λ e. none 0 (ap {B = Option NameId} (λ (y : NameId). Some y) e)) in
     rw head (ap (λ (ns : List NameId). x ∷ ns) (stays_whole id slots (λ k. none (suc k))))
 
--- the slots around the first that has a number have the numbers without it
-gone : (id : NameId) (slots : Slots) (k : ℕ) → get_or slots k None ≡ Some id → ((j : ℕ) → j < k → get_or slots j None ≢ Some id) → numbers_in (take k slots) ++ numbers_in (drop (suc k) slots) ≡ without_first (same_id id) (numbers_in slots)
+-- Without the first slot that has a number, the slots have the list's numbers without this number.
+gone : (id : NameId) (slots : Slots) (k : ℕ) → get_or slots k None ≡ Some id → ((j : ℕ) → j < k → get_or slots j None ≢ Some id) → numbers_in (take k slots) ++ numbers_in (drop (suc k) slots) ≡ without_first_place (same_id id) (numbers_in slots)
 gone id [] k e none = absurd (none-some id e)
 gone id (None ∷ slots) zero e none = absurd (none-some id e)
 gone id (Some x ∷ slots) zero e none =
@@ -79,7 +79,7 @@ gone id (Some x ∷ slots) (suc k) e none =
     let head : same_id id x ≡ false = other_number id x (λ s. none 0 (omega arith) (ap {B = Option NameId} (λ (y : NameId). Some y) s)) in
     rw head (ap (λ (ns : List NameId). x ∷ ns) (gone id slots k e (λ j lt. none (suc j) (omega (arith, lt)))))
 
--- ---- a mark in a place
+-- ---- a number is replaced by a mark
 
 cleared : (slots : Slots) (k : ℕ) → numbers_in (set slots k None) ≡ numbers_in (take k slots) ++ numbers_in (drop (suc k) slots)
 cleared [] zero = refl
@@ -95,14 +95,14 @@ one_less (Some x ∷ slots) zero some = omega arith
 one_less (None ∷ slots) (suc k) some = one_less slots k some
 one_less (Some x ∷ slots) (suc k) some = omega (arith, one_less slots k some)
 
-stood : (slots : Slots) (k j : ℕ) (id : NameId) → get_or (set slots k None) j None ≡ Some id → get_or slots j None ≡ Some id
-stood [] k j id e = e
-stood (slot ∷ slots) zero zero id e = absurd (none-some id e)
-stood (slot ∷ slots) zero (suc j) id e = e
-stood (slot ∷ slots) (suc k) zero id e = e
-stood (slot ∷ slots) (suc k) (suc j) id e = stood slots k j id e
+rows_before : (slots : Slots) (k j : ℕ) (id : NameId) → get_or (set slots k None) j None ≡ Some id → get_or slots j None ≡ Some id
+rows_before [] k j id e = e
+rows_before (slot ∷ slots) zero zero id e = absurd (none-some id e)
+rows_before (slot ∷ slots) zero (suc j) id e = e
+rows_before (slot ∷ slots) (suc k) zero id e = e
+rows_before (slot ∷ slots) (suc k) (suc j) id e = rows_before slots k j id e
 
--- ---- one more
+-- ---- a number is appended
 
 last_slot : (slots : Slots) (new id : NameId) (k : ℕ) → get_or (slots ++ Some new ∷ []) k None ≡ Some id → (get_or slots k None ≡ Some id) ⊎ ((k ≡ length slots) × (new ≡ id))
 last_slot [] new id zero e = inr (refl, same_Some new id e)
@@ -117,19 +117,19 @@ written (slot ∷ slots) zero new id (suc k) e = inl (λ is. absurd (omega (arit
 written (slot ∷ slots) (suc n) new id zero e = inl (λ is. absurd (omega (arith, is)), e)
 written (slot ∷ slots) (suc n) new id (suc k) e = elim (written slots n new id k e) [ inl old ↦ inl (λ is. old.0 (omega (arith, is)), old.1) | inr here ↦ inr (ap suc here.0, here.1) ]
 
--- ---- what is kept
+-- ---- the kept places
 
--- a place that is kept of one number more says nothing
+-- Keeping a place for one number more changes nothing for the numbers of the slots.
 pub longer : (slots : Slots) (places : List ℕ) (place : ℕ) → HavePlaces slots places → HavePlaces slots (places ++ place ∷ [])
 longer slots places place placed k id at = old_place places place k id.0 (placed k id at)
 
--- ---- each number by its place
+-- ---- finding a number by its kept place
 
 module _ (slots : Slots) (places : List ℕ) (placed : HavePlaces slots places) where
   pub once : (j k : ℕ) (id : NameId) → get_or slots j None ≡ Some id → get_or slots k None ≡ Some id → j ≡ k
   once j k id a b = same_Some j k (sym (placed j id a) ∙ placed k id b)
 
-  -- either it stands at the place that is kept, or it stands nowhere
+  -- A number is found at its kept place, or it is in no slot.
   pub found_or_nowhere : (id : NameId) (o : Option ℕ) → slice_get places id.0 ≡ o → ((k : ℕ) × (found_place slots o id ≡ Some k) × (get_or slots k None ≡ Some id)) ⊎ ((found_place slots o id ≡ None) × IsNowhere id slots)
   found_or_nowhere id None e = inr (refl, λ k at. none-some k (sym e ∙ placed k id at))
   found_or_nowhere id (Some p) e = by (get_or slots p None) refl
@@ -160,19 +160,19 @@ module _ (slots : Slots) (places : List ℕ) (placed : HavePlaces slots places) 
     | inr absent ↦ subst (λ (o : Option ℕ). IfSome o (λ k. k < length slots)) (sym absent.0) tt
   ]
 
-  pub found_stands : (id : NameId) (k : ℕ) → found id ≡ Some k → get_or slots k None ≡ Some id
-  found_stands id k e = elim (found_or_nowhere id (slice_get places id.0) refl) [
+  pub found_present : (id : NameId) (k : ℕ) → found id ≡ Some k → get_or slots k None ≡ Some id
+  found_present id k e = elim (found_or_nowhere id (slice_get places id.0) refl) [
     | inl at ↦ ap (λ (n : ℕ). get_or slots n None) (same_Some k at.0 (sym e ∙ at.1)) ∙ at.2
     | inr absent ↦ absurd (none-some k (sym absent.0 ∙ e))
   ]
 
-  pub found_gone : (id : NameId) (k : ℕ) → found id ≡ Some k → numbers_in (set slots k None) ≡ without_first (same_id id) (numbers_in slots)
-  found_gone id k e = cleared slots k ∙ out id k (found_stands id k e)
+  pub found_gone : (id : NameId) (k : ℕ) → found id ≡ Some k → numbers_in (set slots k None) ≡ without_first_place (same_id id) (numbers_in slots)
+  found_gone id k e = cleared slots k ∙ out id k (found_present id k e)
     where
-      out : (id : NameId) (k : ℕ) → get_or slots k None ≡ Some id → numbers_in (take k slots) ++ numbers_in (drop (suc k) slots) ≡ without_first (same_id id) (numbers_in slots)
+      out : (id : NameId) (k : ℕ) → get_or slots k None ≡ Some id → numbers_in (take k slots) ++ numbers_in (drop (suc k) slots) ≡ without_first_place (same_id id) (numbers_in slots)
       out id k at = gone id slots k at (λ j lt other. absurd (omega (arith, lt, once j k id other at)))
 
-  pub not_found : (id : NameId) → found id ≡ None → without_first (same_id id) (numbers_in slots) ≡ numbers_in slots
+  pub not_found : (id : NameId) → found id ≡ None → without_first_place (same_id id) (numbers_in slots) ≡ numbers_in slots
   not_found id e = elim (found_or_nowhere id (slice_get places id.0) refl) [
     | inl at ↦ absurd (none-some at.0 (sym e ∙ at.1))
     | inr absent ↦ stays_whole id slots absent.1
@@ -201,7 +201,7 @@ put_places slots places id placed fresh known k x at = elim (last_slot slots id 
       ap (λ (y : NameId). slice_get (set places id.0 (length slots)) y.0) (sym last.1) ∙ set_same places id.0 (length slots) known ∙ ap {B = Option ℕ} (λ (n : ℕ). Some n) (sym last.0)
 ]
 
-pub put_marked : (slots : Slots) (old places : List ℕ) (len : ℕ) (id : NameId) → AreMarked slots old len → HavePlaces slots places → list_any (same_id id) (numbers_in slots) ≡ false → id.0 < length places → length slots < 2 ^ 32 → AreMarked (slots ++ Some id ∷ []) (set places id.0 (length slots)) (len + 1)
+pub put_marked : (slots : Slots) (old places : List ℕ) (len : ℕ) (id : NameId) → AreMarkedPlaces slots old len → HavePlaces slots places → list_any (same_id id) (numbers_in slots) ≡ false → id.0 < length places → length slots < 2 ^ 32 → AreMarkedPlaces (slots ++ Some id ∷ []) (set places id.0 (length slots)) (len + 1)
 put_marked slots old places len id marked placed fresh known few = record {
   placed = put_places slots places id placed fresh known;
   counted = omega (arith, ap length (numbers-append slots (Some id ∷ [])), length-append (numbers_in slots) (id ∷ []), marked.counted);
@@ -209,13 +209,13 @@ put_marked slots old places len id marked placed fresh known few = record {
   dense = omega (arith, length-append slots (Some id ∷ []), marked.dense);
 }
 
--- ---- closing up
+-- ---- removing all marks
 
 module _ (slots : Slots) (places : List ℕ) (read write : ℕ) (closing : AreClosing slots places read write) (within : read < length slots) (id : NameId) (here : get_or slots read None ≡ Some id) where
   kept : slice_get places id.0 ≡ Some read
   kept = closing.left read id (omega arith) here
 
-  -- another number that is kept at another place is another number
+  -- A number that is kept at another place is a different number.
   apart : (k : ℕ) (x : NameId) → k ≢ read → slice_get places x.0 ≡ Some k → x.0 ≢ id.0
   apart k x ne at is = ne (same_Some k read (sym at ∙ ap (slice_get places) is ∙ kept))
 
@@ -262,7 +262,7 @@ module _ (slots : Slots) (places : List ℕ) (read write : ℕ) (closing : AreCl
       ∙ append_assoc (numbers_in (take write slots)) (id ∷ []) (numbers_in (drop (read + 1) slots))
       ∙ ap (λ (ns : List NameId). numbers_in (take write slots) ++ ns) (sym (next ∙ ap (λ (slot : Option NameId). cons_option slot (numbers_in (drop (read + 1) slots))) here))
 
--- ---- some of the numbers, by their places
+-- ---- some of the numbers, in order of their places
 
 abbrev weigh : (ℕ → ℕ) → Option ℕ → ℕ
 weigh f None = 0

@@ -1,4 +1,4 @@
--- Numbers in an order, each found by itself, and their names.
+-- Lemmas: numbers in order, the place of each number, and their names.
 use Rattle.std.proofs.Common.{◌≡◌, ◌≢◌, ◌⊎◌, ℕ, zero, suc, ◌+◌, ◌<◌, Bool, true, false, cond, not, ltb, List, [], ◌∷◌, ◌++◌, map, length, get_or, set, Option, Some, None, slice_get, position, refl, sym, ap, subst, ◌∙◌, inl, inr, arith, eq-eqb, eqb-true, lt-ltb}
 use Rattle.std.specs.Prelude.{IsSome}
 use Rattle.std.specs.List.{IsDistinct, position_or_len, sum_by}
@@ -11,13 +11,13 @@ use Rattle.name_index.specs.cpe_name.Eleven.{Values}
 use Rattle.name_index.specs.cpe_name.Equal.{same_name, same_name-Decides}
 use Rattle.name_index.specs.product_orders.Elements.{SameElements}
 use Rattle.name_index.specs.declared.table.NameId.{NameId}
-use Rattle.name_index.specs.Table.{Names, Kept, kept_or, find_kept, kept_at, IsLive, HasName, AreNames}
+use Rattle.name_index.specs.Table.{Names, Kept, kept_or, find_kept, kept_at, IsLive, HasName, IsNameTable}
 use Rattle.name_index.specs.Index.{ids, name_id, times_held}
 use Rattle.name_index.proofs.Postings.{sum_map}
 use Rattle.names_in_order.specs.Held.{names_held}
-use Rattle.names_in_order.specs.InOrder.{same_id, place_found, names_numbered, ArePlaced, AreLive}
+use Rattle.names_in_order.specs.InOrder.{same_id, place_found, names_numbered, HavePlaceOfNumber, AreListedNames}
 
--- ---- what stands at a place
+-- ---- the element at a place
 
 module _ {A : Type 0} where
   pub old_place : (xs : List A) (y x : A) (k : ℕ) → slice_get xs k ≡ Some x → slice_get (xs ++ y ∷ []) k ≡ Some x
@@ -47,7 +47,7 @@ module _ {A : Type 0} where
   set_other (x ∷ xs) (suc n) zero y ne = refl
   set_other (x ∷ xs) (suc n) (suc m) y ne = set_other xs n m y (λ e. ne (ap suc e))
 
-  -- the first that passes
+  -- The first element that passes the test is at place `k`.
   pub first_at : (p : A → Bool) (xs : List A) (k : ℕ) (d : A) → k < length xs → ((j : ℕ) → j < k → p (get_or xs j d) ≡ false) → p (get_or xs k d) ≡ true → position p xs ≡ Some k
   first_at p xs k d lt before here =
       ap (λ (i : ℕ). cond (ltb i (length xs)) (Some i) None) (position_or_len_is p xs k d (omega (arith, lt)) before (λ l. here))
@@ -85,12 +85,12 @@ same_number a b h = ap name_id (eqb-true a.0 b.0 h)
 pub itself : (a : NameId) → same_id a a ≡ true
 itself a = eq-eqb a.0 a.0 refl
 
--- the place that is kept of a number, if the number stands there
+-- the place that is kept for a number, if the number is there
 abbrev pub found_by : List NameId → Option ℕ → NameId → Option ℕ
 found_by numbers None id = None
 found_by numbers (Some p) id = place_found (slice_get numbers p) p id
 
-module _ (numbers : List NameId) (places : List ℕ) (placed : ArePlaced numbers places) where
+module _ (numbers : List NameId) (places : List ℕ) (placed : HavePlaceOfNumber numbers places) where
   once : (j k : ℕ) (id : NameId) → slice_get numbers j ≡ Some id → slice_get numbers k ≡ Some id → j ≡ k
   once j k id a b = same_Some j k (sym (placed j id a) ∙ placed k id b)
 
@@ -132,11 +132,11 @@ module _ (numbers : List NameId) (places : List ℕ) (placed : ArePlaced numbers
       let two : slice_get numbers j ≡ Some x = slice_get-get_or numbers j d within ∙ ap {B = Option NameId} (λ (z : NameId). Some z) (sym (same_number x y e)) in
       absurd (omega (arith, below, once i j x one two))))
 
-  -- a place that is kept of one number more says nothing
-  pub longer : (place : ℕ) → ArePlaced numbers (places ++ place ∷ [])
+  -- Keeping a place for one number more changes nothing for the numbers of the list.
+  pub longer : (place : ℕ) → HavePlaceOfNumber numbers (places ++ place ∷ [])
   longer place k id at = old_place places place k id.0 (placed k id at)
 
-  pub put_last : (id : NameId) → ((k : ℕ) → slice_get numbers k ≢ Some id) → id.0 < length places → ArePlaced (numbers ++ id ∷ []) (set places id.0 (length numbers))
+  pub put_last : (id : NameId) → ((k : ℕ) → slice_get numbers k ≢ Some id) → id.0 < length places → HavePlaceOfNumber (numbers ++ id ∷ []) (set places id.0 (length numbers))
   put_last id fresh known k x at = elim (old_or_last numbers id x k at) [
     | inl old ↦
         set_other places id.0 x.0 (length numbers) (λ e. fresh k (old ∙ ap {B = Option NameId} (λ (n : ℕ). Some (name_id n)) e)) ∙ placed k x old
@@ -156,15 +156,15 @@ kept_live table id live = by (find_kept table id) refl live
 abbrev name_by : Names → NameId → Values
 name_by table id = (kept_at table id.0).name
 
--- live numbers of the same name are one
-one_number : (table : Names) (a b : NameId) → AreNames table → IsLive table a.0 → IsLive table b.0 → name_by table a ≡ name_by table b → a ≡ b
+-- Live numbers with the same name are equal.
+one_number : (table : Names) (a b : NameId) → IsNameTable table → IsLive table a.0 → IsLive table b.0 → name_by table a ≡ name_by table b → a ≡ b
 one_number table a b names la lb e =
     let k = kept_live table a.0 la in
     let l = kept_live table b.0 lb in
     ap name_id (names.different a.0 b.0 k.0 l.0 k.1 l.1 (sym (ap (λ (o : Option Kept). (kept_or o).name) k.1) ∙ e ∙ ap (λ (o : Option Kept). (kept_or o).name) l.1))
 
-module _ (table : Names) (numbers : List NameId) (names : AreNames table) (live : AreLive table numbers) where
-  -- a live number has the name of another exactly where it is that
+module _ (table : Names) (numbers : List NameId) (names : IsNameTable table) (live : AreListedNames table numbers) where
+  -- Two live numbers have the same name exactly if the numbers are equal.
   pub name_by_number : (id : NameId) → IsLive table id.0 → (x : NameId) → IsLive table x.0 → same_name (name_by table id) (name_by table x) ≡ same_id id x
   name_by_number id here x there = by (same_id id x) refl
     where
@@ -187,22 +187,22 @@ module _ (table : Names) (numbers : List NameId) (names : AreNames table) (live 
       let is = one_number table x y names (live i x (slice_get-get_or numbers i no_id in_x)) (live j y (slice_get-get_or numbers j no_id in_y)) same in
       both_ways (same_id x y) (apart_from_distinct same_id numbers i j no_id apart below in_y) (eq-eqb x.0 y.0 (ap (λ (z : NameId). z.0) is))))
 
--- a name that no live number has is none of the names
-pub name_nowhere : (table : Names) (numbers : List NameId) (name : Values) → AreLive table numbers → ((id : ℕ) → HasName table id name → ⊥) → position (same_name name) (names_numbered table numbers) ≡ None
+-- If no live number has a name, the name is not among the names of the list.
+pub name_nowhere : (table : Names) (numbers : List NameId) (name : Values) → AreListedNames table numbers → ((id : ℕ) → HasName table id name → ⊥) → position (same_name name) (names_numbered table numbers) ≡ None
 name_nowhere table numbers name live none =
     same_position (λ (x : NameId). same_name name (name_by table x)) (same_name name) (name_by table) numbers (λ k x at. refl)
     ∙ none_passes (λ (x : NameId). same_name name (name_by table x)) numbers (λ k x at. false_from_ne_true _ (λ e.
     let kept = kept_live table x.0 (live k x at) in
     none x.0 (kept.0, kept.1, sym (ap (λ (o : Option Kept). (kept_or o).name) kept.1) ∙ sym ((same_name-Decides name (name_by table x)).0 e))))
 
--- a number that has a name has it in the table
+-- If a number has a name, the table keeps this name for the number.
 pub its_name : (table : Names) (id : ℕ) (name : Values) → HasName table id name → (kept_at table id).name ≡ name
 its_name table id name has = ap (λ (o : Option Kept). (kept_or o).name) has.1 ∙ has.2
 
 pub its_live : (table : Names) (id : ℕ) (name : Values) → HasName table id name → IsLive table id
 its_live table id name has = subst IsSome (sym has.1) refl
 
--- the names of the numbers are those of what is held
+-- The names of the list's numbers are the names of the held numbers.
 pub names_same : (table : Names) (held : List (ℕ × ℕ)) (numbers : List NameId) → SameElements (ids held) numbers → SameElements (names_numbered table numbers) (names_held table held)
 names_same table held numbers same f =
     sum_map f (name_by table) numbers
@@ -210,9 +210,9 @@ names_same table held numbers same f =
     ∙ sum_map (λ (id : NameId). f (name_by table id)) (λ (x : ℕ × ℕ). name_id x.0) held
     ∙ sym (sum_map f (λ (x : ℕ × ℕ). (kept_at table x.0).name) held)
 
--- ---- one number more
+-- ---- one number is added
 
--- one that isn't there isn't held
+-- A number that is not in the list is not held.
 pub not_held : (held : List (ℕ × ℕ)) (numbers : List NameId) (id : NameId) → SameElements (ids held) numbers → ((k : ℕ) → slice_get numbers k ≢ Some id) → times_held held id.0 ≡ 0
 not_held held numbers id same fresh =
     sym (sum_map (is_number id) (λ (x : ℕ × ℕ). name_id x.0) held) ∙ same (is_number id) ∙ none numbers fresh
@@ -236,5 +236,5 @@ held_more held more numbers id product same added f =
     pushed [] = omega (arith, sum_by-cons f id [])
     pushed (x ∷ xs) = omega (arith, sum_by-cons f x (xs ++ id ∷ []), sum_by-cons f x xs, pushed xs)
 
-pub live_more : (table : Names) (numbers : List NameId) (id : NameId) → AreLive table numbers → IsLive table id.0 → AreLive table (numbers ++ id ∷ [])
+pub live_more : (table : Names) (numbers : List NameId) (id : NameId) → AreListedNames table numbers → IsLive table id.0 → AreListedNames table (numbers ++ id ∷ [])
 live_more table numbers id live here k x at = elim (old_or_last numbers id x k at) [ inl old ↦ live k x old | inr last ↦ subst (λ (y : NameId). IsLive table y.0) last.1 here ]

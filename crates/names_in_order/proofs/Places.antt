@@ -1,4 +1,4 @@
--- The places of the names that are found are those of the names that are covered.
+-- Lemmas: the places that a search finds are the places of the covered names.
 use Rattle.std.proofs.Common.{◌≡◌, ℕ, zero, suc, ◌+◌, ◌<◌, ◌≤◌, Bool, true, false, cond, ltb, List, [], ◌∷◌, ◌++◌, length, Some, None, refl, sym, ap, subst, ◌∙◌, arith, add-one, append_assoc, lt-ltb}
 use Rattle.std.specs.List.{sum_by, filter, flat_map, range_with_len, position_or_len, cons_option, IsDistinct}
 use Rattle.std.specs.List.Sorted.{IsSorted, IsPermutation}
@@ -21,8 +21,8 @@ use Rattle.name_index.specs.Table.{Names, kept_at}
 use Rattle.name_index.specs.Index.{ids, name_id, is_product_covered, is_covered}
 use Rattle.name_index.proofs.Postings.{sum_map, sum_flat, range_agree}
 use Rattle.name_index.proofs.Covered.{covered_same, walk_length}
-use Rattle.names_in_order.specs.Held.{names_held, place_list, placed}
-use Rattle.names_in_order.specs.Places.{name_at, places_covered, looked_count, near_count}
+use Rattle.names_in_order.specs.Held.{names_held, place_list, places_of_name}
+use Rattle.names_in_order.specs.Places.{name_of_place, places_covered, looked_count, near_count}
 use Rattle.names_in_order.proofs.Rising.{sorted_filter}
 
 -- ---- sums over a list, by its places
@@ -31,46 +31,46 @@ later : (g : ℕ → ℕ) (a n : ℕ) → sum_by g (range_with_len (a + 1) n) �
 later g a zero = refl
 later g a (suc n) = omega (arith, sum_by-cons g (a + 1) (range_with_len (a + 1 + 1) n), sum_by-cons (λ k. g (k + 1)) a (range_with_len (a + 1) n), later g (a + 1) n)
 
-by_places : (h : Values → ℕ) (ns : List Values) → sum_by h ns ≡ sum_by (λ k. h (name_at ns k)) (range_with_len 0 (length ns))
+by_places : (h : Values → ℕ) (ns : List Values) → sum_by h ns ≡ sum_by (λ k. h (name_of_place ns k)) (range_with_len 0 (length ns))
 by_places h [] = refl
 by_places h (n ∷ ns) =
     omega (
       arith,
       sum_by-cons h n ns,
-      sum_by-cons (λ k. h (name_at (n ∷ ns) k)) 0 (range_with_len 1 (length ns)),
-      later (λ k. h (name_at (n ∷ ns) k)) 0 (length ns),
+      sum_by-cons (λ k. h (name_of_place (n ∷ ns) k)) 0 (range_with_len 1 (length ns)),
+      later (λ k. h (name_of_place (n ∷ ns) k)) 0 (length ns),
       by_places h ns,
-      range_agree (λ k. h (name_at (n ∷ ns) (k + 1))) (λ k. h (name_at ns k)) 0 (length ns) (λ k low high. rw add-one (refl)),
+      range_agree (λ k. h (name_of_place (n ∷ ns) (k + 1))) (λ k. h (name_of_place ns k)) 0 (length ns) (λ k low high. rw add-one (refl)),
     )
 
 -- ---- the place of each name
 
 module _ (ns : List Values) (different : IsDistinct same_name ns) where
-  place_at : (k : ℕ) → k < length ns → place_list ns (name_at ns k) ≡ k ∷ []
+  place_at : (k : ℕ) → k < length ns → place_list ns (name_of_place ns k) ≡ k ∷ []
   place_at k lt =
-      by (position_or_len (same_name (name_at ns k)) ns)
-      (position_or_len_is (same_name (name_at ns k)) ns k any_values (omega (arith, lt)) (λ j low. before j low) (λ l. (same_name-Decides (name_at ns k) (name_at ns k)).1 refl))
+      by (position_or_len (same_name (name_of_place ns k)) ns)
+      (position_or_len_is (same_name (name_of_place ns k)) ns k any_values (omega (arith, lt)) (λ j low. before j low) (λ l. (same_name-Decides (name_of_place ns k) (name_of_place ns k)).1 refl))
     where
-      before : (j : ℕ) → j < k → same_name (name_at ns k) (name_at ns j) ≡ false
+      before : (j : ℕ) → j < k → same_name (name_of_place ns k) (name_of_place ns j) ≡ false
       before j low =
-          false_from_ne_true _ (λ e. both_ways _ (apart_from_distinct same_name ns j k any_values different low lt) ((same_name-Decides (name_at ns j) (name_at ns k)).1 (sym ((same_name-Decides (name_at ns k) (name_at ns j)).0 e))))
+          false_from_ne_true _ (λ e. both_ways _ (apart_from_distinct same_name ns j k any_values different low lt) ((same_name-Decides (name_of_place ns j) (name_of_place ns k)).1 (sym ((same_name-Decides (name_of_place ns k) (name_of_place ns j)).0 e))))
 
       by : (m : ℕ) → m ≡ k → cons_option (cond (ltb m (length ns)) (Some m) None) [] ≡ k ∷ []
       by m e = ap (λ (i : ℕ). cons_option (cond (ltb i (length ns)) (Some i) None) []) e ∙ ap (λ (b : Bool). cons_option (cond b (Some k) None) []) (lt-ltb k (length ns) lt)
 
-  -- what the places of the covered names weigh, by the names
+  -- A sum over the places of the covered names equals a sum over the names.
   covered_sum : (name : Values) (g : ℕ → ℕ) → sum_by (λ n. cond (covers name n) (sum_by g (place_list ns n)) 0) ns ≡ sum_by g (places_covered name ns)
   covered_sum name g =
       by_places (λ n. cond (covers name n) (sum_by g (place_list ns n)) 0) ns
-      ∙ range_agree (λ k. cond (covers name (name_at ns k)) (sum_by g (place_list ns (name_at ns k))) 0) (if_passes (λ k. covers name (name_at ns k)) g) 0 (length ns) (λ k low high. ap {B = ℕ} (λ (m : ℕ). cond (covers name (name_at ns k)) m 0) (ap (sum_by g) (place_at k (omega (arith, high))) ∙ one k))
-      ∙ sym (sum_filter g (λ k. covers name (name_at ns k)) (range_with_len 0 (length ns)))
+      ∙ range_agree (λ k. cond (covers name (name_of_place ns k)) (sum_by g (place_list ns (name_of_place ns k))) 0) (if_passes (λ k. covers name (name_of_place ns k)) g) 0 (length ns) (λ k low high. ap {B = ℕ} (λ (m : ℕ). cond (covers name (name_of_place ns k)) m 0) (ap (sum_by g) (place_at k (omega (arith, high))) ∙ one k))
+      ∙ sym (sum_filter g (λ k. covers name (name_of_place ns k)) (range_with_len 0 (length ns)))
     where
       one : (k : ℕ) → sum_by g (k ∷ []) ≡ g k
       one k = omega (arith, sum_by-cons g k [])
 
 -- ---- the places that a walk finds
 
--- what is found grows by what is looked at
+-- After a step of a walk, the found places and the places still to be found are all places.
 pub places_more : (place : NameId → List ℕ) (q : NameId → Bool) (found new all : List ℕ) (rest xs : List NameId) (x : NameId) (b : Bool)
     → xs ≡ x ∷ rest → q x ≡ b → new ≡ cond b (found ++ place x) found → found ++ flat_map place (filter q xs) ≡ all → new ++ flat_map place (filter q rest) ≡ all
 places_more place q found new all rest xs x b e t is h =
@@ -83,12 +83,12 @@ places_more place q found new all rest xs x b e t is h =
 
 module _ (ns : List Values) (names : Names) (held : List (ℕ × ℕ)) (name : Values) (walk : List NameId) (different : IsDistinct same_name ns) (same : SameElements ns (names_held names held))
     (passing_ones : SameElements (filter (is_product_covered names name.product) (ids held)) walk) where
-  pub found_places : ((x : NameId) → is_covered names name x ≡ true → is_product_covered names name.product x ≡ true) → SameElements (places_covered name ns) (flat_map (placed ns names) (filter (is_covered names name) walk))
+  pub found_places : ((x : NameId) → is_covered names name x ≡ true → is_product_covered names name.product x ≡ true) → SameElements (places_covered name ns) (flat_map (places_of_name ns names) (filter (is_covered names name) walk))
   found_places imp g =
       let q = is_covered names name in
-      let h : NameId → ℕ = λ id. sum_by g (placed ns names id) in
+      let h : NameId → ℕ = λ id. sum_by g (places_of_name ns names id) in
       let w : Values → ℕ = λ n. cond (covers name n) (sum_by g (place_list ns n)) 0 in
-      sym (sum_flat g (placed ns names) (filter q walk)
+      sym (sum_flat g (places_of_name ns names) (filter q walk)
       ∙ sym (covered_same (is_product_covered names name.product) q (ids held) walk (filter q walk) imp passing_ones (IsPermutation-refl (filter q walk)) h)
       ∙ sum_filter h q (ids held)
       ∙ sum_map (if_passes q h) (λ (x : ℕ × ℕ). name_id x.0) held
@@ -96,7 +96,7 @@ module _ (ns : List Values) (names : Names) (held : List (ℕ × ℕ)) (name : V
       ∙ sym (same w)
       ∙ covered_sum ns different name g)
 
-  -- as many as have a covered product
+  -- The walk visits as many numbers as there are names with a covered product.
   pub walked : length walk ≡ looked_count name ns
   walked =
       walk_length (is_product_covered names name.product) (ids held) walk passing_ones
@@ -104,7 +104,7 @@ module _ (ns : List Values) (names : Names) (held : List (ℕ × ℕ)) (name : V
       ∙ sym (sum_map (λ (n : Values). cond (covers_product name.product n.product) 1 0) (λ (x : ℕ × ℕ). (kept_at names x.0).name) held)
       ∙ sym (same (λ (n : Values). cond (covers_product name.product n.product) 1 0))
 
--- a name's product is near those that it covers
+-- A search looks at no more names than are near: a product is near each product that it covers.
 pub fewer_looked : (name : Values) (ns : List Values) → looked_count name ns ≤ near_count name ns
 fewer_looked name ns =
     sum_by-le-sum_by (λ (n : Values). cond (covers_product name.product n.product) 1 0) (λ (n : Values). cond (near name.product n.product) 1 0) ns
@@ -118,4 +118,4 @@ fewer_looked name ns =
 -- ---- the sorted places
 
 pub sorted_places : (name : Values) (ns : List Values) (found sorted : List ℕ) → SameElements (places_covered name ns) found → IsPermutation found sorted → IsSorted nat_cmp sorted → sorted ≡ places_covered name ns
-sorted_places name ns = sorted_filter (λ k. covers name (name_at ns k)) (length ns)
+sorted_places name ns = sorted_filter (λ k. covers name (name_of_place ns k)) (length ns)

@@ -1,4 +1,4 @@
--- Numbers that rise are fixed by their elements, whatever order they were found in.
+-- Lemmas: two rising lists of numbers are equal if they have the same elements.
 use Rattle.std.proofs.Common.{◌≡◌, ℕ, zero, suc, ◌+◌, ◌<◌, ◌≤◌, Bool, true, false, cond, leb, List, [], ◌∷◌, length, get_or, sym, ap, subst, ◌∙◌, refl, inl, inr, arith, add-one, leb-true, leb-false, le-leb}
 use Rattle.std.specs.List.{sum_by, filter, range_with_len}
 use Rattle.std.specs.List.Sorted.{IsSorted, IsPermutation}
@@ -8,12 +8,12 @@ use Rattle.std.proofs.lemmas.List.Sums.{sum_by-cons}
 use Rattle.std.proofs.lemmas.List.Sorted.{sum_by-IsPermutation, IsNonDecreasingBy-from_sort}
 use Rattle.name_index.specs.product_orders.Elements.{SameElements}
 
--- from a number on, none below the one before
+-- The list's numbers are at least `low`, and each is at least the number before it.
 abbrev Rises : ℕ → List ℕ → Type 0
 Rises low [] = Unit {0}
 Rises low (x ∷ xs) = (low ≤ x) × Rises x xs
 
--- how many are no greater
+-- 1 if `y` is at most `b`, else 0
 abbrev up_to : ℕ → ℕ → ℕ
 up_to b y = cond (leb y b) 1 0
 
@@ -64,7 +64,7 @@ sorted_rises : (low : ℕ) (xs : List ℕ) → (0 < length xs → low ≤ get_or
 sorted_rises low [] first up = tt
 sorted_rises low (x ∷ xs) first up = (first (omega arith), sorted_rises x xs (λ l. up 0 (omega (arith, l))) (λ i l. let z = up (suc i) (omega (arith, l)) in rw add-one (rw add-one at z)))
 
--- numbers below n that pass a test, found in any order and sorted
+-- Numbers below `n` that pass a test were found in any order. Once sorted, they are equal to the filtered range.
 pub sorted_filter : (p : ℕ → Bool) (n : ℕ) (found sorted : List ℕ) → SameElements (filter p (range_with_len 0 n)) found → IsPermutation found sorted → IsSorted nat_cmp sorted → sorted ≡ filter p (range_with_len 0 n)
 sorted_filter p n found sorted same moved up =
     let rises = IsNonDecreasingBy-from_sort (λ (m : ℕ). m) sorted up in

@@ -1,4 +1,4 @@
--- What stays where names of a table are held and released.
+-- Lemmas: what is unchanged if names of a table are held and released.
 use Rattle.std.proofs.Common.{◌≡◌, ◌≢◌, ℕ, zero, suc, ◌+◌, ◌-◌, ◌<◌, Bool, true, false, cond, eqb, List, [], ◌∷◌, Option, Some, None, slice_get, refl, sym, ap, subst, ◌∙◌, eqb-true, eq-eqb, lt-ltb, arith}
 use Rattle.std.specs.Prelude.{IsSome, nat_lt}
 use Rattle.std.specs.List.{AllByRecursion, list_any}
@@ -8,23 +8,23 @@ use Rattle.std.proofs.lemmas.List.Elements.{recursion_from_All, All-from_recursi
 use Rattle.name_index.specs.cpe_name.Eleven.{Values}
 use Rattle.name_index.specs.cpe_name.Equal.{same_name, same_name-Decides}
 use Rattle.name_index.specs.declared.table.NameId.{NameId}
-use Rattle.name_index.specs.Table.{Names, Kept, kept, kept_or, find_kept, kept_at, IsLive, Holding, Holds, Releases, released}
-use Rattle.name_index.specs.Index.{Fits, name_id, times_held}
-use Rattle.names_in_order.specs.InOrder.{AreInOrder, AreLive, KeepsAll, names_numbered}
+use Rattle.name_index.specs.Table.{Names, Kept, kept, kept_or, find_kept, kept_at, IsLive, HoldsOnce, HoldsName, Releases, released}
+use Rattle.name_index.specs.Index.{FitsTable, name_id, times_held}
+use Rattle.names_in_order.specs.InOrder.{AreInOrder, AreListedNames, KeepsAll, names_numbered}
 use Rattle.names_in_order.proofs.OrderLemmas.{kept_live, not_held}
 
--- the number has the name and the product that it had
+-- The number has the same name and product as before.
 abbrev StaysAt : Names → Kept → ℕ → Type 0
 StaysAt new k x = (l : Kept) × (find_kept new x ≡ Some l) × (l.name ≡ k.name) × (l.product ≡ k.product)
 
--- each live number
+-- Each live number has the same name and product as before.
 abbrev StayAll : Names → Names → Type 0
 StayAll old new = (x : ℕ) (k : Kept) → find_kept old x ≡ Some k → StaysAt new k x
 
-pub hold_stays : (old new : Names) (id : ℕ) (name : Values) → Holds old new id name → StayAll old new
+pub hold_stays : (old new : Names) (id : ℕ) (name : Values) → HoldsName old new id name → StayAll old new
 hold_stays old new id name h x k e = by (eqb x id) refl
   where
-    raised : (o : Option Kept) → o ≡ Some k → Holding o name (find_kept new id) → StaysAt new k id
+    raised : (o : Option Kept) → o ≡ Some k → HoldsOnce o name (find_kept new id) → StaysAt new k id
     raised None e held = absurd (none-some k e)
     raised (Some j) e held = (kept j.name (j.holds + 1) j.product, held.1, ap (λ (i : Kept). i.name) (same_Some j k e), ap (λ (i : Kept). i.product) (same_Some j k e))
 
@@ -52,7 +52,7 @@ keeps_stay old new same x k e = (k, same x ∙ e, refl, refl)
 abbrev FitsAt : Names → ℕ × ℕ → Type 0
 FitsAt names x = (k : Kept) × (find_kept names x.0 ≡ Some k) × (k.product ≡ x.1)
 
-fits_stay : (old new : Names) (held : List (ℕ × ℕ)) → StayAll old new → Fits held old → Fits held new
+fits_stay : (old new : Names) (held : List (ℕ × ℕ)) → StayAll old new → FitsTable held old → FitsTable held new
 fits_stay old new held stay fits = All-from_recursion (FitsAt new) held (go held (recursion_from_All (FitsAt old) held fits))
   where
     go : (held : List (ℕ × ℕ)) → AllByRecursion (FitsAt old) held → AllByRecursion (FitsAt new) held
@@ -78,20 +78,20 @@ same_names old new (x ∷ xs) same =
     let rest = same_names old new xs (λ k y at. same (suc k) y at) in
     λ i. head i ∷ rest i
 
-pub names_stay : (old new : Names) (numbers : List NameId) → StayAll old new → AreLive old numbers → names_numbered new numbers ≡ names_numbered old numbers
+pub names_stay : (old new : Names) (numbers : List NameId) → StayAll old new → AreListedNames old numbers → names_numbered new numbers ≡ names_numbered old numbers
 names_stay old new numbers stay live =
     same_names old new numbers (λ k x at.
     let o = kept_live old x.0 (live k x at) in
     let s = stay x.0 o.0 o.1 in
     ap (λ (p : Option Kept). (kept_or p).name) s.1 ∙ s.2 ∙ sym (ap (λ (p : Option Kept). (kept_or p).name) o.1))
 
--- ---- a number that is none of these is released
+-- ---- a number is released that is not in the list
 
 module _ (old new : Names) (id : ℕ) (numbers : List NameId) (r : Releases old new id) (none : (k : ℕ) → slice_get numbers k ≢ Some (name_id id)) where
   other : (k : ℕ) (x : NameId) → slice_get numbers k ≡ Some x → find_kept new x.0 ≡ find_kept old x.0
   other k x at = r.others x.0 (λ is. none k (at ∙ ap {B = Option NameId} (λ (n : ℕ). Some (name_id n)) is))
 
-  pub order_without : (held : List (ℕ × ℕ)) → (times_held held id ≡ 0 → Fits held old → Fits held new) → AreInOrder old held numbers → AreInOrder new held numbers
+  pub order_without : (held : List (ℕ × ℕ)) → (times_held held id ≡ 0 → FitsTable held old → FitsTable held new) → AreInOrder old held numbers → AreInOrder new held numbers
   order_without held fit a = record {
     fits = fit (not_held held numbers (name_id id) a.same none) a.fits;
     same = a.same;
@@ -101,9 +101,9 @@ module _ (old new : Names) (id : ℕ) (numbers : List NameId) (r : Releases old 
   pub names_without : names_numbered new numbers ≡ names_numbered old numbers
   names_without = same_names old new numbers (λ k x at. ap (λ (o : Option Kept). (kept_or o).name) (other k x at))
 
--- ---- a hold that is released again
+-- ---- a hold is released again
 
-pub undone : (old mid new : Names) (id : ℕ) (name : Values) → ((x : ℕ) (k : Kept) → find_kept old x ≡ Some k → 0 < k.holds) → Holds old mid id name → Releases mid new id → KeepsAll old new
+pub undone : (old mid new : Names) (id : ℕ) (name : Values) → ((x : ℕ) (k : Kept) → find_kept old x ≡ Some k → 0 < k.holds) → HoldsName old mid id name → Releases mid new id → KeepsAll old new
 undone old mid new id name some h r x = by (eqb x id) refl
   where
     less : (holds : ℕ) → 0 < holds → nat_lt 1 (holds + 1) ≡ true
@@ -112,7 +112,7 @@ undone old mid new id name some h r x = by (eqb x id) refl
     back : (holds : ℕ) → holds + 1 - 1 ≡ holds
     back holds = omega arith
 
-    here : (o : Option Kept) → find_kept old id ≡ o → Holding o name (find_kept mid id) → released (find_kept mid id) ≡ o
+    here : (o : Option Kept) → find_kept old id ≡ o → HoldsOnce o name (find_kept mid id) → released (find_kept mid id) ≡ o
     here None e held = ap released held.1
     here (Some k) e held =
         ap released held.1
@@ -127,9 +127,9 @@ undone old mid new id name some h r x = by (eqb x id) refl
         let other : x ≢ id = λ is. both_ways _ ne (eq-eqb x id is) in
         r.others x other ∙ h.others x other
 
--- ---- a number that is put last
+-- ---- a number is appended
 
--- a number whose name is none of the names isn't there
+-- A number whose name is not among the names of the list isn't in the list.
 pub not_there : (table : Names) (numbers : List NameId) (id : NameId) → list_any (same_name (name_by table id)) (names_numbered table numbers) ≡ false → (k : ℕ) → slice_get numbers k ≢ Some id
 not_there table numbers id fresh k at = both_ways (list_any (same_name (name_by table id)) (names_numbered table numbers)) fresh (there numbers k at)
   where

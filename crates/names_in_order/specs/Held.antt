@@ -1,4 +1,4 @@
--- The names of the numbers that an index holds, and where they stand in a list.
+-- The names of the numbers that an index holds, and their places in a list.
 use Rattle.std.specs.Prelude.{ℕ, List, [], map, position}
 use Rattle.std.specs.List.{cons_option}
 use Rattle.name_index.specs.cpe_name.Eleven.{Values}
@@ -10,10 +10,10 @@ use Rattle.name_index.specs.Table.{Names, kept_at}
 abbrev pub names_held : Names → List (ℕ × ℕ) → List Values
 names_held names held = map (λ (x : ℕ × ℕ). (kept_at names x.0).name) held
 
--- the place of a name, if it has one
+-- the place of a name as a list: one place, or none if the name is not in `names`
 abbrev pub place_list : List Values → Values → List ℕ
 place_list names name = cons_option (position (same_name name) names) []
 
--- of a number's name
-abbrev pub placed : List Values → Names → NameId → List ℕ
-placed names table id = place_list names (kept_at table id.0).name
+-- the place of the name of a number, as a list of at most one place
+abbrev pub places_of_name : List Values → Names → NameId → List ℕ
+places_of_name names table id = place_list names (kept_at table id.0).name

@@ -1,4 +1,4 @@
-// A number is put last, in the list of numbers and in the index by product.
+// Appending a number to a list of numbers, and adding the number to an index by product.
 ghost use Rattle.std.specs.Prelude.{◌≡◌, ◌≢◌, ◌++◌, ◌∷◌, [], ℕ, List, OnOk, Some, false, slice_get};
 ghost use Rattle.std.specs.List.{list_any};
 ghost use Rattle.name_index.specs.Prelude.{IsLive, kept_at, same_name};
@@ -8,27 +8,27 @@ ghost use Rattle.names_in_order.specs.Room.{MayPush, MayPut, NumberList, roll_of
 
 use name_index::{Memory, NameId, NameIndex, NameTable};
 
-/// Different numbers in an order, after which one more may be put.
+/// A list of different numbers, to which a number can be appended.
 pub trait PushNumber {
-    /// The numbers in their order, and the places for more.
+    /// The numbers in their order, and the reserved room.
     ghost list: { Self → NumberList };
 
-    /// Makes a place for a number, which [`push`](PushNumber::push) then needs. The numbers stay.
+    /// Reserves the room that [`push`](PushNumber::push) needs to append a number. The list of numbers is unchanged.
     ///
     /// # Errors
-    /// That memory or places below 2^32 ran out.
+    /// Memory ran out, or the list has 2^32 places already.
     fn reserve(&mut self, id: NameId) -> Result<(), Memory>
         ensures numbers { (list self.new).numbers ≡ (list self.old).numbers }
         ensures ok { OnOk result (MayPut (list self.new) id.0) };
 
-    /// Puts a number last that isn't there and has a place. It takes no memory.
+    /// Appends a number that is not yet in the list, and for which room is reserved. Allocates: no.
     fn push(&mut self, id: NameId)
         requires fresh { (k : ℕ) → slice_get (list self.old).numbers k ≢ Some id }
         requires room { MayPut (list self.old) id.0 }
         ensures numbers { (list self.new).numbers ≡ (list self.old).numbers ++ id ∷ [] };
 }
 
-/// Makes room in both for a live number. What both hold stays.
+/// Reserves room for a live number in the index and in the list. What both contain is unchanged.
 ///
 /// # Errors
 /// Only that memory ran out.
@@ -47,7 +47,7 @@ pub(crate) fn reserve_number<N: PushNumber>(
     numbers.reserve(id)
 }
 
-/// Puts a live number last whose name isn't there, in both. It takes no memory.
+/// Adds a live number whose name is not yet in the list: to the index, and at the end of the list. Allocates: no.
 pub(crate) fn add_number<N: PushNumber>(
     table: &NameTable,
     index: &mut NameIndex,

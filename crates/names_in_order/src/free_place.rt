@@ -1,10 +1,10 @@
-// Places for one number more: in a list, and for what is kept of the number.
+// Reserving places for a number: in a list, and in the vector that keeps the place of each number.
 ghost use Rattle.std.specs.Prelude.{◌≡◌, ◌<◌, ◌^◌, length, vec_capacity, OnOk};
 ghost use Rattle.names_in_order.specs.Room.{KeepsPlaces};
 
 use name_index::{Memory, NameId};
 
-// Has a place kept for each number up to this one.
+// Extends the vector of kept places, so that it has a place for each number up to this number.
 fn reach_number(places: &mut Vec<u32>, id: NameId) -> Result<(), Memory>
     ensures kept { KeepsPlaces places.old.items places.new.items }
     ensures known { OnOk result (id.0 < length places.new.items) }
@@ -15,10 +15,11 @@ fn reach_number(places: &mut Vec<u32>, id: NameId) -> Result<(), Memory>
     Ok(())
 }
 
-/// Makes a place for a number in these slots, and one for what is kept of it. What is there stays.
+/// Reserves a slot for a number, and extends the vector of kept places, so that it has a place for this number. The
+/// slots and the places kept so far are unchanged.
 ///
 /// # Errors
-/// That memory or places below 2^32 ran out.
+/// Memory ran out, or there are 2^32 slots already.
 pub(crate) fn make_place<T>(
     slots: &mut Vec<T>,
     places: &mut Vec<u32>,

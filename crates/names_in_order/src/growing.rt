@@ -1,9 +1,9 @@
-// Names in the order in which they came, by product.
+// Lists of names, with an index by product, from which no name is ever removed.
 ghost use Rattle.std.specs.Prelude.{◌≡◌, ◌+◌, ◌++◌, ◌∷◌, [], IfOk, OnOk, cond, length, position, slice_get, Some, false, option_copied};
 ghost use Rattle.std.specs.List.{list_any, IsDistinct};
 ghost use Rattle.name_index.specs.Prelude.{is_covered, IsLive, IsLower, IsOrder, kept_at, same_name, SameElements, StepsWithin};
-ghost use Rattle.names_in_order.specs.Held.{placed};
-ghost use Rattle.names_in_order.specs.InOrder.{AreInOrder, AreLive, names_numbered, same_id};
+ghost use Rattle.names_in_order.specs.Held.{places_of_name};
+ghost use Rattle.names_in_order.specs.InOrder.{AreInOrder, AreListedNames, names_numbered, same_id};
 ghost use Rattle.names_in_order.specs.Places.{looked_count, near_count, places_covered};
 ghost use Rattle.names_in_order.specs.Room.{MayPush, SameRoll};
 
@@ -15,10 +15,10 @@ use std::alloc::Global;
 use std::marker::Model;
 use std::sync::ledger::Ledger;
 
-/// Different names in the order in which they came, by their numbers in a table that others use, too. None of them goes. Contracts see
-/// what its index holds, the numbers, and the room for more.
+/// Different names in the order in which they were added, by their numbers in a table that other lists use, too. No
+/// name is ever removed. Contracts see what the index holds, the numbers, and the reserved room.
 ///
-/// A name takes some 30 bytes here; the name itself is the table's.
+/// A name takes about 30 bytes here, and more in the table.
 #[derive(Drop)]
 pub struct GrowingNames {
     index: NameIndex,
@@ -34,8 +34,8 @@ impl Model for GrowingNames {
     ghost view = { λ n. roll_of n.index n.numbers };
 }
 
-/// The names of a [`GrowingNames`], beside the table of their numbers: each is found by its hash, by its place, and by its product.
-/// Contracts see the list of the names.
+/// The names of a [`GrowingNames`], together with the table of their numbers. Each name is found by its hash, by its
+/// place, and by its product. Contracts see the list of the names.
 #[derive(Drop)]
 pub struct NamesInOrder<'t> {
     table: &'t NameTable,
@@ -55,9 +55,9 @@ impl<'t> Model for NamesInOrder<'t> {
     ghost invariant = { λ n. AreInOrder n.table.now n.index.now.held n.numbers.now.numbers };
 }
 
-// The place of a live number of the table, if it is one of these.
+// The place of a live number of the table, if the number is in the list.
 fn place_of(table: &NameTable, numbers: &NumbersInOrder, id: NameId) -> Option<usize>
-    requires all { AreLive table.now numbers.now.numbers }
+    requires all { AreListedNames table.now numbers.now.numbers }
     requires live { IsLive table.now id.0 }
     ensures { result ≡ position (same_name (kept_at table.now id.0).name) (names_numbered table.now numbers.now.numbers) }
 {
@@ -65,9 +65,9 @@ fn place_of(table: &NameTable, numbers: &NumbersInOrder, id: NameId) -> Option<u
     numbers.place_of(id)
 }
 
-// The place of a name, by its hash.
+// The place of a name, which is found by its hash, if the name is in the list.
 fn find_place(table: &NameTable, numbers: &NumbersInOrder, name: &Wfn) -> Option<usize>
-    requires { AreLive table.now numbers.now.numbers }
+    requires { AreListedNames table.now numbers.now.numbers }
     ensures { result ≡ position (same_name name.now) (names_numbered table.now numbers.now.numbers) }
 {
     match table.find(name) {
@@ -76,16 +76,16 @@ fn find_place(table: &NameTable, numbers: &NumbersInOrder, name: &Wfn) -> Option
     }
 }
 
-// Puts the place of a live number last, if it is one of these.
+// Appends the place of a live number to `places`, if the number is in the list.
 fn push_place(
     table: &NameTable,
     numbers: &NumbersInOrder,
     id: NameId,
     places: &mut Vec<usize>,
 ) -> Result<(), Memory>
-    requires all { AreLive table.now numbers.now.numbers }
+    requires all { AreListedNames table.now numbers.now.numbers }
     requires live { IsLive table.now id.0 }
-    ensures { OnOk result (places.new.items ≡ places.old.items ++ placed (names_numbered table.now numbers.now.numbers) table.now id) }
+    ensures { OnOk result (places.new.items ≡ places.old.items ++ places_of_name (names_numbered table.now numbers.now.numbers) table.now id) }
 {
     if let Some(place) = place_of(table, numbers, id) {
         places.push(place)?;
@@ -93,7 +93,7 @@ fn push_place(
     Ok(())
 }
 
-// Looks at a held name, and puts its place last where the asked one covers it.
+// Looks at the name of a held number, and appends its place to `places` if `name` covers it.
 fn push_covered<L: Ledger>(
     order: &[Attribute],
     table: &NameTable,
@@ -104,9 +104,9 @@ fn push_covered<L: Ledger>(
     steps: &mut Steps<L>,
 ) -> Result<(), Memory>
     requires order { IsOrder order.now }
-    requires all { AreLive table.now numbers.now.numbers }
+    requires all { AreListedNames table.now numbers.now.numbers }
     requires live { IsLive table.now id.0 }
-    ensures places { OnOk result (places.new.items ≡ cond (is_covered table.now name.now id) (places.old.items ++ placed (names_numbered table.now numbers.now.numbers) table.now id) places.old.items) }
+    ensures places { OnOk result (places.new.items ≡ cond (is_covered table.now name.now id) (places.old.items ++ places_of_name (names_numbered table.now numbers.now.numbers) table.now id) places.old.items) }
     ensures step { steps.new ≡ steps.old + 1 }
 {
     let other = table.look(id, steps);
@@ -142,7 +142,7 @@ fn find_places<L: Ledger>(
 }
 
 impl GrowingNames {
-    /// No names. It takes no memory.
+    /// No names. Allocates: no.
     pub fn new(alloc: Global) -> GrowingNames
         ensures held { result.held ≡ [] }
         ensures numbers { result.numbers ≡ [] }
@@ -153,14 +153,14 @@ impl GrowingNames {
         }
     }
 
-    /// How many there are.
+    /// How many names the list has.
     pub fn len(&self) -> usize
         ensures { result ≡ length self.now.numbers }
     {
         self.numbers.len()
     }
 
-    /// The place, from 0, of the name of a live number of the table, if it is one of these. It looks at one place alone.
+    /// The place, from 0, of a live number of the table, if the number is in the list. Reads one place only.
     pub fn place_of(&self, table: &NameTable, id: NameId) -> Option<usize>
         requires order { AreInOrder table.now self.now.held self.now.numbers }
         requires live { IsLive table.now id.0 }
@@ -169,14 +169,14 @@ impl GrowingNames {
         place_of(table, &self.numbers, id)
     }
 
-    /// The number at a place.
+    /// The number at a place, from 0, if the list has this place.
     pub fn number_at(&self, place: usize) -> Option<NameId>
         ensures { result ≡ slice_get self.now.numbers place }
     {
         self.numbers.get(place)
     }
 
-    /// The names, beside their table.
+    /// The list of names, read through the table of their numbers.
     pub fn with<'t>(&'t self, table: &'t NameTable) -> NamesInOrder<'t>
         requires { AreInOrder table.now self.now.held self.now.numbers }
         ensures { result ≡ names_numbered table.now self.now.numbers }
@@ -188,8 +188,8 @@ impl GrowingNames {
         }
     }
 
-    /// Takes the memory to put a live number of the table last, which [`push`](GrowingNames::push) then needs. The numbers stay.
-    /// It costs the same in the mean, whatever their number, but for the place of a product that is new.
+    /// Reserves the memory that [`push`](GrowingNames::push) needs to append a live number of the table. The list is
+    /// unchanged. The mean cost doesn't depend on the length of the list, except to find the place of a new product.
     ///
     /// # Errors
     /// Only that memory ran out.
@@ -201,8 +201,8 @@ impl GrowingNames {
         reserve_number(table, &mut self.index, &mut self.numbers, id)
     }
 
-    /// Puts a number of the table last whose name isn't there, and for which there is room. It takes no memory, and costs the same
-    /// whatever their number.
+    /// Appends a live number for which room is reserved, and whose name is not yet in the list. The cost doesn't depend
+    /// on the length of the list. Allocates: no.
     pub fn push(&mut self, table: &NameTable, id: NameId)
         requires order { AreInOrder table.now self.old.held self.old.numbers }
         requires live { IsLive table.now id.0 }
@@ -216,21 +216,21 @@ impl GrowingNames {
 }
 
 impl NamesInOrder<'_> {
-    /// How many there are.
+    /// How many names the list has.
     pub fn len(&self) -> usize
         ensures { result ≡ length self.now }
     {
         self.numbers.len()
     }
 
-    /// The place of a name, from 0, if it is one of them. It is found by its hash.
+    /// The place of a name, from 0, if the name is in the list. The name is found by its hash.
     pub fn find(&self, name: &Wfn) -> Option<usize>
         ensures { result ≡ position (same_name name.now) self.now }
     {
         find_place(self.table, self.numbers, name)
     }
 
-    /// The name at a place.
+    /// The name at a place, from 0, if the list has this place.
     pub fn name_at(&self, place: usize) -> Option<&Wfn>
         ensures { option_copied result ≡ slice_get self.now place }
     {
@@ -240,8 +240,9 @@ impl NamesInOrder<'_> {
         }
     }
 
-    /// The places of those that a name in lower case covers, rising. A step is a look at a name: it looks once at each whose
-    /// product that of the name covers, and at no other: all these are names to whose product that of the name is near.
+    /// The places of the names that a name in lower case covers, rising. A step is a look at a name. The search looks
+    /// once at each name whose product the given name's product covers, and at no other name. The given name's product
+    /// is near each of these products.
     ///
     /// # Errors
     /// Only that memory ran out. The bound on steps holds then, too.
@@ -261,7 +262,7 @@ impl NamesInOrder<'_> {
         Ok(places)
     }
 
-    /// No name stands twice. It does nothing, and tells a proof so.
+    /// Law: no name is twice in the list.
     pub fn lawful(&self)
         ensures { IsDistinct same_name self.now }
     {

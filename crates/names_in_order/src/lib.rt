@@ -3,10 +3,12 @@
 //!
 //! A [`GrowingNames`] keeps the numbers of names, and none of them is ever removed. Together with its table
 //! ([`GrowingNames::with`]) it is a list of names. A name is found by its hash, by its place or by its product. From a
-//! [`ChangingNames`], names can also be removed. A [`MarkedNumbers`] keeps only numbers, for callers that find names by
-//! other means than what covers them. By the law [`orders_stay`], a list stays as it is if others hold and release
-//! names of the table. [`orders_without`] says what a list is after a number was removed. A list that has a table for
-//! itself holds each name once: [`add_name`] appends a name to either kind of list ([`PushHeld`]).
+//! [`ChangingNames`], names can also be removed. A [`MarkedNumbers`] keeps only numbers, for callers that find names
+//! without an index.
+//!
+//! By the law [`orders_stay`], a list is unchanged if other lists hold and release names of the table. The law
+//! [`orders_without`] describes a list after a number was removed. If a list has a table for itself, the list holds
+//! each name once: [`add_name`] appends a name to either kind of list ([`PushHeld`]).
 //!
 //! A call that reserves takes all memory for a name, and the call that adds this name can't fail
 //! ([`GrowingNames::reserve`], [`GrowingNames::push`]).

@@ -1,8 +1,8 @@
-// The numbers of names in an order, of which any may go, and the place of each number.
+// Lists of numbers in order, from which numbers can be removed, and the place of each number.
 ghost use Rattle.std.specs.Prelude.{◌≡◌, ◌≤◌, ◌<◌, ◌+◌, ◌^◌, ◌++◌, ◌∷◌, [], IfOk, IfSome, IsSome, OnOk, cond, false, find, get_or, length, set, slice_get, take, vec_capacity, None, Some};
 ghost use Rattle.std.specs.List.{IsDistinct, list_any};
 ghost use Rattle.names_in_order.specs.InOrder.{same_id};
-ghost use Rattle.names_in_order.specs.Marked.{AreClosing, AreMarked, HavePlaces, IsFirstPlace, PutsInOrder, closing_numbers, earlier as earlier_of, found_place, is_slot_of, numbers_in, places_of, standing_at, without_first};
+ghost use Rattle.names_in_order.specs.Marked.{AreClosing, AreMarkedPlaces, HavePlaces, IsFirstPlace, PutsInOrder, closing_numbers, earlier as earlier_of, found_place, is_slot_of, numbers_in, places_of, standing_at, without_first_place};
 
 use crate::added::PushNumber;
 use crate::free_place::make_place;
@@ -10,33 +10,34 @@ use name_index::{Memory, NameId};
 use std::alloc::Global;
 use std::marker::Model;
 
-/// Different numbers in the order in which they came, of which any may go. Contracts see their list, and the places for more.
+/// Different numbers in the order in which they were added. Any of them can be removed. Contracts see their list, and
+/// the reserved room.
 ///
-/// One that goes leaves a mark in its place. Where more places are marks than not, the numbers close up, so that one that goes costs
-/// the same in the mean, whatever their number.
+/// A removed number leaves a mark in its slot. If there are more marks than numbers, the marks are removed and the
+/// numbers move up. So the mean cost of a removal doesn't depend on the length of the list.
 #[derive(Drop)]
 pub struct MarkedNumbers {
-    // By place.
+    // The slot at each place: a number or a mark.
     slots: Vec<Option<NameId>>,
-    // By number, up to the largest that was one of these.
+    // The place of each number, kept by number, up to the largest number that was ever in the list.
     places: Vec<u32>,
-    // How many slots are no marks.
+    // How many slots have a number.
     len: usize,
 }
 
 impl Model for MarkedNumbers {
     ghost use Rattle.std.specs.Prelude.{length, vec_capacity};
-    ghost use Rattle.names_in_order.specs.Marked.{AreMarked, numbers_in};
+    ghost use Rattle.names_in_order.specs.Marked.{AreMarkedPlaces, numbers_in};
     ghost use Rattle.names_in_order.specs.Room.{NumberList, spare_places};
 
     ghost Value = { NumberList };
 
     ghost view = { λ n. record { numbers = numbers_in n.slots.items; reach = length n.places.items; spare = spare_places (vec_capacity n.slots) (length n.slots.items) } };
 
-    ghost invariant = { λ n. AreMarked n.slots.items n.places.items n.len };
+    ghost invariant = { λ n. AreMarkedPlaces n.slots.items n.places.items n.len };
 }
 
-// What stands at a place; a mark, where there is no such place.
+// The slot at a place, or a mark if there is no such place.
 fn slot_at(slots: &[Option<NameId>], place: usize) -> Option<NameId>
     ensures { result ≡ get_or slots.now place None }
 {
@@ -46,14 +47,14 @@ fn slot_at(slots: &[Option<NameId>], place: usize) -> Option<NameId>
     }
 }
 
-// What is kept of a number.
+// The place that is kept for a number.
 fn kept_place(places: &[u32], id: NameId) -> Option<u32>
     ensures { result ≡ slice_get places.now id.0 }
 {
     places.get(id.0 as usize).copied()
 }
 
-// Whether the number stands in the slot.
+// Whether the slot has the number.
 fn is_in_slot(id: NameId, slot: Option<NameId>) -> bool
     ensures { result ≡ is_slot_of id slot }
 {
@@ -63,7 +64,7 @@ fn is_in_slot(id: NameId, slot: Option<NameId>) -> bool
     }
 }
 
-// The place, where the number stands there.
+// The place, if its slot has the number.
 fn confirmed(slots: &[Option<NameId>], place: usize, id: NameId) -> Option<usize>
     ensures { result ≡ cond (is_slot_of id (get_or slots.now place None)) (Some place) None }
 {
@@ -73,7 +74,7 @@ fn confirmed(slots: &[Option<NameId>], place: usize, id: NameId) -> Option<usize
     None
 }
 
-// The place of a number.
+// The place of a number, if it is in the list.
 fn find_place(slots: &[Option<NameId>], places: &[u32], id: NameId) -> Option<usize>
     ensures { result ≡ found_place slots.now (slice_get places.now id.0) id }
 {
@@ -94,7 +95,7 @@ fn earlier(first: Option<usize>, place: Option<usize>) -> Option<usize>
     }
 }
 
-// The first place at which one of these numbers stands.
+// The first place whose slot has one of the numbers `ids`.
 fn first_place(slots: &[Option<NameId>], places: &[u32], ids: &[NameId]) -> Option<usize>
     requires { HavePlaces slots.now places.now }
     ensures { IsFirstPlace slots.now ids.now result }
@@ -106,15 +107,15 @@ fn first_place(slots: &[Option<NameId>], places: &[u32], ids: &[NameId]) -> Opti
     first
 }
 
-// Puts a number last that isn't there and has a place.
+// Appends a number that is not yet in the list, and for which room is reserved.
 fn put_last(slots: &mut Vec<Option<NameId>>, places: &mut Vec<u32>, len: usize, id: NameId)
-    requires marked { AreMarked slots.old.items places.old.items len }
+    requires marked { AreMarkedPlaces slots.old.items places.old.items len }
     requires fresh { list_any (same_id id) (numbers_in slots.old.items) ≡ false }
     requires known { id.0 < length places.old.items }
     requires room { length slots.old.items < vec_capacity slots.old }
     requires few { length slots.old.items < 2 ^ 32 }
     ensures numbers { numbers_in slots.new.items ≡ numbers_in slots.old.items ++ id ∷ [] }
-    ensures marked { AreMarked slots.new.items places.new.items (len + 1) }
+    ensures marked { AreMarkedPlaces slots.new.items places.new.items (len + 1) }
     ensures few { len < 2 ^ 32 }
 {
     let place = slots.as_slice().len();
@@ -122,7 +123,7 @@ fn put_last(slots: &mut Vec<Option<NameId>>, places: &mut Vec<u32>, len: usize, 
     places[id.0 as usize] = place as u32;
 }
 
-// Moves what stands at the place to read up to the place to write, if it is a number, and answers the place to write next.
+// Moves the number at place `read`, if there is one, up to place `write`. Returns the next place to write.
 fn move_up(
     slots: &mut Vec<Option<NameId>>,
     places: &mut Vec<u32>,
@@ -145,7 +146,7 @@ fn move_up(
     }
 }
 
-// Moves each number up, so that no mark stands before one, and answers how many there are.
+// Moves all numbers up, so that no mark is before a number. Returns how many numbers there are.
 fn move_all_up(slots: &mut Vec<Option<NameId>>, places: &mut Vec<u32>) -> usize
     requires placed { HavePlaces slots.old.items places.old.items }
     requires few { length slots.old.items ≤ 2 ^ 32 }
@@ -160,7 +161,7 @@ fn move_all_up(slots: &mut Vec<Option<NameId>>, places: &mut Vec<u32>) -> usize
     write
 }
 
-// Closes up, in place.
+// Removes all marks, in place.
 fn close_up(slots: &mut Vec<Option<NameId>>, places: &mut Vec<u32>)
     requires placed { HavePlaces slots.old.items places.old.items }
     requires few { length slots.old.items ≤ 2 ^ 32 }
@@ -173,13 +174,13 @@ fn close_up(slots: &mut Vec<Option<NameId>>, places: &mut Vec<u32>)
     slots.truncate(count);
 }
 
-// Closes up where more are marks than not.
+// Removes all marks, if there are more marks than numbers.
 fn close_up_sparse(slots: &mut Vec<Option<NameId>>, places: &mut Vec<u32>, len: usize)
     requires placed { HavePlaces slots.old.items places.old.items }
     requires counted { len ≡ length (numbers_in slots.old.items) }
     requires fewer { len ≤ length slots.old.items }
     requires few { length slots.old.items ≤ 2 ^ 32 }
-    ensures marked { AreMarked slots.new.items places.new.items len }
+    ensures marked { AreMarkedPlaces slots.new.items places.new.items len }
     ensures numbers { numbers_in slots.new.items ≡ numbers_in slots.old.items }
 {
     if slots.len() - len > len {
@@ -187,16 +188,16 @@ fn close_up_sparse(slots: &mut Vec<Option<NameId>>, places: &mut Vec<u32>, len: 
     }
 }
 
-// Leaves a mark in the place of a number, and answers how many are left.
+// Replaces the number at a place by a mark. Returns how many numbers are left.
 fn take_out(
     slots: &mut Vec<Option<NameId>>,
     places: &mut Vec<u32>,
     len: usize,
     place: usize,
 ) -> usize
-    requires marked { AreMarked slots.old.items places.old.items len }
+    requires marked { AreMarkedPlaces slots.old.items places.old.items len }
     requires there { IsSome (get_or slots.old.items place None) }
-    ensures marked { AreMarked slots.new.items places.new.items result }
+    ensures marked { AreMarkedPlaces slots.new.items places.new.items result }
     ensures numbers { numbers_in slots.new.items ≡ numbers_in (set slots.old.items place None) }
 {
     slots[place] = None;
@@ -205,7 +206,7 @@ fn take_out(
     left
 }
 
-// Puts what is kept of a number last.
+// Appends the place that is kept for a number to `kept`.
 fn push_place(places: &[u32], id: NameId, kept: &mut Vec<u32>) -> Result<(), Memory>
     ensures { OnOk result (kept.new.items ≡ kept.old.items ++ places_of places.now (id ∷ [])) }
 {
@@ -215,7 +216,7 @@ fn push_place(places: &[u32], id: NameId, kept: &mut Vec<u32>) -> Result<(), Mem
     Ok(())
 }
 
-// What is kept of each of these numbers.
+// The places that are kept for these numbers.
 fn kept_places(alloc: Global, places: &[u32], ids: &[NameId]) -> Result<Vec<u32>, Memory>
     ensures { IfOk result (λ kept. kept.items ≡ places_of places.now ids.now) }
 {
@@ -226,7 +227,7 @@ fn kept_places(alloc: Global, places: &[u32], ids: &[NameId]) -> Result<Vec<u32>
     Ok(kept)
 }
 
-// Puts what stands at a place last, if it is a number.
+// Appends the number at a place to `ids`, if the place's slot has a number.
 fn push_number(slots: &[Option<NameId>], place: u32, ids: &mut Vec<NameId>) -> Result<(), Memory>
     ensures { OnOk result (ids.new.items ≡ ids.old.items ++ standing_at slots.now (place ∷ [])) }
 {
@@ -236,7 +237,7 @@ fn push_number(slots: &[Option<NameId>], place: u32, ids: &mut Vec<NameId>) -> R
     Ok(())
 }
 
-// The numbers that stand at these places.
+// The numbers at these places.
 fn numbers_at(
     alloc: Global,
     slots: &[Option<NameId>],
@@ -251,7 +252,7 @@ fn numbers_at(
     Ok(ids)
 }
 
-// Some of the numbers, in their order.
+// The numbers `found`, in the order of the list.
 fn put_in_order(
     alloc: Global,
     slots: &[Option<NameId>],
@@ -267,7 +268,7 @@ fn put_in_order(
 }
 
 impl MarkedNumbers {
-    /// No numbers. It takes no memory.
+    /// No numbers. Allocates: no.
     pub fn new(alloc: Global) -> MarkedNumbers
         ensures { result.numbers ≡ [] }
     {
@@ -278,21 +279,21 @@ impl MarkedNumbers {
         }
     }
 
-    /// How many there are.
+    /// How many numbers the list has.
     pub fn len(&self) -> usize
         ensures { result ≡ length self.now.numbers }
     {
         self.len
     }
 
-    /// Whether a number is one of these. It looks at one place alone.
+    /// Whether a number is in the list. Reads one place only.
     pub fn has(&self, id: NameId) -> bool
         ensures { result ≡ list_any (same_id id) self.now.numbers }
     {
         find_place(&self.slots, &self.places, id).is_some()
     }
 
-    /// The numbers by place, with marks among them: no more than there are numbers.
+    /// The numbers by place, with marks at the places of removed numbers. There are no more marks than numbers.
     pub fn slots(&self) -> &[Option<NameId>]
         ensures numbers { numbers_in result.now ≡ self.now.numbers }
         ensures dense { length result.now ≤ length self.now.numbers + length self.now.numbers }
@@ -300,18 +301,18 @@ impl MarkedNumbers {
         &self.slots
     }
 
-    /// Takes a number out, if it is one of these; the others stay in their order. It takes no memory, and costs the same in the mean,
-    /// whatever their number.
+    /// Removes a number, if it is in the list; the other numbers stay in their order. The mean cost doesn't depend on
+    /// the length of the list. Allocates: no.
     pub fn remove(&mut self, id: NameId)
-        ensures { self.new.numbers ≡ without_first (same_id id) self.old.numbers }
+        ensures { self.new.numbers ≡ without_first_place (same_id id) self.old.numbers }
     {
         if let Some(place) = find_place(&self.slots, &self.places, id) {
             self.len = take_out(&mut self.slots, &mut self.places, self.len, place);
         }
     }
 
-    /// Some of the numbers, found in any order, in this order. It sorts their places, and looks at no other. Of a number that isn't
-    /// there it says nothing.
+    /// The numbers `found`, which are in any order, in the order of the list. Sorts their places, and reads no others.
+    /// The clause says nothing about numbers that are not in the list.
     ///
     /// # Errors
     /// Only that memory ran out.
@@ -321,7 +322,8 @@ impl MarkedNumbers {
         put_in_order(alloc, &self.slots, &self.places, found)
     }
 
-    /// The first of the numbers that is one of these, if there is one. It looks at one place for each of these, and takes no memory.
+    /// The first number of the list that is among `ids`, if there is one. Reads one place for each number of `ids`.
+    /// Allocates: no.
     pub fn first_of(&self, ids: &[NameId]) -> Option<NameId>
         ensures { result ≡ find (λ id. list_any (same_id id) ids.now) self.now.numbers }
     {
@@ -331,7 +333,7 @@ impl MarkedNumbers {
         }
     }
 
-    /// No number stands twice. It does nothing, and tells a proof so.
+    /// Law: no number is twice in the list.
     pub fn lawful(&self)
         ensures { IsDistinct same_id self.now.numbers }
     {

@@ -1,7 +1,7 @@
-// The numbers of names in an order, and the place of each number.
+// Lists of numbers in order, and the place of each number.
 ghost use Rattle.std.specs.Prelude.{◌≡◌, ◌≢◌, ◌++◌, ◌∷◌, [], ◌<◌, ◌^◌, ℕ, length, position, slice_get, vec_capacity, Some};
 ghost use Rattle.std.specs.List.{IsDistinct};
-ghost use Rattle.names_in_order.specs.InOrder.{same_id, place_found, ArePlaced};
+ghost use Rattle.names_in_order.specs.InOrder.{same_id, place_found, HavePlaceOfNumber};
 
 use crate::added::PushNumber;
 use crate::free_place::make_place;
@@ -9,35 +9,36 @@ use name_index::{Memory, NameId};
 use std::alloc::Global;
 use std::marker::Model;
 
-/// Different numbers in an order, each found by itself. Contracts see their list, and the places for more.
+/// Different numbers in order; the place of each is found from the number. Contracts see the list, and the reserved
+/// room.
 #[derive(Drop)]
 pub(crate) struct NumbersInOrder {
-    // By place.
+    // The number at each place.
     numbers: Vec<NameId>,
-    // By number, up to the largest that is one of these.
+    // The place of each number, kept by number, up to the largest number in the list.
     places: Vec<u32>,
 }
 
 impl Model for NumbersInOrder {
     ghost use Rattle.std.specs.Prelude.{length, vec_capacity};
-    ghost use Rattle.names_in_order.specs.InOrder.{ArePlaced};
+    ghost use Rattle.names_in_order.specs.InOrder.{HavePlaceOfNumber};
     ghost use Rattle.names_in_order.specs.Room.{NumberList, spare_places};
 
     ghost Value = { NumberList };
 
     ghost view = { λ n. record { numbers = n.numbers.items; reach = length n.places.items; spare = spare_places (vec_capacity n.numbers) (length n.numbers.items) } };
 
-    ghost invariant = { λ n. ArePlaced n.numbers.items n.places.items };
+    ghost invariant = { λ n. HavePlaceOfNumber n.numbers.items n.places.items };
 }
 
-// What is kept of a number.
+// The place that is kept for a number.
 fn kept_place(places: &[u32], id: NameId) -> Option<u32>
     ensures { result ≡ slice_get places.now id.0 }
 {
     places.get(id.0 as usize).copied()
 }
 
-// The place, where the number stands there.
+// The place, if the number is there.
 fn confirmed(numbers: &[NameId], place: u32, id: NameId) -> Option<usize>
     ensures { result ≡ place_found (slice_get numbers.now place) place id }
 {
@@ -47,7 +48,7 @@ fn confirmed(numbers: &[NameId], place: u32, id: NameId) -> Option<usize>
     }
 }
 
-// The place, where the numbers are the same.
+// The place, if the two numbers are equal.
 fn if_same(other: NameId, id: NameId, place: u32) -> Option<usize>
     ensures { result ≡ place_found (Some other) place id }
 {
@@ -57,14 +58,14 @@ fn if_same(other: NameId, id: NameId, place: u32) -> Option<usize>
     None
 }
 
-// Puts a number last that isn't there and has a place.
+// Appends a number that is not yet in the list, and for which room is reserved.
 fn put_last(numbers: &mut Vec<NameId>, places: &mut Vec<u32>, id: NameId)
-    requires placed { ArePlaced numbers.old.items places.old.items }
+    requires placed { HavePlaceOfNumber numbers.old.items places.old.items }
     requires fresh { (k : ℕ) → slice_get numbers.old.items k ≢ Some id }
     requires known { id.0 < length places.old.items }
     requires room { length numbers.old.items < vec_capacity numbers.old }
     requires few { length numbers.old.items < 2 ^ 32 }
-    ensures placed { ArePlaced numbers.new.items places.new.items }
+    ensures placed { HavePlaceOfNumber numbers.new.items places.new.items }
     ensures numbers { numbers.new.items ≡ numbers.old.items ++ id ∷ [] }
 {
     let place = numbers.as_slice().len();
@@ -73,7 +74,7 @@ fn put_last(numbers: &mut Vec<NameId>, places: &mut Vec<u32>, id: NameId)
 }
 
 impl NumbersInOrder {
-    /// No numbers. It takes no memory.
+    /// No numbers. Allocates: no.
     pub(crate) fn new(alloc: Global) -> NumbersInOrder
         ensures { result.numbers ≡ [] }
     {
@@ -83,21 +84,21 @@ impl NumbersInOrder {
         }
     }
 
-    /// How many there are.
+    /// How many numbers the list has.
     pub(crate) fn len(&self) -> usize
         ensures { result ≡ length self.now.numbers }
     {
         self.numbers.len()
     }
 
-    /// The number at a place.
+    /// The number at a place, from 0, if the list has this place.
     pub(crate) fn get(&self, place: usize) -> Option<NameId>
         ensures { result ≡ slice_get self.now.numbers place }
     {
         self.numbers.get(place).copied()
     }
 
-    /// The place of a number, if it is one of these. It looks at one place alone.
+    /// The place of a number, if it is in the list. Doesn't search: only the number at the remembered place is compared.
     pub(crate) fn place_of(&self, id: NameId) -> Option<usize>
         ensures { result ≡ position (same_id id) self.now.numbers }
     {
@@ -107,7 +108,7 @@ impl NumbersInOrder {
         }
     }
 
-    /// No number stands twice. It does nothing, and tells a proof so.
+    /// Law: no number is twice in the list.
     pub(crate) fn lawful(&self)
         ensures { IsDistinct same_id self.now.numbers }
     {

@@ -1,4 +1,4 @@
-// A name is put last, into the table and into the list that has it for itself.
+// Adding a name to a table, and to the one list that uses this table.
 ghost use Rattle.std.specs.Prelude.{◌≡◌, ◌++◌, ◌∷◌, [], OnOk, OnErr, false};
 ghost use Rattle.std.specs.List.{list_any};
 ghost use Rattle.name_index.specs.Prelude.{IsLive, IsLower, kept_at, same_name};
@@ -10,15 +10,15 @@ use crate::changing::ChangingNames;
 use crate::growing::GrowingNames;
 use name_index::{Memory, NameId, NameTable, Wfn};
 
-/// Names in an order, by their numbers in a table, after which one more may be put.
+/// A list of names by their numbers in a table, to which a name can be appended.
 pub trait PushHeld {
-    /// What its index holds, the numbers, and the room for more.
+    /// What the index holds, the numbers, and the reserved room.
     ghost roll: { Self → Roll };
 
-    /// Puts a number of the table last whose name isn't there.
+    /// Appends a live number of the table, whose name is not yet in the list.
     ///
     /// # Errors
-    /// Only that memory ran out; the numbers are then as they were.
+    /// Only that memory ran out; the list is then unchanged.
     fn push_held(&mut self, table: &NameTable, id: NameId) -> Result<(), Memory>
         requires order { AreInOrder table.now (roll self.old).held (roll self.old).numbers }
         requires live { IsLive table.now id.0 }
@@ -48,7 +48,7 @@ impl PushHeld for ChangingNames {
     }
 }
 
-// Puts a held number last, or lets its name go where memory ran out.
+// Appends a number that was just held to the list. If memory ran out, the number is released instead.
 fn put_last<N: PushHeld>(table: &mut NameTable, names: &mut N, id: NameId) -> Result<(), Memory>
     requires own { IsNew table.old (N.roll names.old).held (N.roll names.old).numbers id }
     ensures own { AreOwn table.new (N.roll names.new).held (N.roll names.new).numbers }
@@ -65,10 +65,10 @@ fn put_last<N: PushHeld>(table: &mut NameTable, names: &mut N, id: NameId) -> Re
     }
 }
 
-/// Puts a name in lower case last that is new. The name is moved.
+/// Appends a name in lower case that is not yet in the list. The name is moved.
 ///
 /// # Errors
-/// Only that memory ran out; the names are then as they were.
+/// Only that memory ran out; the list is then unchanged.
 pub fn add_name<N: PushHeld>(table: &mut NameTable, names: &mut N, name: Wfn) -> Result<(), Memory>
     requires own { AreOwn table.old (N.roll names.old).held (N.roll names.old).numbers }
     requires lower { IsLower name }

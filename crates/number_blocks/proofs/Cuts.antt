@@ -1,4 +1,4 @@
--- A list that is cut at two places.
+-- Lemmas: a list that is cut at two places.
 use Rattle.std.proofs.Common.{◌≡◌, ℕ, zero, suc, ◌+◌, ◌≤◌, List, [], ◌∷◌, ◌++◌, take, drop, refl, sym, ap, ◌∙◌, arith, take-append-drop}
 
 module _ {X : Type 0} where

@@ -1,8 +1,8 @@
--- A block that is cut in two.
+-- Lemmas: a block that is cut in two.
 use Rattle.std.proofs.Common.{◌≡◌, ℕ, zero, suc, ◌+◌, ◌<◌, ◌≤◌, List, [], ◌∷◌, ◌++◌, length, take, drop, refl, sym, ap, subst, ◌∙◌, append_assoc, arith, length-drop, vec_capacity}
 use Rattle.std.specs.List.{slice_set, insert}
 use Rattle.std.proofs.lemmas.List.{length-take-le}
-use Rattle.number_blocks.specs.Places.{Block, flat, IsBlock, AreBlocks, block_at, before, behind, IsHalved}
+use Rattle.number_blocks.specs.Places.{Block, flat, IsBlock, AreBlocks, block_at, before, numbers_behind, IsHalved}
 use Rattle.number_blocks.proofs.Cuts.{take_more, drop_more, take_less, drop_less}
 
 pub first_half : (b v : Block) → IsBlock b → length b.items ≡ 1024 → v.items ≡ take 512 b.items → vec_capacity b ≤ vec_capacity v → IsBlock v
@@ -56,7 +56,7 @@ module _ (v w : Block) where
     before_first (b ∷ bs) zero at lt e le = ap (take at) e ∙ take_less b.items at h le
     before_first (b ∷ bs) (suc i) at lt e le = ap (λ (u : List ℕ). b.items ++ u) (before_first bs i at (omega (arith, lt)) e le)
 
-    behind_first : (bs : List Block) (i at : ℕ) → i < length bs → v.items ≡ take h (block_at bs i) → w.items ≡ drop h (block_at bs i) → at ≤ h → behind (halved bs i) i at ≡ behind bs i at
+    behind_first : (bs : List Block) (i at : ℕ) → i < length bs → v.items ≡ take h (block_at bs i) → w.items ≡ drop h (block_at bs i) → at ≤ h → numbers_behind (halved bs i) i at ≡ numbers_behind bs i at
     behind_first [] i at lt e f le = refl
     behind_first (b ∷ bs) zero at lt e f le =
         ap (λ (u : List ℕ). drop at u ++ (w.items ++ flat bs)) e ∙ ap (λ (u : List ℕ). drop at (take h b.items) ++ (u ++ flat bs)) f
@@ -70,7 +70,7 @@ module _ (v w : Block) where
     before_second (b ∷ bs) zero (suc (suc k)) at c lt e f = absurd (omega (arith, c))
     before_second (b ∷ bs) (suc i) (suc k) at c lt e f = ap (λ (u : List ℕ). b.items ++ u) (before_second bs i k at (omega (arith, c)) (omega (arith, lt)) e f)
 
-    behind_second : (bs : List Block) (i k at : ℕ) → k ≡ i + 1 → i < length bs → w.items ≡ drop h (block_at bs i) → behind (halved bs i) k at ≡ behind bs i (h + at)
+    behind_second : (bs : List Block) (i k at : ℕ) → k ≡ i + 1 → i < length bs → w.items ≡ drop h (block_at bs i) → numbers_behind (halved bs i) k at ≡ numbers_behind bs i (h + at)
     behind_second [] i k at c lt f = absurd (omega (arith, lt))
     behind_second (b ∷ bs) i zero at c lt f = absurd (omega (arith, c))
     behind_second (b ∷ bs) zero (suc zero) at c lt f = ap (λ (u : List ℕ). drop at u ++ flat bs) f ∙ ap (λ (u : List ℕ). u ++ flat bs) (drop_more b.items h at (h + at) refl)

@@ -1,4 +1,4 @@
--- Lists of which a prefix passes a test.
+-- Lemmas: lists with a prefix that passes a test.
 use Rattle.std.proofs.Common.{◌≡◌, ℕ, zero, suc, ◌-◌, ◌<◌, ◌≤◌, Bool, true, false, not, ◌&&◌, cond, List, [], ◌∷◌, ◌++◌, length, take, drop, refl, sym, ap, ◌∙◌, inl, inr, arith}
 use Rattle.std.specs.List.{AllByRecursion, filter, slice_index_or}
 use Rattle.std.specs.List.Sorted.{IsPartitionPoint, IsPartitionedBy}
@@ -43,7 +43,7 @@ module _ {X : Type 0} (p : X → Bool) where
   parted_by (x ∷ xs) s (suc i) zero d le lt h = absurd (omega (arith, le))
   parted_by (x ∷ xs) s (suc i) (suc j) d le lt h = parted_by xs s.1 i j d (omega (arith, le)) (omega (arith, lt)) h
 
-  -- what stands before the place where the test ends passes, and what stands from it on fails
+  -- The elements before the end of the test pass, and the elements after it fail.
   pub cut_passing : (xs : List X) (i : ℕ) → IsPartitionPoint (λ x. p x ≡ true) (λ x. p x ≡ false) xs i → AllAre p true (take i xs)
   cut_passing [] zero h = tt
   cut_passing [] (suc i) h = tt
@@ -63,7 +63,7 @@ module _ {X : Type 0} (p : X → Bool) where
   cut_failing (x ∷ xs) (suc i) h =
       cut_failing xs i (λ k d low high. h.0 (suc k) d (omega arith) (omega (arith, high)), λ k d low high. h.1 (suc k) d (omega (arith, low)) (omega (arith, high)))
 
--- ---- the last of a list
+-- ---- the last element of a list
 
 module _ (p : ℕ → Bool) where
   pub last_true : (xs : List ℕ) → IsParted p xs → last_passes p xs ≡ true → AllAre p true xs
@@ -90,7 +90,7 @@ module _ (p : ℕ → Bool) where
       let same : length (x ∷ y ∷ xs) - 1 ≡ suc (length (y ∷ xs) - 1) = omega arith in
       last_is (y ∷ xs) (omega arith) ∙ ap (λ (n : ℕ). p (slice_index_or (x ∷ y ∷ xs) n 0)) (sym same)
 
--- ---- what a filter keeps
+-- ---- the elements that a filter keeps
 
 module _ {X : Type 0} (p : X → Bool) where
   pub filter_none : (xs : List X) → AllAre p false xs → filter p xs ≡ []
@@ -105,7 +105,7 @@ module _ {X : Type 0} (p : X → Bool) where
   filter_middle [] ys zs h k l = filter_front ys zs k l
   filter_middle (x ∷ xs) ys zs h k l = ap (λ (b : Bool). cond b (x ∷ filter p (xs ++ (ys ++ zs))) (filter p (xs ++ (ys ++ zs)))) h.0 ∙ filter_middle xs ys zs h.1 k l
 
--- ---- between two tests
+-- ---- the elements between the ends of two tests
 
 module _ {X : Type 0} (p q : X → Bool) where
   abbrev pub only_second : X → Bool

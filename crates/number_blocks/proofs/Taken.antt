@@ -1,4 +1,4 @@
--- A number that is taken out of its block.
+-- Lemmas: a number is removed from its block.
 use Rattle.std.proofs.Common.{◌≡◌, ℕ, zero, suc, ◌+◌, ◌<◌, ◌≤◌, Bool, true, false, not, ◌||◌, cond, List, [], ◌∷◌, ◌++◌, length, take, drop, Some, None, refl, sym, ap, subst, ◌∙◌, inl, inr, append_assoc, arith, eqb-true, length-append, length-drop, get_or, vec_capacity}
 use Rattle.std.specs.Prelude.{nat_eq}
 use Rattle.std.specs.List.{Contains, list_any, position, position_or_len, slice_index_or, slice_set, remove}
@@ -8,11 +8,11 @@ use Rattle.std.proofs.lemmas.List.{length-take-le}
 use Rattle.std.proofs.lemmas.List.Folds.{list_any-append, list_any_at}
 use Rattle.std.proofs.lemmas.List.Quantifiers.{position-Some}
 use Rattle.number_blocks.specs.Blocks.{AllAre}
-use Rattle.number_blocks.specs.Places.{Block, flat, IsBlock, AreBlocks, block_at, before, behind}
+use Rattle.number_blocks.specs.Places.{Block, flat, IsBlock, AreBlocks, block_at, before, numbers_behind}
 use Rattle.number_blocks.proofs.PartedLists.{all_append}
 use Rattle.number_blocks.proofs.BlockLemmas.{at_is, lent}
 
--- ---- where it stands
+-- ---- where the number is
 
 module _ {X : Type 0} (p : X → Bool) where
   past : (xs : List X) → length xs ≤ position_or_len p xs → list_any p xs ≡ false
@@ -50,40 +50,40 @@ found n xs i h =
     let p = position-Some (is n) xs i 0 h in
     drop_first xs i (i + 1) refl p.0 ∙ ap (λ (x : ℕ). x ∷ drop (i + 1) xs) (eqb-true (get_or xs i 0) n p.1)
 
-pub found_behind : (bs : List Block) (i at n : ℕ) → i < length bs → drop at (block_at bs i) ≡ n ∷ drop (at + 1) (block_at bs i) → behind bs i at ≡ n ∷ behind bs i (at + 1)
+pub found_behind : (bs : List Block) (i at n : ℕ) → i < length bs → drop at (block_at bs i) ≡ n ∷ drop (at + 1) (block_at bs i) → numbers_behind bs i at ≡ n ∷ numbers_behind bs i (at + 1)
 found_behind [] i at n lt h = absurd (omega (arith, lt))
 found_behind (b ∷ bs) zero at n lt h = ap (λ (u : List ℕ). u ++ flat bs) h
 found_behind (b ∷ bs) (suc i) at n lt h = found_behind bs i at n (omega (arith, lt)) h
 
 -- ---- from one block to the next
 
-from_start : (bs : List Block) → flat bs ≡ behind bs 0 0
+from_start : (bs : List Block) → flat bs ≡ numbers_behind bs 0 0
 from_start [] = refl
 from_start (b ∷ bs) = refl
 
-one_block : (bs : List Block) (i k : ℕ) → k ≡ i + 1 → i < length bs → behind bs i 0 ≡ block_at bs i ++ behind bs k 0
+one_block : (bs : List Block) (i k : ℕ) → k ≡ i + 1 → i < length bs → numbers_behind bs i 0 ≡ block_at bs i ++ numbers_behind bs k 0
 one_block [] i k e lt = absurd (omega (arith, lt))
 one_block (b ∷ bs) i zero e lt = absurd (omega (arith, e))
 one_block (b ∷ bs) zero (suc zero) e lt = ap (λ (u : List ℕ). b.items ++ u) (from_start bs)
 one_block (b ∷ bs) zero (suc (suc k)) e lt = absurd (omega (arith, e))
 one_block (b ∷ bs) (suc i) (suc k) e lt = one_block bs i k (omega (arith, e)) (omega (arith, lt))
 
-pub next_block : (p : ℕ → Bool) (bs : List Block) (i : ℕ) → i < length bs → list_any p (block_at bs i) ≡ false → list_any p (behind bs i 0) ≡ true → list_any p (behind bs (i + 1) 0) ≡ true
+pub next_block : (p : ℕ → Bool) (bs : List Block) (i : ℕ) → i < length bs → list_any p (block_at bs i) ≡ false → list_any p (numbers_behind bs i 0) ≡ true → list_any p (numbers_behind bs (i + 1) 0) ≡ true
 next_block p bs i lt none h =
-    sym (ap (λ (b : Bool). b || list_any p (behind bs (i + 1) 0)) none) ∙ sym (list_any-append p (block_at bs i) (behind bs (i + 1) 0)) ∙ sym (ap (list_any p) (one_block bs i (i + 1) refl lt)) ∙ h
+    sym (ap (λ (b : Bool). b || list_any p (numbers_behind bs (i + 1) 0)) none) ∙ sym (list_any-append p (block_at bs i) (numbers_behind bs (i + 1) 0)) ∙ sym (ap (list_any p) (one_block bs i (i + 1) refl lt)) ∙ h
 
-no_block : (p : ℕ → Bool) (bs : List Block) (i : ℕ) → length bs ≤ i → list_any p (behind bs i 0) ≡ false
+no_block : (p : ℕ → Bool) (bs : List Block) (i : ℕ) → length bs ≤ i → list_any p (numbers_behind bs i 0) ≡ false
 no_block p [] i le = refl
 no_block p (b ∷ bs) zero le = absurd (omega (arith, le))
 no_block p (b ∷ bs) (suc i) le = no_block p bs i (omega (arith, le))
 
-pub still : (p : ℕ → Bool) (bs : List Block) (i : ℕ) → list_any p (behind bs i 0) ≡ true → i < length bs
+pub still : (p : ℕ → Bool) (bs : List Block) (i : ℕ) → list_any p (numbers_behind bs i 0) ≡ true → i < length bs
 still p bs i h = elim (cases_lt i (length bs)) [ inl lt ↦ lt | inr le ↦ absurd (true_false (sym h ∙ no_block p bs i le)) ]
   where
     true_false : true ≡ false → ⊥
     true_false e = absurd cc
 
--- a number that fails the test stands after what passes it
+-- A number that fails the test is not among the numbers that pass.
 pub not_before : (p : ℕ → Bool) (n : ℕ) (xs : List ℕ) → p n ≡ false → AllAre p true xs → list_any (is n) xs ≡ false
 not_before p n [] fails h = refl
 not_before p n (x ∷ xs) fails h = elim (cases_Bool (is n x)) [
@@ -98,7 +98,7 @@ pub is_behind : (p : ℕ → Bool) (n : ℕ) (xs front back : List ℕ) → xs �
 is_behind p n xs front back e fails h c =
     sym (ap (λ (b : Bool). b || list_any (is n) back) (not_before p n front fails h)) ∙ sym (list_any-append (is n) front back) ∙ sym (ap (list_any (is n)) e) ∙ list_any_at (is n) xs c.0 n c.1 (eq-eqb _ n c.2)
 
--- ---- what is left
+-- ---- the numbers that are left
 
 single_front : (xs : List ℕ) (at : ℕ) → length xs ≡ 1 → at < length xs → take at xs ≡ []
 single_front [] at one lt = absurd (omega (arith, one))
@@ -113,11 +113,11 @@ single_back (x ∷ []) zero one lt = absurd (omega (arith, lt))
 single_back (x ∷ []) (suc zero) one lt = refl
 single_back (x ∷ []) (suc (suc k)) one lt = refl
 
-pub block_taken : (bs : List Block) (i at : ℕ) → i < length bs → at < length (block_at bs i) → length (block_at bs i) ≡ 1 → flat (remove bs i) ≡ before bs i at ++ behind bs i (at + 1)
+pub block_taken : (bs : List Block) (i at : ℕ) → i < length bs → at < length (block_at bs i) → length (block_at bs i) ≡ 1 → flat (remove bs i) ≡ before bs i at ++ numbers_behind bs i (at + 1)
 block_taken [] i at lt inside one = absurd (omega (arith, lt))
 block_taken (b ∷ bs) zero at lt inside one =
     sym (ap (λ (u : List ℕ). u ++ (drop (at + 1) b.items ++ flat bs)) (single_front b.items at one inside) ∙ ap (λ (u : List ℕ). u ++ flat bs) (single_back b.items (at + 1) one (omega arith)))
-block_taken (b ∷ bs) (suc i) at lt inside one = ap (λ (u : List ℕ). b.items ++ u) (block_taken bs i at (omega (arith, lt)) inside one) ∙ sym (append_assoc b.items (before bs i at) (behind bs i (at + 1)))
+block_taken (b ∷ bs) (suc i) at lt inside one = ap (λ (u : List ℕ). b.items ++ u) (block_taken bs i at (omega (arith, lt)) inside one) ∙ sym (append_assoc b.items (before bs i at) (numbers_behind bs i (at + 1)))
 
 all_take : (bs : List Block) (n : ℕ) → AreBlocks bs → AreBlocks (take n bs)
 all_take [] zero h = tt
@@ -134,12 +134,12 @@ pub blocks_left : (bs : List Block) (i : ℕ) → AreBlocks bs → AreBlocks (re
 blocks_left bs i h = all_append IsBlock (take i bs) (drop (suc i) bs) (all_take bs i h) (all_drop bs (suc i) h)
 
 module _ (v : Block) where
-  pub number_taken : (bs : List Block) (i at : ℕ) → i < length bs → v.items ≡ remove (block_at bs i) at → flat (slice_set bs i v) ≡ before bs i at ++ behind bs i (at + 1)
+  pub number_taken : (bs : List Block) (i at : ℕ) → i < length bs → v.items ≡ remove (block_at bs i) at → flat (slice_set bs i v) ≡ before bs i at ++ numbers_behind bs i (at + 1)
   number_taken [] i at lt e = absurd (omega (arith, lt))
   number_taken (b ∷ bs) zero at lt e =
       let next : suc at ≡ at + 1 = omega arith in
       ap (λ (u : List ℕ). u ++ flat bs) e ∙ append_assoc (take at b.items) (drop (suc at) b.items) (flat bs) ∙ ap (λ (k : ℕ). take at b.items ++ (drop k b.items ++ flat bs)) next
-  number_taken (b ∷ bs) (suc i) at lt e = ap (λ (u : List ℕ). b.items ++ u) (number_taken bs i at (omega (arith, lt)) e) ∙ sym (append_assoc b.items (before bs i at) (behind bs i (at + 1)))
+  number_taken (b ∷ bs) (suc i) at lt e = ap (λ (u : List ℕ). b.items ++ u) (number_taken bs i at (omega (arith, lt)) e) ∙ sym (append_assoc b.items (before bs i at) (numbers_behind bs i (at + 1)))
 
 pub less : (b v : Block) (at : ℕ) → IsBlock b → at < length b.items → 1 < length b.items → v.items ≡ remove b.items at → vec_capacity v ≡ vec_capacity b → IsBlock v
 less b v at h lt more e c =
@@ -159,7 +159,8 @@ one_fewer [] k lt = absurd (omega (arith, lt))
 one_fewer (b ∷ bs) zero lt = omega arith
 one_fewer (b ∷ bs) (suc k) lt = omega (arith, one_fewer bs k (omega (arith, lt)))
 
--- two blocks that are to become one: the first, which a write borrows from what is left, and the numbers of the next, which was taken out
+-- Two blocks that are joined: the first is borrowed to be written, and `more` are the numbers of the second, which was
+-- removed.
 pub record Joining (bs left : List Block) (i : ℕ) (b : Block) (more : List ℕ) : Type 0 where
   pub first : b.items ≡ block_at bs i
   pub second : more ≡ block_at bs (i + 1)

@@ -1,8 +1,8 @@
--- A list of numbers, and a test that holds of a prefix of it.
+-- A list of numbers, and a test that holds for a prefix of the list.
 use Rattle.std.specs.Prelude.{◌≡◌, ℕ, Bool, true, false, List, [], ◌∷◌, ◌++◌}
 use Rattle.std.specs.List.{AllByRecursion}
 
--- the numbers as contracts see them, and whether there is memory for one more
+-- the numbers as contracts see them, and whether memory for one number more is reserved
 pub record Numbers : Type 0 where
   pub items : List ℕ
   pub ready : Bool
@@ -10,12 +10,12 @@ pub record Numbers : Type 0 where
 abbrev pub AllAre : {X : Type 0} → (X → Bool) → Bool → List X → Type 0
 AllAre p answer xs = AllByRecursion (λ x. p x ≡ answer) xs
 
--- after an element that fails the test all others fail
+-- After an element that fails the test, all elements fail.
 abbrev pub IsParted : {X : Type 0} → (X → Bool) → List X → Type 0
 IsParted p [] = Unit {0}
 IsParted p (x ∷ xs) = (p x ≡ false → AllAre p false xs) × IsParted p xs
 
--- a number was put after those that pass, and before those that fail
+-- A number was inserted after the numbers that pass, and before the numbers that fail.
 pub record IsPut (p : ℕ → Bool) (number : ℕ) (old new : List ℕ) : Type 0 where
   pub front : List ℕ
   pub back : List ℕ
@@ -24,8 +24,8 @@ pub record IsPut (p : ℕ → Bool) (number : ℕ) (old new : List ℕ) : Type 0
   pub failing : AllAre p false back
   pub put : new ≡ front ++ (number ∷ back)
 
--- a number was taken out where it stood
-pub record IsTaken (number : ℕ) (old new : List ℕ) : Type 0 where
+-- A number was removed from the list.
+pub record RemovesNumber (number : ℕ) (old new : List ℕ) : Type 0 where
   pub front : List ℕ
   pub back : List ℕ
   pub whole : old ≡ front ++ (number ∷ back)

@@ -1,4 +1,4 @@
--- Numbers that lie in blocks: the list is the blocks one after another.
+-- Numbers in blocks: the list is all blocks, one after the other.
 use Rattle.std.specs.Prelude.{◌≡◌, ℕ, zero, suc, ◌+◌, ◌<◌, ◌≤◌, Bool, true, ◌&&◌, ◌||◌, nat_eq, nat_lt, nat_le, List, [], ◌∷◌, ◌++◌, length, take, drop}
 use Rattle.std.specs.Prelude.{vec_capacity}
 use Rattle.std.specs.List.{AllByRecursion, flat_map}
@@ -12,7 +12,7 @@ Block = Vec ℕ Global
 abbrev pub flat : List Block → List ℕ
 flat blocks = flat_map (λ b. b.items) blocks
 
--- a block is never empty, holds no more than it may, and has the memory for as many
+-- A block is not empty, has at most `BLOCK` numbers, and has memory for `BLOCK` numbers.
 abbrev pub IsBlock : Block → Type 0
 IsBlock b = (0 < length b.items) × (length b.items ≤ BLOCK) × (BLOCK ≤ vec_capacity b)
 
@@ -22,12 +22,12 @@ AreBlocks blocks = AllByRecursion IsBlock blocks
 abbrev pub AreFilled : List Block → Type 0
 AreFilled blocks = AllByRecursion (λ b. 0 < length b.items) blocks
 
-abbrev pub numbers : List Block → Bool → Numbers
-numbers blocks has_room = record { items = flat blocks; ready = has_room }
+abbrev pub numbers_of_blocks : List Block → Bool → Numbers
+numbers_of_blocks blocks has_block_room = record { items = flat blocks; ready = has_block_room }
 
--- room for one more block, and memory for its numbers
-abbrev pub has_room : Vec Block Global → Block → Bool
-has_room blocks spare = nat_lt (length blocks.items) (vec_capacity blocks) && nat_le BLOCK (vec_capacity spare)
+-- whether there is room for one block more, and memory for its numbers
+abbrev pub has_block_room : Vec Block Global → Block → Bool
+has_block_room blocks spare = nat_lt (length blocks.items) (vec_capacity blocks) && nat_le BLOCK (vec_capacity spare)
 
 -- the numbers of the block at an index
 abbrev pub block_at : List Block → ℕ → List ℕ
@@ -35,34 +35,34 @@ block_at [] i = []
 block_at (b ∷ blocks) zero = b.items
 block_at (b ∷ blocks) (suc i) = block_at blocks i
 
--- what stands before a place in a block, and from it on
+-- the numbers before index `at` of block `i`
 abbrev pub before : List Block → ℕ → ℕ → List ℕ
 before [] i at = []
 before (b ∷ blocks) zero at = take at b.items
 before (b ∷ blocks) (suc i) at = b.items ++ before blocks i at
 
-abbrev pub behind : List Block → ℕ → ℕ → List ℕ
-behind [] i at = []
-behind (b ∷ blocks) zero at = drop at b.items ++ flat blocks
-behind (b ∷ blocks) (suc i) at = behind blocks i at
+abbrev pub numbers_behind : List Block → ℕ → ℕ → List ℕ
+numbers_behind [] i at = []
+numbers_behind (b ∷ blocks) zero at = drop at b.items ++ flat blocks
+numbers_behind (b ∷ blocks) (suc i) at = numbers_behind blocks i at
 
--- the last number of a block passes the test
+-- whether the last number of a block passes the test
 abbrev pub last_passes : (ℕ → Bool) → List ℕ → Bool
 last_passes p [] = true
 last_passes p (x ∷ []) = p x
 last_passes p (x ∷ y ∷ xs) = last_passes p (y ∷ xs)
 
--- by blocks, and then by places in a block
-abbrev pub stands_before : ℕ → ℕ → ℕ → ℕ → Bool
-stands_before i at j to = nat_lt i j || (nat_eq i j && nat_le at to)
+-- whether a place is before another place, or equals it: the blocks are compared first, then the indexes in the block
+abbrev pub is_preceded : ℕ → ℕ → ℕ → ℕ → Bool
+is_preceded i at j to = nat_lt i j || (nat_eq i j && nat_le at to)
 
--- a full block was cut in two, and each place in it is a place in one of them
+-- A full block was cut in two: each place in the old block is a place in one of the new blocks.
 pub record IsHalved (old new : List Block) (i : ℕ) : Type 0 where
   pub blocks : AreBlocks new
   pub one_more : length new ≡ length old + 1
   pub first : length (block_at new i) ≡ HALF
   pub second : length (block_at new (i + 1)) ≡ HALF
   pub before_first : (at : ℕ) → at ≤ HALF → before new i at ≡ before old i at
-  pub behind_first : (at : ℕ) → at ≤ HALF → behind new i at ≡ behind old i at
+  pub behind_first : (at : ℕ) → at ≤ HALF → numbers_behind new i at ≡ numbers_behind old i at
   pub before_second : (at : ℕ) → before new (i + 1) at ≡ before old i (HALF + at)
-  pub behind_second : (at : ℕ) → behind new (i + 1) at ≡ behind old i (HALF + at)
+  pub behind_second : (at : ℕ) → numbers_behind new (i + 1) at ≡ numbers_behind old i (HALF + at)

@@ -1,19 +1,19 @@
-// The list.
+// A list of numbers in blocks: adding, removing and finding numbers.
 ghost use Rattle.std.specs.Prelude.{◌≡◌, true, false, not, ◌&&◌, [], IsOk, OnOk, filter, Contains};
-ghost use Rattle.number_blocks.specs.Blocks.{IsParted, IsPut, IsTaken};
+ghost use Rattle.number_blocks.specs.Blocks.{IsParted, IsPut, RemovesNumber};
 
-use crate::piece::{Piece, all_of, piece_between};
+use crate::piece::{BlockPiece, all_of, piece_between};
 use crate::put::{BLOCK, put_at, put_first, take_spare};
 use crate::search::{Test, find, find_block};
 use crate::take::{place_of, take_and_join};
 use std::alloc::{AllocError, Global};
 use std::marker::Model;
 
-/// A list of numbers. Contracts see it, and whether there is memory for one more.
+/// A list of numbers. Contracts see the list, and whether memory for one number more is reserved.
 #[derive(Drop)]
 pub struct Blocks {
     blocks: Vec<Vec<u32>>,
-    // An empty block, for the next one.
+    // An empty block, to be used if a block is full.
     spare: Vec<u32>,
 }
 
@@ -23,15 +23,15 @@ impl Model for Blocks {
 
     ghost Value = { Numbers };
 
-    ghost use Rattle.number_blocks.specs.Places.{AreBlocks, numbers, has_room};
+    ghost use Rattle.number_blocks.specs.Places.{AreBlocks, numbers_of_blocks, has_block_room};
 
-    ghost view = { λ b. numbers b.blocks.items (has_room b.blocks b.spare) };
+    ghost view = { λ b. numbers_of_blocks b.blocks.items (has_block_room b.blocks b.spare) };
 
     ghost invariant = { λ b. AreBlocks b.blocks.items × (b.spare.items ≡ []) };
 }
 
 impl Blocks {
-    /// No numbers. It takes no memory.
+    /// No numbers. Allocates: no.
     pub fn new(alloc: Global) -> Blocks
         ensures { result.items ≡ [] }
     {
@@ -41,10 +41,10 @@ impl Blocks {
         }
     }
 
-    /// Takes the memory for one more number: a block of 4 KB, where none is spare.
+    /// Reserves the memory for one number more: a block of 4 KB, unless an empty block is there already.
     ///
     /// # Errors
-    /// That memory ran out, where there was none for one more.
+    /// Memory ran out. This can't happen if memory for one number more was reserved already.
     pub fn reserve(&mut self) -> Result<(), AllocError>
         ensures items { self.new.items ≡ self.old.items }
         ensures ready { OnOk result (self.new.ready ≡ true) }
@@ -54,7 +54,7 @@ impl Blocks {
         self.spare.reserve_exact(BLOCK)
     }
 
-    /// Puts a number after those that pass the test, and before those that fail. It takes no memory.
+    /// Adds a number after the numbers that pass the test, and before those that fail. Allocates: no.
     pub fn put<T: Test>(&mut self, test: &T, number: u32)
         requires ready { self.old.ready ≡ true }
         requires parted { IsParted (T.passes test.now) self.old.items }
@@ -68,13 +68,13 @@ impl Blocks {
         put_at(&mut self.blocks, &mut self.spare, place, number);
     }
 
-    /// Takes out a number that fails the test. Where numbers that fail it stand before this one, it goes over them. It takes no
-    /// memory.
+    /// Removes a number that fails the test. The number is searched among the numbers that fail, from the first of
+    /// them. Allocates: no.
     pub fn take<T: Test>(&mut self, test: &T, number: u32)
         requires parted { IsParted (T.passes test.now) self.old.items }
         requires fails { T.passes test.now number ≡ false }
         requires there { Contains self.old.items number }
-        ensures { IsTaken number self.old.items self.new.items }
+        ensures { RemovesNumber number self.old.items self.new.items }
     {
         if self.blocks.is_empty() {
             unreachable!();
@@ -84,21 +84,21 @@ impl Blocks {
         take_and_join(&mut self.blocks, place);
     }
 
-    /// All numbers.
-    pub fn all(&self) -> Piece<'_>
+    /// All numbers of the list.
+    pub fn all(&self) -> BlockPiece<'_>
         ensures { result ≡ self.now.items }
     {
         all_of(&self.blocks)
     }
 
-    /// The numbers that fail the first test and pass the second, by a binary search for each. It takes no memory.
-    pub fn between<A: Test, B: Test>(&self, first: &A, second: &B) -> Piece<'_>
+    /// The numbers that fail the first test and pass the second, found by a binary search for each test. Allocates: no.
+    pub fn between<A: Test, B: Test>(&self, first: &A, second: &B) -> BlockPiece<'_>
         requires first { IsParted (A.passes first.now) self.now.items }
         requires second { IsParted (B.passes second.now) self.now.items }
         ensures { result ≡ filter (λ n. not (A.passes first.now n) && B.passes second.now n) self.now.items }
     {
         if self.blocks.is_empty() {
-            return Piece::none();
+            return BlockPiece::none();
         }
         piece_between(&self.blocks, first, second)
     }

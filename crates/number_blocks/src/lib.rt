@@ -3,7 +3,7 @@
 //!
 //! In contracts the list is a plain list. A [`Test`] that holds for a prefix of the list says where a number belongs,
 //! or which numbers are wanted. Two binary searches, over the blocks and in one block, find the end of this prefix. A
-//! [`Piece`] visits numbers that are neighbours, without taking memory. After a removal, two neighbouring blocks that
+//! [`BlockPiece`] visits numbers that are neighbours, without taking memory. After a removal, two neighbouring blocks that
 //! together fill at most half a block become one block. So the memory stays in proportion to the numbers.
 #![tactic(auto)]
 
@@ -14,5 +14,5 @@ mod search;
 mod take;
 
 pub use blocks::Blocks;
-pub use piece::Piece;
+pub use piece::BlockPiece;
 pub use search::Test;

@@ -1,22 +1,22 @@
-// Numbers that stand side by side.
+// Neighbouring numbers of a list in blocks.
 ghost use Rattle.std.specs.Prelude.{◌≡◌, ◌==◌, ◌≤◌, ◌<◌, ◌-◌, true, not, ◌&&◌, [], ◌++◌, length, take, drop, filter};
 ghost use Rattle.std.specs.Iterator.{YieldsFirst, item_count};
 ghost use Rattle.number_blocks.specs.Blocks.{IsParted};
-ghost use Rattle.number_blocks.specs.Places.{flat, AreFilled, block_at, before, behind, stands_before};
+ghost use Rattle.number_blocks.specs.Places.{flat, AreFilled, block_at, before, numbers_behind, is_preceded};
 
-use crate::search::{Place, Test, all_pass, back_of, block_of, find, none_pass};
+use crate::search::{BlockPlace, Test, all_pass, back_of, block_of, find, none_pass};
 use std::marker::Model;
 
-/// Numbers of a list that stand side by side, from the first on. Contracts see those that are left. A step takes no memory.
+/// Neighbouring numbers of a list, in order. Contracts see the numbers that are left. A step doesn't allocate.
 #[derive(Drop)]
-pub struct Piece<'a> {
-    // What is left of a block, whole blocks, and a prefix of one more.
+pub struct BlockPiece<'a> {
+    // The numbers that are left: first a part of a block, then whole blocks, then a prefix of the next block.
     here: &'a [u32],
     whole: &'a [Vec<u32>],
     last: &'a [u32],
 }
 
-impl<'a> Model for Piece<'a> {
+impl<'a> Model for BlockPiece<'a> {
     ghost use Rattle.std.specs.Prelude.{ℕ, List, ◌++◌};
     ghost use Rattle.number_blocks.specs.Places.{flat, AreFilled};
 
@@ -27,12 +27,12 @@ impl<'a> Model for Piece<'a> {
     ghost invariant = { λ p. AreFilled p.whole.now };
 }
 
-impl<'a> Piece<'a> {
+impl<'a> BlockPiece<'a> {
     /// No numbers.
-    pub fn none() -> Piece<'a>
+    pub fn none() -> BlockPiece<'a>
         ensures { result ≡ [] }
     {
-        Piece {
+        BlockPiece {
             here: &[],
             whole: &[],
             last: &[],
@@ -40,10 +40,10 @@ impl<'a> Piece<'a> {
     }
 
     /// The numbers of a slice.
-    pub fn of(numbers: &'a [u32]) -> Piece<'a>
+    pub fn of(numbers: &'a [u32]) -> BlockPiece<'a>
         ensures { result ≡ numbers.now }
     {
-        Piece {
+        BlockPiece {
             here: numbers,
             whole: &[],
             last: &[],
@@ -64,11 +64,11 @@ impl<'a> Piece<'a> {
         self.last.is_empty()
     }
 
-    /// The same numbers once more. It takes no memory.
-    pub fn again(&self) -> Piece<'a>
+    /// A copy of the piece, which visits the same numbers. Allocates: no.
+    pub fn again(&self) -> BlockPiece<'a>
         ensures { result ≡ self.now }
     {
-        Piece {
+        BlockPiece {
             here: self.here,
             whole: self.whole,
             last: self.last,
@@ -76,7 +76,7 @@ impl<'a> Piece<'a> {
     }
 }
 
-impl<'a> Iterator for Piece<'a> {
+impl<'a> Iterator for BlockPiece<'a> {
     type Item = u32;
 
     ghost next_gives = { YieldsFirst (λ rest. rest) };
@@ -102,12 +102,12 @@ impl<'a> Iterator for Piece<'a> {
     }
 }
 
-// All numbers of the blocks.
-pub(crate) fn all_of(blocks: &[Vec<u32>]) -> Piece<'_>
+// All numbers of the blocks, as one piece.
+pub(crate) fn all_of(blocks: &[Vec<u32>]) -> BlockPiece<'_>
     requires { AreFilled blocks.now }
     ensures { result ≡ flat blocks.now }
 {
-    Piece {
+    BlockPiece {
         here: &[],
         whole: blocks,
         last: &[],
@@ -137,53 +137,53 @@ fn blocks_from(blocks: &[Vec<u32>], from: usize, to: usize) -> &[Vec<u32>]
     &blocks[from..to]
 }
 
-// From a place in a block to a place in the same block.
-fn piece_within(blocks: &[Vec<u32>], block: usize, from: usize, to: usize) -> Piece<'_>
+// The numbers between two places in the same block.
+fn piece_within(blocks: &[Vec<u32>], block: usize, from: usize, to: usize) -> BlockPiece<'_>
     requires inside { block < length blocks.now }
     requires from { from ≤ to }
     requires to { to ≤ length (block_at blocks.now block) }
     ensures front { before blocks.now block to ≡ before blocks.now block from ++ result }
-    ensures back { behind blocks.now block from ≡ result ++ behind blocks.now block to }
+    ensures back { numbers_behind blocks.now block from ≡ result ++ numbers_behind blocks.now block to }
 {
-    Piece {
+    BlockPiece {
         here: part_of(block_of(blocks, block), from, to),
         whole: &[],
         last: &[],
     }
 }
 
-// From a place in a block to a place in a later one.
-fn piece_over(blocks: &[Vec<u32>], from: Place, to: Place) -> Piece<'_>
+// The numbers from a place in a block to a place in a later block.
+fn piece_over(blocks: &[Vec<u32>], from: BlockPlace, to: BlockPlace) -> BlockPiece<'_>
     requires filled { AreFilled blocks.now }
     requires later { from.block < to.block }
     requires inside { to.block < length blocks.now }
     requires from { from.at ≤ length (block_at blocks.now from.block) }
     requires to { to.at ≤ length (block_at blocks.now to.block) }
     ensures front { before blocks.now to.block to.at ≡ before blocks.now from.block from.at ++ result }
-    ensures back { behind blocks.now from.block from.at ≡ result ++ behind blocks.now to.block to.at }
+    ensures back { numbers_behind blocks.now from.block from.at ≡ result ++ numbers_behind blocks.now to.block to.at }
 {
-    Piece {
+    BlockPiece {
         here: back_of(block_of(blocks, from.block), from.at),
         whole: blocks_from(blocks, from.block + 1, to.block),
         last: front_of(block_of(blocks, to.block), to.at),
     }
 }
 
-fn is_before(from: Place, to: Place) -> bool
-    ensures { result ≡ stands_before from.block from.at to.block to.at }
+fn is_before(from: BlockPlace, to: BlockPlace) -> bool
+    ensures { result ≡ is_preceded from.block from.at to.block to.at }
 {
     from.block < to.block || (from.block == to.block && from.at <= to.at)
 }
 
-// From a place to one that isn't before it.
-fn piece_from(blocks: &[Vec<u32>], from: Place, to: Place) -> Piece<'_>
+// The numbers from a place to a place that isn't before it.
+fn piece_from(blocks: &[Vec<u32>], from: BlockPlace, to: BlockPlace) -> BlockPiece<'_>
     requires filled { AreFilled blocks.now }
-    requires order { stands_before from.block from.at to.block to.at ≡ true }
+    requires order { is_preceded from.block from.at to.block to.at ≡ true }
     requires inside { to.block < length blocks.now }
     requires from { from.at ≤ length (block_at blocks.now from.block) }
     requires to { to.at ≤ length (block_at blocks.now to.block) }
     ensures front { before blocks.now to.block to.at ≡ before blocks.now from.block from.at ++ result }
-    ensures back { behind blocks.now from.block from.at ≡ result ++ behind blocks.now to.block to.at }
+    ensures back { numbers_behind blocks.now from.block from.at ≡ result ++ numbers_behind blocks.now to.block to.at }
 {
     if from.block < to.block {
         return piece_over(blocks, from, to);
@@ -196,21 +196,21 @@ pub(crate) fn piece_between<'a, A: Test, B: Test>(
     blocks: &'a [Vec<u32>],
     first: &A,
     second: &B,
-) -> Piece<'a>
+) -> BlockPiece<'a>
     requires some { 0 < length blocks.now }
     requires filled { AreFilled blocks.now }
     requires first { IsParted (A.passes first.now) (flat blocks.now) }
     requires second { IsParted (B.passes second.now) (flat blocks.now) }
     ensures { result ≡ filter (λ n. not (A.passes first.now n) && B.passes second.now n) (flat blocks.now) }
 {
-    // Often none is asked for that is there, and an end of the list tells so.
+    // Often there are no such numbers, and the first or the last number of the list shows this.
     if all_pass(blocks, first) || none_pass(blocks, second) {
-        return Piece::none();
+        return BlockPiece::none();
     }
     let from = find(blocks, first);
     let to = find(blocks, second);
     if !is_before(from, to) {
-        return Piece::none();
+        return BlockPiece::none();
     }
     piece_from(blocks, from, to)
 }

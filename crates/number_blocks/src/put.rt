@@ -1,14 +1,14 @@
-// One more number in its block, which is cut in two where it is full.
+// Adding a number to its block. A full block is cut in two.
 ghost use Rattle.std.specs.Prelude.{◌≡◌, ◌≤◌, ◌<◌, true, [], ◌∷◌, ◌++◌, length, take, drop, insert};
 ghost use Rattle.std.specs.Prelude.{vec_len, vec_capacity};
 ghost use Rattle.std.specs.Bool.{OnTrue, OnFalse};
 ghost use Rattle.number_blocks.specs.declared.put.TheConstants.{BLOCK, HALF};
-ghost use Rattle.number_blocks.specs.Places.{flat, AreBlocks, block_at, before, behind, has_room, IsHalved};
+ghost use Rattle.number_blocks.specs.Places.{flat, AreBlocks, block_at, before, numbers_behind, has_block_room, IsHalved};
 
-use crate::search::{Place, back_of, block_of};
+use crate::search::{BlockPlace, back_of, block_of};
 use std::mem::replace;
 
-// How many numbers a block has at most.
+// The most numbers that a block can have.
 pub(crate) const BLOCK: usize = 1024;
 
 pub(crate) const HALF: usize = 512;
@@ -20,7 +20,7 @@ fn has_space(block: &[u32]) -> bool
     block.len() < BLOCK
 }
 
-// Puts a number into a block that isn't full.
+// Inserts a number in a block that isn't full.
 fn put_in_block(block: &mut Vec<u32>, at: usize, number: u32)
     requires at { at ≤ length block.old.items }
     requires room { length block.old.items < vec_capacity block.old }
@@ -32,7 +32,7 @@ fn put_in_block(block: &mut Vec<u32>, at: usize, number: u32)
     }
 }
 
-// Moves the back half of a full block to an empty one.
+// Moves the second half of a full block to an empty block.
 fn move_half(block: &mut Vec<u32>, half: &mut Vec<u32>)
     requires full { length block.old.items ≡ BLOCK }
     requires empty { half.old.items ≡ [] }
@@ -48,7 +48,7 @@ fn move_half(block: &mut Vec<u32>, half: &mut Vec<u32>)
     }
 }
 
-// Cuts a full block in two. The second half goes into the empty block.
+// Cuts a full block in two. The second half moves into the empty block `half`.
 fn cut_block(blocks: &mut Vec<Vec<u32>>, mut half: Vec<u32>, block: usize)
     requires inside { block < length blocks.old.items }
     requires blocks { AreBlocks blocks.old.items }
@@ -64,7 +64,7 @@ fn cut_block(blocks: &mut Vec<Vec<u32>>, mut half: Vec<u32>, block: usize)
     }
 }
 
-// Takes an empty block, and leaves one without memory.
+// Takes the spare block, and leaves an empty block without memory.
 pub(crate) fn take_spare(spare: &mut Vec<u32>) -> Vec<u32>
     ensures taken { result ≡ spare.old }
     ensures left { spare.new.items ≡ [] }
@@ -73,12 +73,13 @@ pub(crate) fn take_spare(spare: &mut Vec<u32>) -> Vec<u32>
     replace(spare, empty)
 }
 
-// The place where a number goes that was to go to a place, in a block that isn't full.
-fn make_space(blocks: &mut Vec<Vec<u32>>, spare: &mut Vec<u32>, place: Place) -> Place
+// Makes space at a place: if its block is full, the block is cut in two. Returns the place where the number belongs
+// then.
+fn make_space(blocks: &mut Vec<Vec<u32>>, spare: &mut Vec<u32>, place: BlockPlace) -> BlockPlace
     requires inside { place.block < length blocks.old.items }
     requires within { place.at ≤ length (block_at blocks.old.items place.block) }
     requires blocks { AreBlocks blocks.old.items }
-    requires room { has_room blocks.old spare.old ≡ true }
+    requires room { has_block_room blocks.old spare.old ≡ true }
     requires empty { spare.old.items ≡ [] }
     ensures inside { result.block < length blocks.new.items }
     ensures within { result.at ≤ length (block_at blocks.new.items result.block) }
@@ -86,7 +87,7 @@ fn make_space(blocks: &mut Vec<Vec<u32>>, spare: &mut Vec<u32>, place: Place) ->
     ensures blocks { AreBlocks blocks.new.items }
     ensures empty { spare.new.items ≡ [] }
     ensures front { before blocks.new.items result.block result.at ≡ before blocks.old.items place.block place.at }
-    ensures back { behind blocks.new.items result.block result.at ≡ behind blocks.old.items place.block place.at }
+    ensures back { numbers_behind blocks.new.items result.block result.at ≡ numbers_behind blocks.old.items place.block place.at }
 {
     if has_space(block_of(blocks, place.block)) {
         return place;
@@ -95,40 +96,45 @@ fn make_space(blocks: &mut Vec<Vec<u32>>, spare: &mut Vec<u32>, place: Place) ->
     if place.at <= HALF {
         return place;
     }
-    Place {
+    BlockPlace {
         block: place.block + 1,
         at: place.at - HALF,
     }
 }
 
-// Puts a number to a place in a block that isn't full.
-fn put_there(blocks: &mut Vec<Vec<u32>>, place: Place, number: u32)
+// Inserts a number at a place in a block that isn't full.
+fn put_there(blocks: &mut Vec<Vec<u32>>, place: BlockPlace, number: u32)
     requires inside { place.block < length blocks.old.items }
     requires within { place.at ≤ length (block_at blocks.old.items place.block) }
     requires space { length (block_at blocks.old.items place.block) < BLOCK }
     requires blocks { AreBlocks blocks.old.items }
     ensures blocks { AreBlocks blocks.new.items }
-    ensures put { flat blocks.new.items ≡ before blocks.old.items place.block place.at ++ (number ∷ behind blocks.old.items place.block place.at) }
+    ensures put { flat blocks.new.items ≡ before blocks.old.items place.block place.at ++ (number ∷ numbers_behind blocks.old.items place.block place.at) }
 {
     put_in_block(&mut blocks[place.block], place.at, number);
 }
 
-// Puts a number to a place. It takes no memory.
-pub(crate) fn put_at(blocks: &mut Vec<Vec<u32>>, spare: &mut Vec<u32>, place: Place, number: u32)
+// Inserts a number at a place. Allocates: no.
+pub(crate) fn put_at(
+    blocks: &mut Vec<Vec<u32>>,
+    spare: &mut Vec<u32>,
+    place: BlockPlace,
+    number: u32,
+)
     requires inside { place.block < length blocks.old.items }
     requires within { place.at ≤ length (block_at blocks.old.items place.block) }
     requires blocks { AreBlocks blocks.old.items }
-    requires room { has_room blocks.old spare.old ≡ true }
+    requires room { has_block_room blocks.old spare.old ≡ true }
     requires empty { spare.old.items ≡ [] }
     ensures blocks { AreBlocks blocks.new.items }
     ensures empty { spare.new.items ≡ [] }
-    ensures put { flat blocks.new.items ≡ before blocks.old.items place.block place.at ++ (number ∷ behind blocks.old.items place.block place.at) }
+    ensures put { flat blocks.new.items ≡ before blocks.old.items place.block place.at ++ (number ∷ numbers_behind blocks.old.items place.block place.at) }
 {
     let place = make_space(blocks, spare, place);
     put_there(blocks, place, number);
 }
 
-// Puts the first number of all into an empty block.
+// Adds the first number of the list, in an empty block.
 pub(crate) fn put_first(blocks: &mut Vec<Vec<u32>>, mut block: Vec<u32>, number: u32)
     requires none { blocks.old.items ≡ [] }
     requires room { length blocks.old.items < vec_capacity blocks.old }

@@ -1,9 +1,9 @@
-// Where a test ends, by binary searches.
+// Finding the end of a test by binary searches: all numbers before it pass.
 ghost use Rattle.std.specs.Bool.{OnTrue};
 ghost use Rattle.std.specs.Prelude.{◌≡◌, ℕ, ◌≤◌, ◌<◌, Bool, true, false, length, take, drop};
 ghost use Rattle.std.specs.List.Sorted.{IsPartitionPoint};
 ghost use Rattle.number_blocks.specs.Blocks.{AllAre, IsParted};
-ghost use Rattle.number_blocks.specs.Places.{flat, AreFilled, block_at, before, behind, last_passes};
+ghost use Rattle.number_blocks.specs.Places.{flat, AreFilled, block_at, before, numbers_behind, last_passes};
 
 /// A test of numbers.
 pub trait Test {
@@ -15,9 +15,9 @@ pub trait Test {
         ensures { result ≡ passes self.now number };
 }
 
-// A place in a block. Its block is there, and has at least so many numbers.
+// A place in a block: the block's index, and an index in the block, which can be the block's length.
 #[derive(Clone, Copy)]
-pub(crate) struct Place {
+pub(crate) struct BlockPlace {
     pub(crate) block: usize,
     pub(crate) at: usize,
 }
@@ -30,7 +30,7 @@ pub(crate) fn block_of(blocks: &[Vec<u32>], block: usize) -> &[u32]
     &blocks[block]
 }
 
-// What stands in a block from a place on.
+// The numbers of a block from an index on.
 pub(crate) fn back_of(block: &[u32], from: usize) -> &[u32]
     requires { from ≤ length block.now }
     ensures { result.now ≡ drop from block.now }
@@ -68,14 +68,14 @@ fn count_in<T: Test>(block: &[u32], test: &T) -> usize
     block.partition_point(|number| test.test(*number))
 }
 
-// The first block that ends with a number that fails, or the last one.
+// The first block that ends with a number that fails, or else the last block.
 pub(crate) fn find_block<T: Test>(blocks: &[Vec<u32>], test: &T) -> usize
     requires some { 0 < length blocks.now }
     requires filled { AreFilled blocks.now }
     requires parted { IsParted (T.passes test.now) (flat blocks.now) }
     ensures inside { result < length blocks.now }
     ensures passing { AllAre (T.passes test.now) true (before blocks.now result 0) }
-    ensures failing { AllAre (T.passes test.now) false (behind blocks.now result (length (block_at blocks.now result))) }
+    ensures failing { AllAre (T.passes test.now) false (numbers_behind blocks.now result (length (block_at blocks.now result))) }
 {
     let block = count_blocks(blocks, test);
     if block == blocks.len() {
@@ -85,7 +85,7 @@ pub(crate) fn find_block<T: Test>(blocks: &[Vec<u32>], test: &T) -> usize
     }
 }
 
-// Whether all numbers pass: the last one does.
+// Whether all numbers pass: this is so if the last number passes.
 pub(crate) fn all_pass<T: Test>(blocks: &[Vec<u32>], test: &T) -> bool
     requires some { 0 < length blocks.now }
     requires filled { AreFilled blocks.now }
@@ -95,7 +95,7 @@ pub(crate) fn all_pass<T: Test>(blocks: &[Vec<u32>], test: &T) -> bool
     last_passes(block_of(blocks, blocks.len() - 1), test)
 }
 
-// Whether no number passes: the first one fails.
+// Whether no number passes: this is so if the first number fails.
 pub(crate) fn none_pass<T: Test>(blocks: &[Vec<u32>], test: &T) -> bool
     requires some { 0 < length blocks.now }
     requires parted { IsParted (T.passes test.now) (flat blocks.now) }
@@ -107,17 +107,17 @@ pub(crate) fn none_pass<T: Test>(blocks: &[Vec<u32>], test: &T) -> bool
     }
 }
 
-// Where the test ends.
-pub(crate) fn find<T: Test>(blocks: &[Vec<u32>], test: &T) -> Place
+// The place of the first number that fails, or else the end of the list.
+pub(crate) fn find<T: Test>(blocks: &[Vec<u32>], test: &T) -> BlockPlace
     requires some { 0 < length blocks.now }
     requires filled { AreFilled blocks.now }
     requires parted { IsParted (T.passes test.now) (flat blocks.now) }
     ensures inside { result.block < length blocks.now }
     ensures within { result.at ≤ length (block_at blocks.now result.block) }
     ensures passing { AllAre (T.passes test.now) true (before blocks.now result.block result.at) }
-    ensures failing { AllAre (T.passes test.now) false (behind blocks.now result.block result.at) }
+    ensures failing { AllAre (T.passes test.now) false (numbers_behind blocks.now result.block result.at) }
 {
     let block = find_block(blocks, test);
     let at = count_in(block_of(blocks, block), test);
-    Place { block, at }
+    BlockPlace { block, at }
 }

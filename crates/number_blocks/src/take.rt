@@ -1,32 +1,32 @@
-// One number less in its block.
+// Removing a number from its block.
 ghost use Rattle.std.specs.Prelude.{◌≡◌, ◌≤◌, ◌<◌, ◌+◌, true, nat_eq, [], ◌∷◌, ◌++◌, length};
 ghost use Rattle.std.specs.Prelude.{vec_capacity};
 ghost use Rattle.std.specs.Bool.{OnTrue};
 ghost use Rattle.std.specs.List.{list_any, remove, position};
 ghost use Rattle.number_blocks.specs.declared.put.TheConstants.{HALF};
-ghost use Rattle.number_blocks.specs.Places.{flat, AreBlocks, block_at, before, behind};
+ghost use Rattle.number_blocks.specs.Places.{flat, AreBlocks, block_at, before, numbers_behind};
 
 use crate::put::HALF;
-use crate::search::{Place, block_of};
+use crate::search::{BlockPlace, block_of};
 
-// The place of a number in a block.
+// The index of a number in a block, if it is there.
 fn place_in(block: &[u32], number: u32) -> Option<usize>
     ensures { result ≡ position (λ x. nat_eq x number) block.now }
 {
     block.iter().position(|other| *other == number)
 }
 
-// The first place of a number in a block from an index on.
-pub(crate) fn place_of(blocks: &[Vec<u32>], from: usize, number: u32) -> Place
-    requires { list_any (λ x. nat_eq x number) (behind blocks.now from 0) ≡ true }
+// The first place of a number, searched from the block `from` on.
+pub(crate) fn place_of(blocks: &[Vec<u32>], from: usize, number: u32) -> BlockPlace
+    requires { list_any (λ x. nat_eq x number) (numbers_behind blocks.now from 0) ≡ true }
     ensures inside { result.block < length blocks.now }
     ensures within { result.at < length (block_at blocks.now result.block) }
-    ensures is { behind blocks.now result.block result.at ≡ number ∷ behind blocks.now result.block (result.at + 1) }
+    ensures is { numbers_behind blocks.now result.block result.at ≡ number ∷ numbers_behind blocks.now result.block (result.at + 1) }
 {
     let mut block = from;
     while block < blocks.len() {
         if let Some(at) = place_in(block_of(blocks, block), number) {
-            return Place { block, at };
+            return BlockPlace { block, at };
         }
         block += 1;
     }
@@ -48,13 +48,13 @@ fn take_block(blocks: &mut Vec<Vec<u32>>, block: usize)
     let _ = blocks.remove(block);
 }
 
-// Takes out the number at a place, and its block where it was the only one. It takes no memory.
-fn take_at(blocks: &mut Vec<Vec<u32>>, place: Place)
+// Removes the number at a place. If it was the only number of its block, the block is removed, too. Allocates: no.
+fn take_at(blocks: &mut Vec<Vec<u32>>, place: BlockPlace)
     requires inside { place.block < length blocks.old.items }
     requires within { place.at < length (block_at blocks.old.items place.block) }
     requires blocks { AreBlocks blocks.old.items }
     ensures blocks { AreBlocks blocks.new.items }
-    ensures taken { flat blocks.new.items ≡ before blocks.old.items place.block place.at ++ behind blocks.old.items place.block (place.at + 1) }
+    ensures taken { flat blocks.new.items ≡ before blocks.old.items place.block place.at ++ numbers_behind blocks.old.items place.block (place.at + 1) }
 {
     if block_of(blocks, place.block).len() == 1 {
         take_block(blocks, place.block);
@@ -63,7 +63,7 @@ fn take_at(blocks: &mut Vec<Vec<u32>>, place: Place)
     take_in_block(&mut blocks[place.block], place.at);
 }
 
-// Whether a block and the next one would fill no more than half a block.
+// Whether a block and the next block together would fill at most half a block.
 fn are_small(blocks: &[Vec<u32>], first: usize) -> bool
     ensures inside { OnTrue result (first + 1 < length blocks.now) }
     ensures few { OnTrue result (length (block_at blocks.now first) + length (block_at blocks.now (first + 1)) ≤ HALF) }
@@ -84,7 +84,7 @@ fn append(block: &mut Vec<u32>, more: &[u32])
     }
 }
 
-// Puts the numbers of the next block after those of a block.
+// Moves the numbers of the next block to the end of a block, and removes the next block.
 fn join_next(blocks: &mut Vec<Vec<u32>>, first: usize)
     requires inside { first + 1 < length blocks.old.items }
     requires few { length (block_at blocks.old.items first) + length (block_at blocks.old.items (first + 1)) ≤ HALF }
@@ -96,7 +96,7 @@ fn join_next(blocks: &mut Vec<Vec<u32>>, first: usize)
     append(&mut blocks[first], &next);
 }
 
-// Joins a block with one beside it where the two would fill no more than half a block, so that few numbers take few blocks.
+// Joins a block with a neighbour if both together fill at most half a block. So few numbers take few blocks.
 fn join(blocks: &mut Vec<Vec<u32>>, block: usize)
     requires blocks { AreBlocks blocks.old.items }
     ensures blocks { AreBlocks blocks.new.items }
@@ -111,13 +111,14 @@ fn join(blocks: &mut Vec<Vec<u32>>, block: usize)
     }
 }
 
-// Takes out the number at a place, and joins its block with one beside it where both are small. It takes no memory.
-pub(crate) fn take_and_join(blocks: &mut Vec<Vec<u32>>, place: Place)
+// Removes the number at a place. Joins its block with a neighbour if both together fill at most half a block.
+// Allocates: no.
+pub(crate) fn take_and_join(blocks: &mut Vec<Vec<u32>>, place: BlockPlace)
     requires inside { place.block < length blocks.old.items }
     requires within { place.at < length (block_at blocks.old.items place.block) }
     requires blocks { AreBlocks blocks.old.items }
     ensures blocks { AreBlocks blocks.new.items }
-    ensures taken { flat blocks.new.items ≡ before blocks.old.items place.block place.at ++ behind blocks.old.items place.block (place.at + 1) }
+    ensures taken { flat blocks.new.items ≡ before blocks.old.items place.block place.at ++ numbers_behind blocks.old.items place.block (place.at + 1) }
 {
     take_at(blocks, place);
     join(blocks, place.block);

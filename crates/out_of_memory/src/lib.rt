@@ -1,4 +1,4 @@
-//! One type for the error that memory ran out. Each crate that takes memory hands it on.
+//! One type for the error that memory ran out. Each crate that allocates returns it.
 #![tactic(auto)]
 
 use std::alloc::{AllocError, AllocFailed};

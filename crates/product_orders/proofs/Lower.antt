@@ -1,4 +1,4 @@
--- Texts in lower case: near is what a search by bytes finds.
+-- Lemmas: for texts in lower case, a search by bytes finds the near products.
 use Rattle.std.proofs.Common.{◌≡◌, ℕ, zero, suc, ◌-◌, ◌≤◌, Bool, true, false, not, ◌&&◌, ◌||◌, cond, eqb, leb, List, [], ◌∷◌, length, drop, refl, sym, ap, ◌∙◌, arith, eqb-true, eq-eqb, length-drop}
 use Rattle.std.specs.Cmp.{both_ways as agree}
 use Rattle.std.specs.Prelude.{nat_eq}
@@ -22,7 +22,7 @@ use Rattle.product_orders.specs.declared.keys.End.{End}
 use Rattle.product_orders.specs.declared.keys.End.TheVariants as end
 use Rattle.product_orders.specs.declared.keys.Shape.{Shape}
 use Rattle.product_orders.specs.declared.keys.Shape.TheVariants as shape
-use Rattle.product_orders.specs.Keys.{shape_by, shape_of, rank, body_of, has_by, in_run}
+use Rattle.product_orders.specs.Keys.{shape_by, shape_of, shape_rank, body_of, has_by, in_run}
 use Rattle.product_orders.proofs.Orders.{same_text}
 
 eqb_back : (a b : ℕ) → eqb a b ≡ eqb b a
@@ -47,11 +47,11 @@ begins_is (d ∷ t) (c ∷ b) h k =
     ap (λ (x : ℕ). eqb x (to_ascii_lowercase c) && begins_with t b) first ∙ ap (λ (x : ℕ). eqb d x && begins_with t b) head
     ∙ ap (λ (x : Bool). x && begins_with t b) (eqb_back d c) ∙ ap (λ (x : Bool). eqb c d && x) (begins_is t b rest tail)
 
--- no text has a longer one at its end
+-- No text ends with a longer text.
 longer : (t b : List ℕ) → leb (length b) (length t) ≡ false → b ≡ drop (length t - length b) t → ⊥
 longer t b f is = both_ways (leb (length b) (length t)) f (le-leb (length b) (length t) (omega (arith, ap length is, length-drop (length t - length b) t)))
 
-pub ends_is_at : (t b : List ℕ) → lower t ≡ t → lower b ≡ b → nearness.ends_with t b ≡ ends_with nat_eq t b
+pub ends_is_at : (t b : List ℕ) → lower t ≡ t → lower b ≡ b → nearness.text_ends_with t b ≡ ends_with nat_eq t b
 ends_is_at t b h k = by (leb (length b) (length t)) refl
   where
     by : (x : Bool) → leb (length b) (length t) ≡ x → (leb (length b) (length t) && begins_with (drop (length t - length b) t) b) ≡ pointwise nat_eq b (drop (length t - length b) t)
@@ -64,20 +64,20 @@ ends_is_at t b h k = by (leb (length b) (length t)) refl
         ap (λ (x : Bool). x && begins_with (drop (length t - length b) t) b) e
         ∙ sym (false_from_ne_true (pointwise nat_eq b (drop (length t - length b) t)) (λ same. longer t b e (same_text b (drop (length t - length b) t) same)))
 
--- ---- a product against a run
+-- ---- whether a product is in a run
 
 pub lower_body : (v : Value) → lower_value v ≡ v → lower (body_of v) ≡ body_of v
 lower_body value.Any h = refl
 lower_body value.Na h = refl
 lower_body (value.Text t) h = ap body_of h
 
-no_special : (x y : Bool) → nat_eq 2 (rank (shape_by x y)) ≡ not (not x || not y)
+no_special : (x y : Bool) → nat_eq 2 (shape_rank (shape_by x y)) ≡ not (not x || not y)
 no_special true true = refl
 no_special true false = refl
 no_special false true = refl
 no_special false false = refl
 
-not_na : (x y : Bool) → nat_eq 1 (rank (shape_by x y)) ≡ false
+not_na : (x y : Bool) → nat_eq 1 (shape_rank (shape_by x y)) ≡ false
 not_na true true = refl
 not_na true false = refl
 not_na false true = refl
@@ -88,20 +88,20 @@ na_is value.Any = refl
 na_is value.Na = refl
 na_is (value.Text t) = sym (ap (λ (b : Bool). b && has_by false end.Front [] t.body) (not_na (is_nothing t.lead) (is_nothing t.trail)))
 
--- what a text must find in a plain one
+-- whether a text with the body `b` is near the plain text `t`; `x`: the text has no lead, `y`: the text has no trail
 abbrev pub near_by : Bool → Bool → List ℕ → List ℕ → Bool
 near_by x y b t = cond x (cond y (pointwise nat_eq b t) (starts_with nat_eq t b)) (cond y (ends_with nat_eq t b) true)
 
 pub near_plain_is : (p : Parts) (t : List ℕ) → lower p.body ≡ p.body → lower t ≡ t → near_plain p t ≡ near_by (is_nothing p.lead) (is_nothing p.trail) p.body t
 near_plain_is p t h k = by (is_nothing p.lead) (is_nothing p.trail)
   where
-    by : (x y : Bool) → cond x (cond y (same_lower p.body t) (begins_with t p.body)) (cond y (nearness.ends_with t p.body) true) ≡ near_by x y p.body t
+    by : (x y : Bool) → cond x (cond y (same_lower p.body t) (begins_with t p.body)) (cond y (nearness.text_ends_with t p.body) true) ≡ near_by x y p.body t
     by true true = same_is p.body t h k
     by true false = begins_is t p.body k h
     by false true = ends_is_at t p.body k h
     by false false = refl
 
--- a text that is asked for, against a product
+-- A text as source is near the products of a run.
 near_to : (p : Parts) (whole : Bool) (e : End) (body : List ℕ) → ((t : List ℕ) → lower t ≡ t → near_plain p t ≡ has_by whole e body t) → (v : Value) → lower_value v ≡ v → near (value.Text p) v ≡ in_run e shape.Plain body whole v
 near_to p whole e body says value.Any h = refl
 near_to p whole e body says value.Na h = refl
@@ -109,7 +109,7 @@ near_to p whole e body says (value.Text t) h =
     ap (λ (b : Bool). not (has_special t) && b) (says t.body (lower_body (value.Text t) h))
     ∙ ap (λ (b : Bool). b && has_by whole e body t.body) (sym (no_special (is_nothing t.lead) (is_nothing t.trail)))
 
--- whether nothing stands before the body of such a text, and nothing after it
+-- whether a text of this shape has no lead, and whether it has no trail
 abbrev edges_of : Shape → Bool × Bool
 edges_of shape.Any = (true, true)
 edges_of shape.Na = (true, true)
@@ -124,7 +124,7 @@ edges_back true false = refl
 edges_back false true = refl
 edges_back false false = refl
 
--- a plain text against a product: they are the same
+-- A plain text is near a plain product exactly if they are equal.
 nothing_same : (a e : Edge) → is_nothing a ≡ true → same_edge a e ≡ is_nothing e
 nothing_same edge.None edge.None h = refl
 nothing_same edge.None edge.Star h = refl
@@ -133,8 +133,8 @@ nothing_same edge.Star e h = absurd cc
 nothing_same (edge.Marks m) e h = absurd cc
 
 pub same_plain : (v w : Value) → shape_of v ≡ shape.Plain → in_run end.Front shape.Plain (body_of v) true w ≡ same_value v w
-same_plain value.Any w h = absurd (omega (arith, ap rank h))
-same_plain value.Na w h = absurd (omega (arith, ap rank h))
+same_plain value.Any w h = absurd (omega (arith, ap shape_rank h))
+same_plain value.Na w h = absurd (omega (arith, ap shape_rank h))
 same_plain (value.Text p) value.Any h = refl
 same_plain (value.Text p) value.Na h = refl
 same_plain (value.Text p) (value.Text t) h =
@@ -143,7 +143,7 @@ same_plain (value.Text p) (value.Text t) h =
     ∙ ap (λ (b : Bool). b && pointwise nat_eq p.body t.body && is_nothing t.trail) (sym (nothing_same p.lead t.lead (ap (λ (z : Bool × Bool). z.0) e)))
     ∙ ap (λ (b : Bool). same_edge p.lead t.lead && pointwise nat_eq p.body t.body && b) (sym (nothing_same p.trail t.trail (ap (λ (z : Bool × Bool). z.1) e)))
   where
-    by : (x y b : Bool) → (nat_eq 2 (rank (shape_by x y)) && b) ≡ (x && b && y)
+    by : (x y b : Bool) → (nat_eq 2 (shape_rank (shape_by x y)) && b) ≡ (x && b && y)
     by true true true = refl
     by true true false = refl
     by true false true = refl
@@ -168,7 +168,7 @@ module _ (p : Parts) (low : lower_value (value.Text p) ≡ value.Text p) where
   pub lead_is : shape_of (value.Text p) ≡ shape.WithLead → (v : Value) → lower_value v ≡ v → near (value.Text p) v ≡ in_run end.Back shape.Plain p.body false v
   lead_is r = let e = edges_are shape.WithLead r in near_to p false end.Back p.body (as_is false true (ap (λ (z : Bool × Bool). z.0) e) (ap (λ (z : Bool × Bool). z.1) e))
 
-  -- with both edges it is near each plain text
+  -- A text with lead and trail is near each plain text.
   pub both_is : (shape_of (value.Text p) ≡ shape.Plain → ⊥) → (shape_of (value.Text p) ≡ shape.WithTrail → ⊥) → (shape_of (value.Text p) ≡ shape.WithLead → ⊥) → (v : Value) → lower_value v ≡ v → near (value.Text p) v ≡ in_run end.Front shape.Plain [] false v
   both_is not_plain not_trail not_lead = by (is_nothing p.lead) (is_nothing p.trail) refl refl not_plain not_trail not_lead
     where

@@ -1,4 +1,4 @@
--- Numbers in the order of their products: what stands before a run, and in it.
+-- Lemmas: numbers in the order of their products, and which are before a run or in it.
 use Rattle.std.proofs.Common.{◌≡◌, ◌⊎◌, ℕ, Bool, true, false, not, ◌||◌, ◌&&◌, cond, List, [], ◌∷◌, ◌++◌, reverse, refl, sym, ap, subst, ◌∙◌, inl, inr, is_lt, Ordering, Less, Equal, Greater, true≢false}
 use Rattle.std.specs.Cmp.{both_ways as agree}
 use Rattle.std.specs.Prelude.{nat_eq}
@@ -17,8 +17,8 @@ use Rattle.cpe_relation.specs.cpe_values.declared.value.Value.{Value}
 use Rattle.product_orders.specs.declared.keys.End.{End}
 use Rattle.product_orders.specs.declared.keys.End.TheVariants as end
 use Rattle.product_orders.specs.declared.keys.Shape.{Shape}
-use Rattle.product_orders.specs.Keys.{shape_of, rank, body_of, turned, text_order, key, in_run, is_below, NotAbove, Rises}
-use Rattle.product_orders.specs.Listed.{value_at, Listed}
+use Rattle.product_orders.specs.Keys.{shape_of, shape_rank, body_of, turned_body, text_order, product_key, in_run, is_below, NotAbove, Rises}
+use Rattle.product_orders.specs.Listed.{product_value_at, ProductList}
 use Rattle.product_orders.proofs.Texts.{text_itself, below_or_starts, not_below, touches_key, nat_Decides}
 use Rattle.product_orders.proofs.Runs.{parted, put_ordered}
 
@@ -39,7 +39,7 @@ or_last : (a b : Bool) → b ≡ true → (a || b) ≡ true
 or_last true b h = refl
 or_last false b h = h
 
--- ---- keys
+-- ---- keys: the rank of the shape, and then the body
 
 abbrev meets : Bool → List ℕ → List ℕ → Bool
 meets whole k x = cond whole (pointwise nat_eq k x) (starts_with nat_eq x k)
@@ -50,18 +50,18 @@ same_text a b h = (slice_eq-Decides nat_Decides a b (pointwise nat_eq a b) refl)
 pub text_same : (a b : List ℕ) → a ≡ b → pointwise nat_eq a b ≡ true
 text_same a b e = (slice_eq-Decides nat_Decides a b (pointwise nat_eq a b) refl).1 e
 
-pointwise_turned : (e : End) (a b : List ℕ) → pointwise nat_eq a b ≡ pointwise nat_eq (turned e a) (turned e b)
+pointwise_turned : (e : End) (a b : List ℕ) → pointwise nat_eq a b ≡ pointwise nat_eq (turned_body e a) (turned_body e b)
 pointwise_turned end.Front a b = refl
 pointwise_turned end.Back a b = agree (pointwise nat_eq a b) (pointwise nat_eq (reverse a) (reverse b))
     (λ h. text_same (reverse a) (reverse b) (ap reverse (same_text a b h)))
     (λ h. text_same a b (sym (reverse-reverse a) ∙ ap reverse (same_text (reverse a) (reverse b) h) ∙ reverse-reverse b))
 
--- to be in a run is to have its key, or to begin with it
-pub in_key : (e : End) (s : Shape) (body : List ℕ) (whole : Bool) (v : Value) → in_run e s body whole v ≡ meets whole (rank s ∷ turned e body) (key e v)
-in_key e s body true v = ap (λ (b : Bool). nat_eq (rank s) (rank (shape_of v)) && b) (pointwise_turned e body (body_of v))
-in_key e s body false v = ap (λ (b : Bool). nat_eq (rank s) (rank (shape_of v)) && b) (touches_key e body (body_of v))
+-- A product is in a run if its key equals the run's key, or begins with it.
+pub in_key : (e : End) (s : Shape) (body : List ℕ) (whole : Bool) (v : Value) → in_run e s body whole v ≡ meets whole (shape_rank s ∷ turned_body e body) (product_key e v)
+in_key e s body true v = ap (λ (b : Bool). nat_eq (shape_rank s) (shape_rank (shape_of v)) && b) (pointwise_turned e body (body_of v))
+in_key e s body false v = ap (λ (b : Bool). nat_eq (shape_rank s) (shape_rank (shape_of v)) && b) (touches_key e body (body_of v))
 
--- a text that isn't above another is less, or the same
+-- A text that isn't greater than another is less, or equal.
 not_above : (x y : List ℕ) → is_lt (text_order y x) ≡ false → (text_order x y ≡ Less) ⊎ (x ≡ y)
 not_above x y h = by (text_order x y) refl where
   by : (r : Ordering) → text_order x y ≡ r → (text_order x y ≡ Less) ⊎ (x ≡ y)
@@ -94,29 +94,29 @@ meets_not_below false k x h = not_below k x h
 
 -- ---- numbers
 
-module _ (values : Listed) (e : End) (r : Shape) (body : List ℕ) (whole : Bool) where
+module _ (values : ProductList) (e : End) (r : Shape) (body : List ℕ) (whole : Bool) where
   abbrev pub before : ℕ → Bool
-  before n = is_below e r body (value_at values n)
+  before n = is_below e r body (product_value_at values n)
 
   abbrev pub has : ℕ → Bool
-  has n = in_run e r body whole (value_at values n)
+  has n = in_run e r body whole (product_value_at values n)
 
   abbrev pub within : ℕ → Bool
   within n = before n || has n
 
-  within_is : (n : ℕ) → within n ≡ (before n || meets whole (rank r ∷ turned e body) (key e (value_at values n)))
-  within_is n = ap (λ (b : Bool). before n || b) (in_key e r body whole (value_at values n))
+  within_is : (n : ℕ) → within n ≡ (before n || meets whole (shape_rank r ∷ turned_body e body) (product_key e (product_value_at values n)))
+  within_is n = ap (λ (b : Bool). before n || b) (in_key e r body whole (product_value_at values n))
 
   pub before_parted : (order : List ℕ) → Rises e values order → IsParted before order
-  before_parted order s = parted (NotAbove e values) before (λ x y le h. below_down (rank r ∷ turned e body) (key e (value_at values x)) (key e (value_at values y)) le h) order s
+  before_parted order s = parted (NotAbove e values) before (λ x y le h. below_down (shape_rank r ∷ turned_body e body) (product_key e (product_value_at values x)) (product_key e (product_value_at values y)) le h) order s
 
   pub within_parted : (order : List ℕ) → Rises e values order → IsParted within order
-  within_parted order s = parted (NotAbove e values) within (λ x y le h. within_is x ∙ within_down whole (rank r ∷ turned e body) (key e (value_at values x)) (key e (value_at values y)) le (sym (within_is y) ∙ h)) order s
+  within_parted order s = parted (NotAbove e values) within (λ x y le h. within_is x ∙ within_down whole (shape_rank r ∷ turned_body e body) (product_key e (product_value_at values x)) (product_key e (product_value_at values y)) le (sym (within_is y) ∙ h)) order s
 
   has_not_before : (n : ℕ) → has n ≡ true → before n ≡ false
-  has_not_before n h = meets_not_below whole (rank r ∷ turned e body) (key e (value_at values n)) (sym (in_key e r body whole (value_at values n)) ∙ h)
+  has_not_before n h = meets_not_below whole (shape_rank r ∷ turned_body e body) (product_key e (product_value_at values n)) (sym (in_key e r body whole (product_value_at values n)) ∙ h)
 
-  -- to be in a run is to stand before it or in it, and not before it
+  -- A number is in a run exactly if it is not before the run, but before it or in it.
   has_is : (n : ℕ) → has n ≡ (not (before n) && within n)
   has_is n = by (has n) (before n) (has_not_before n)
     where
@@ -131,19 +131,19 @@ module _ (values : Listed) (e : End) (r : Shape) (body : List ℕ) (whole : Bool
       ap (λ (b : Bool). cond b (n ∷ filter (λ m. not (before m) && within m) order) (filter (λ m. not (before m) && within m) order)) (sym (has_is n))
       ∙ ap (λ (u : List ℕ). cond (has n) (n ∷ u) u) (run_is order)
 
--- ---- to put
+-- ---- adding a number
 
 less_not_above : (x y : List ℕ) → is_lt (text_order x y) ≡ true → is_lt (text_order y x) ≡ false
 less_not_above x y h = ap is_lt (nat_list_cmp_total.antisymm y x ∙ ap ordering_reverse (lt_is _ h))
 
-module _ (e : End) (values : Listed) (n : ℕ) where
-  -- which products stand before that of the number
+module _ (e : End) (values : ProductList) (n : ℕ) where
+  -- whether a product is before the product of the number
   abbrev pub earlier : ℕ → Bool
-  earlier m = is_below e (shape_of (value_at values n)) (body_of (value_at values n)) (value_at values m)
+  earlier m = is_below e (shape_of (product_value_at values n)) (body_of (product_value_at values n)) (product_value_at values m)
 
   not_above_all : (xs : List ℕ) → AllAre earlier true xs → AllByRecursion (λ m. NotAbove e values m n) xs
   not_above_all [] h = tt
-  not_above_all (m ∷ xs) h = (less_not_above (key e (value_at values m)) (key e (value_at values n)) h.0, not_above_all xs h.1)
+  not_above_all (m ∷ xs) h = (less_not_above (product_key e (product_value_at values m)) (product_key e (product_value_at values n)) h.0, not_above_all xs h.1)
 
   pub put_rises : (old new : List ℕ) → Rises e values old → IsPut earlier n old new → Rises e values new
   put_rises old new s put =

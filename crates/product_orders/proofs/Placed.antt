@@ -1,4 +1,4 @@
--- Products by place, and their numbers.
+-- Lemmas: products by place, and their numbers.
 use Rattle.std.proofs.Common.{◌≡◌, ◌≢◌, ℕ, zero, suc, ◌+◌, ◌-◌, ◌<◌, ◌≤◌, Bool, true, false, ◌||◌, cond, List, [], ◌∷◌, ◌++◌, length, get_or, set, take, Option, Some, None, refl, sym, ap, subst, ◌∙◌, inl, inr, arith, length-set}
 use Rattle.std.specs.Prelude.{IsSome}
 use Rattle.std.specs.List.{AllByRecursion, IsDistinct, list_any, slice_get, swap_remove, position}
@@ -10,11 +10,11 @@ use Rattle.cpe_relation.specs.cpe_values.declared.value.Value.{Value}
 use Rattle.cpe_relation.specs.cpe_values.declared.value.Value.TheVariants as value
 use Rattle.cpe_relation.specs.cpe_values.Same.{same_value}
 use Rattle.cpe_relation.specs.cpe_values.Equal.{same_value-Decides}
-use Rattle.product_orders.specs.Listed.{product_at, Adds, Removes}
-use Rattle.product_orders.specs.Placed.{number_at, by_number, Undoes, ArePlaced, Grows, freed_numbers, freed_places}
+use Rattle.product_orders.specs.Listed.{product_at, AddsProduct, Removes}
+use Rattle.product_orders.specs.Placed.{number_at, by_number, Undoes, ArePlacedProducts, Grows, freed_products, freed_places}
 use Rattle.product_orders.proofs.Live.{none_past, known}
 
--- ---- what a number has
+-- ---- the product of a number
 
 pub at_number : (values : List Value) (places : List ℕ) (n : ℕ) → n < length places → product_at (by_number values places) n ≡ slice_get values (number_at places n)
 at_number values [] n lt = absurd (omega (arith, lt))
@@ -50,7 +50,7 @@ place_any (w ∷ values) v (suc place) h = by (same_value v w) (place_any values
     by true e = refl
     by false e = e
 
--- different products have one place each
+-- Different products have different places.
 apart : (values : List Value) (n : ℕ) (v : Value) → AllByRecursion (λ y. same_value v y ≡ false) values → slice_get values n ≡ Some v → ⊥
 apart [] n v d h = absurd cc
 apart (w ∷ values) zero v d h = both_ways (same_value v w) d.0 ((same_value-Decides v w).1 (sym (same_Some w v h)))
@@ -64,8 +64,8 @@ one_place (w ∷ values) zero (suc n) v d h k = absurd (apart values n v (subst 
 one_place (w ∷ values) (suc m) zero v d h k = absurd (apart values m v (subst (λ (x : Value). AllByRecursion (λ y. same_value x y ≡ false) values) (same_Some w v k) d.0) h)
 one_place (w ∷ values) (suc m) (suc n) v d h k = ap suc (one_place values m n v d.1 h k)
 
--- a product that no number has is at no place, and a product at a place has a number
-module _ (values : List Value) (numbers places : List ℕ) (a : ArePlaced values numbers places) where
+-- A product that no number has is at no place; a product at a place has a number.
+module _ (values : List Value) (numbers places : List ℕ) (a : ArePlacedProducts values numbers places) where
   pub found_number : (place : ℕ) (v : Value) → slice_get values place ≡ Some v → product_at (by_number values places) (number_at numbers place) ≡ Some v
   found_number place v h =
       let lt : place < length places = omega (arith, slice_get_within values place v h, a.within) in
@@ -100,7 +100,7 @@ longer_undoes len xs ys lx ly u i lt = elim (cases_lt i len) [
       (omega (arith, x), ap (number_at (ys ++ len ∷ [])) x ∙ get_or_push ys len 0 len ly ∙ sym is)
 ]
 
--- a list in which two places are written, one after the other
+-- A list after two places were written, one after the other.
 module _ (zs : List ℕ) (a b c d : ℕ) where
   at_last : c < length zs → number_at (set (set zs a b) c d) c ≡ d
   at_last lt = get_or-set_same (set zs a b) c d 0 (omega (arith, lt, length-set zs a b))
@@ -111,7 +111,7 @@ module _ (zs : List ℕ) (a b c d : ℕ) where
   at_other : (i : ℕ) → i ≢ c → i ≢ a → number_at (set (set zs a b) c d) i ≡ number_at zs i
   at_other i nc na = get_or-set_other (set zs a b) c i d 0 nc ∙ get_or-set_other zs a i b 0 na
 
--- where two pairs exchange their partners
+-- Two pairs exchange their partners.
 module _ (len : ℕ) (xs ys : List ℕ) (a b c d : ℕ) (lx : length xs ≡ len) (ly : length ys ≡ len) (la : a < len) (lb : b < len) (lc : c < len) (ld : d < len) (xa : number_at xs a ≡ d) (xc : number_at xs c ≡ b) (yb : number_at ys b ≡ c) (yd : number_at ys d ≡ a) where
   abbrev pub new_xs : List ℕ
   new_xs = set (set xs a b) c d
@@ -171,9 +171,9 @@ get_push (y ∷ xs) x = get_push xs x
 
 -- ---- a number is made ready
 
-module _ (values : List Value) (numbers places : List ℕ) (a : ArePlaced values numbers places) where
-  -- a new number, after all others
-  pub grown : length values ≡ length places → length places < 4294967295 → ArePlaced values (numbers ++ length places ∷ []) (places ++ length places ∷ [])
+module _ (values : List Value) (numbers places : List ℕ) (a : ArePlacedProducts values numbers places) where
+  -- A new number follows all other numbers.
+  pub grown : length values ≡ length places → length places < 4294967295 → ArePlacedProducts values (numbers ++ length places ∷ []) (places ++ length places ∷ [])
   grown full few =
       let n = length places in
       let ln = length_push numbers n in
@@ -204,12 +204,12 @@ module _ (values : List Value) (numbers places : List ℕ) (a : ArePlaced values
       len : length (places ++ length places ∷ []) ≡ length places + 1
       len = length_push places (length places)
 
-  -- a product goes to the first place after the others, whose number is free
+  -- A product is appended at the first place after the products, whose number is free.
   module _ (v : Value) (free : length values < length places) where
     abbrev p : ℕ
     p = length values
 
-    pub given_placed : IsDistinct same_value (values ++ v ∷ []) → ArePlaced (values ++ v ∷ []) numbers places
+    pub given_placed : IsDistinct same_value (values ++ v ∷ []) → ArePlacedProducts (values ++ v ∷ []) numbers places
     given_placed different = record {
       paired = a.paired;
       few = a.few;
@@ -219,7 +219,7 @@ module _ (values : List Value) (numbers places : List ℕ) (a : ArePlaced values
       different = different;
     }
 
-    pub given : Adds (by_number values places) (by_number (values ++ v ∷ []) places) (number_at numbers p) v
+    pub given : AddsProduct (by_number values places) (by_number (values ++ v ∷ []) places) (number_at numbers p) v
     given = record {
       free = at_number values places (number_at numbers p) (a.there p free).0 ∙ ap (slice_get values) (a.there p free).1 ∙ slice_get_past values p (omega arith);
       added = at_number (values ++ v ∷ []) places (number_at numbers p) (a.there p free).0 ∙ ap (slice_get (values ++ v ∷ [])) (a.there p free).1 ∙ get_push values v;
@@ -232,10 +232,10 @@ module _ (values : List Value) (numbers places : List ℕ) (a : ArePlaced values
     }
 
 pub record Added (values : List Value) (places : List ℕ) (new_values : List Value) (new_numbers new_places : List ℕ) (n : ℕ) (v : Value) : Type 0 where
-  pub placed : ArePlaced new_values new_numbers new_places
-  pub adds : Adds (by_number values places) (by_number new_values new_places) n v
+  pub placed : ArePlacedProducts new_values new_numbers new_places
+  pub adds : AddsProduct (by_number values places) (by_number new_values new_places) n v
 
-pub added : (values : List Value) (numbers places : List ℕ) (v : Value) (place : ℕ) (new_numbers new_places : List ℕ) → ArePlaced values numbers places → place ≡ length values → IsDistinct same_value (values ++ v ∷ []) → Grows numbers places place new_numbers new_places
+pub added : (values : List Value) (numbers places : List ℕ) (v : Value) (place : ℕ) (new_numbers new_places : List ℕ) → ArePlacedProducts values numbers places → place ≡ length values → IsDistinct same_value (values ++ v ∷ []) → Grows numbers places place new_numbers new_places
     → Added values places (values ++ v ∷ []) new_numbers new_places (number_at new_numbers place) v
 added values numbers places v place new_numbers new_places a at different (Grows.kept_room lt e f) =
     let free : length values < length places = omega (arith, lt, at) in
@@ -248,7 +248,7 @@ added values numbers places v place new_numbers new_places a at different (Grows
     let n = length places in
     let more = numbers ++ n ∷ [] in
     let further = places ++ n ∷ [] in
-    let b : ArePlaced values more further = grown values numbers places a full (omega (arith, few, is)) in
+    let b : ArePlacedProducts values more further = grown values numbers places a full (omega (arith, few, is)) in
     let free : length values < length further = omega (arith, full, length_push places n) in
     let g = given values more further b v free in
     let same = grown_same values numbers places a full in
@@ -262,7 +262,7 @@ added values numbers places v place new_numbers new_places a at different (Grows
 
 -- ---- a number is freed
 
-module _ (values : List Value) (numbers places : List ℕ) (n last : ℕ) (w : Value) (a : ArePlaced values numbers places) (lt : n < length places) (inside : number_at places n < length values) (is_last : last + 1 ≡ length values) where
+module _ (values : List Value) (numbers places : List ℕ) (n last : ℕ) (w : Value) (a : ArePlacedProducts values numbers places) (lt : n < length places) (inside : number_at places n < length values) (is_last : last + 1 ≡ length values) where
   abbrev place : ℕ
   place = number_at places n
 
@@ -287,7 +287,7 @@ module _ (values : List Value) (numbers places : List ℕ) (n last : ℕ) (w : V
   place_known : place < length places
   place_known = (a.back n lt).0
 
-  numbers_len : length (freed_numbers numbers places n last) ≡ length places
+  numbers_len : length (freed_products numbers places n last) ≡ length places
   numbers_len = length-set (set numbers place moved) last n ∙ length-set numbers place moved ∙ a.paired
 
   places_len : length (freed_places numbers places n last) ≡ length places
@@ -298,14 +298,14 @@ module _ (values : List Value) (numbers places : List ℕ) (n last : ℕ) (w : V
       let k : length values - 1 ≡ last = omega (arith, is_last) in
       ap (λ (j : ℕ). length (take j (set values place (get_or values j w)))) k ∙ length-take-le last (set values place (get_or values last w)) (omega (arith, is_last, length-set values place (get_or values last w)))
 
-  pub freed_placed : IsDistinct same_value left → ArePlaced left (freed_numbers numbers places n last) (freed_places numbers places n last)
+  pub freed_placed : IsDistinct same_value left → ArePlacedProducts left (freed_products numbers places n last) (freed_places numbers places n last)
   freed_placed different = record {
     paired = numbers_len ∙ sym places_len;
     few = omega (arith, a.few, places_len);
     within = omega (arith, left_len, last_known, places_len);
-    there = subst (λ (k : ℕ). Undoes k (freed_numbers numbers places n last) (freed_places numbers places n last)) (sym places_len)
+    there = subst (λ (k : ℕ). Undoes k (freed_products numbers places n last) (freed_places numbers places n last)) (sym places_len)
         (exchanged (length places) numbers places place moved last n a.paired refl place_known moved_known last_known lt at_place refl from_moved refl a.there);
-    back = subst (λ (k : ℕ). Undoes k (freed_places numbers places n last) (freed_numbers numbers places n last)) (sym places_len)
+    back = subst (λ (k : ℕ). Undoes k (freed_places numbers places n last) (freed_products numbers places n last)) (sym places_len)
         (exchanged (length places) places numbers moved place n last refl a.paired moved_known place_known lt last_known from_moved refl at_place refl a.back);
     different = different;
   }
@@ -347,21 +347,21 @@ module _ (values : List Value) (numbers places : List ℕ) (n last : ℕ) (w : V
             ap (slice_get left) (get_or-set_other (set places moved place) n k last 0 ne ∙ get_or-set_other places moved k place 0 nm) ∙ read_other (number_at places k) np nl
       ]
 
--- ---- what the calls need
+-- ---- what the functions need
 
-pub stands : (values : List Value) (numbers places : List ℕ) (n : ℕ) → ArePlaced values numbers places → IsSome (product_at (by_number values places) n) → (n < length places) × (number_at places n < length values)
-stands values numbers places n a h = by (product_at (by_number values places) n) refl h
+pub present : (values : List Value) (numbers places : List ℕ) (n : ℕ) → ArePlacedProducts values numbers places → IsSome (product_at (by_number values places) n) → (n < length places) × (number_at places n < length values)
+present values numbers places n a h = by (product_at (by_number values places) n) refl h
   where
     by : (o : Option Value) → product_at (by_number values places) n ≡ o → IsSome o → (n < length places) × (number_at places n < length values)
     by None e s = absurd cc
     by (Some v) e s = (number_known values places n v e, inside_values values numbers places a n v e)
 
 pub record Gone (values : List Value) (places : List ℕ) (new_values : List Value) (new_numbers new_places : List ℕ) (n : ℕ) : Type 0 where
-  pub placed : ArePlaced new_values new_numbers new_places
+  pub placed : ArePlacedProducts new_values new_numbers new_places
   pub removes : Removes (by_number values places) (by_number new_values new_places) n
 
-pub gone : (values : List Value) (numbers places : List ℕ) (n at last : ℕ) → ArePlaced values numbers places → (n < length places) × (number_at places n < length values) → at ≡ number_at places n → last + 1 ≡ length values
-    → (new_values : List Value) (new_numbers new_places : List ℕ) → new_values ≡ swap_remove values at (get_or values at value.Any) → IsDistinct same_value new_values → new_numbers ≡ freed_numbers numbers places n last → new_places ≡ freed_places numbers places n last
+pub gone : (values : List Value) (numbers places : List ℕ) (n at last : ℕ) → ArePlacedProducts values numbers places → (n < length places) × (number_at places n < length values) → at ≡ number_at places n → last + 1 ≡ length values
+    → (new_values : List Value) (new_numbers new_places : List ℕ) → new_values ≡ swap_remove values at (get_or values at value.Any) → IsDistinct same_value new_values → new_numbers ≡ freed_products numbers places n last → new_places ≡ freed_places numbers places n last
     → Gone values places new_values new_numbers new_places n
 gone values numbers places n at last a s at_is is_last new_values new_numbers new_places values_are different numbers_are places_are =
     let p = number_at places n in
@@ -369,18 +369,18 @@ gone values numbers places n at last a s at_is is_last new_values new_numbers ne
     let is : new_values ≡ swap_remove values p w = values_are ∙ ap (λ (k : ℕ). swap_remove values k (get_or values k value.Any)) at_is in
     subst (λ (vs : List Value). Gone values places vs new_numbers new_places n) (sym is)
     (subst (λ (ns : List ℕ). Gone values places (swap_remove values p w) ns new_places n) (sym numbers_are)
-    (subst (λ (ps : List ℕ). Gone values places (swap_remove values p w) (freed_numbers numbers places n last) ps n) (sym places_are)
+    (subst (λ (ps : List ℕ). Gone values places (swap_remove values p w) (freed_products numbers places n last) ps n) (sym places_are)
     (record {
       placed = freed_placed values numbers places n last w a s.0 s.1 is_last (subst (λ (vs : List Value). IsDistinct same_value vs) is different);
       removes = freed values numbers places n last w a s.0 s.1 is_last;
     })))
 
--- a product that isn't there goes last
+-- A product that isn't in the list is appended.
 pub pushed : (values : List Value) (v : Value) (new : List Value) → list_any (same_value v) values ≡ false → new ≡ cond (list_any (same_value v) values) values (values ++ v ∷ []) → new ≡ values ++ v ∷ []
 pushed values v new none h = h ∙ ap (λ (b : Bool). cond b values (values ++ v ∷ [])) none
 
--- a number that was free, or the next one
-pub few_number : (values : List Value) (numbers places : List ℕ) (place : ℕ) (new_numbers new_places : List ℕ) → ArePlaced values numbers places → Grows numbers places place new_numbers new_places → number_at new_numbers place ≤ length (by_number values places)
+-- The returned number was free, or is the next number.
+pub few_number : (values : List Value) (numbers places : List ℕ) (place : ℕ) (new_numbers new_places : List ℕ) → ArePlacedProducts values numbers places → Grows numbers places place new_numbers new_places → number_at new_numbers place ≤ length (by_number values places)
 few_number values numbers places place new_numbers new_places a (Grows.kept_room lt e f) =
     omega (arith, ap (λ (ns : List ℕ). number_at ns place) e, (a.there place lt).0, length-map places (λ p. slice_get values p))
 few_number values numbers places place new_numbers new_places a (Grows.one_more is few e f) =

@@ -1,4 +1,4 @@
--- Filters and sums.
+-- Lemmas: filters and sums.
 use Rattle.std.proofs.Common.{◌≡◌, ℕ, ◌+◌, ◌≤◌, Bool, true, false, cond, List, [], ◌∷◌, refl, sym, ap, ◌∙◌, true≢false, arith}
 use Rattle.std.specs.List.{filter, sum_by}
 use Rattle.std.proofs.lemmas.List.Sums.{sum_by-cons, sum_by-le-sum_by}
@@ -9,7 +9,7 @@ one_at_most true = omega arith
 one_at_most false = omega arith
 
 module _ {X : Type 0} where
-  -- what an element adds where it passes
+  -- what an element adds to a sum, if it passes
   abbrev pub if_passes : (X → Bool) → (X → ℕ) → X → ℕ
   if_passes q f x = cond (q x) (f x) 0
 
@@ -33,7 +33,7 @@ module _ {X : Type 0} where
   sum_none [] = refl
   sum_none (x ∷ xs) = omega (arith, sum_by-cons (λ (y : X). 0) x xs, sum_none xs)
 
-  -- what passes a test passes a weaker one
+  -- The sum over elements that pass a test is at most the sum for a weaker test.
   pub sum_stronger : (f : X → ℕ) (p q : X → Bool) → ((x : X) → p x ≡ true → q x ≡ true) → (xs : List X) → sum_by f (filter p xs) ≤ sum_by f (filter q xs)
   sum_stronger f p q h xs =
       omega (arith, sum_filter f p xs, sum_filter f q xs, sum_by-le-sum_by (if_passes p f) (if_passes q f) xs (λ x. by (p x) (q x) (f x) (h x)))
@@ -43,7 +43,7 @@ module _ {X : Type 0} where
       by true false n g = absurd (true≢false (sym (g refl)))
       by false b n g = omega arith
 
-  -- what passes a test weighs no more than all
+  -- The sum over the elements that pass a test is at most the sum over all.
   pub sum_passing : (f : X → ℕ) (q : X → Bool) (xs : List X) → sum_by f (filter q xs) ≤ sum_by f xs
   sum_passing f q xs = omega (arith, sum_filter f q xs, sum_by-le-sum_by (if_passes q f) f xs (λ x. by (q x) (f x)))
     where
@@ -51,11 +51,11 @@ module _ {X : Type 0} where
       by true n = omega arith
       by false n = omega arith
 
-  -- the same elements pass the same test
+  -- Lists with the same elements have the same elements after a filter.
   pub filter_same : (q : X → Bool) (xs ys : List X) → SameElements xs ys → SameElements (filter q xs) (filter q ys)
   filter_same q xs ys same f = sum_filter f q xs ∙ same (if_passes q f) ∙ sym (sum_filter f q ys)
 
-  -- two tests that agree on each element
+  -- Two tests that agree on each element keep the same elements.
   pub tests_agree : (p q : X → Bool) → ((x : X) → p x ≡ q x) → (xs ys : List X) → SameElements (filter q xs) ys → SameElements (filter p xs) ys
   tests_agree p q h xs ys same f = sum_filter f p xs ∙ sum_agree (if_passes p f) (if_passes q f) (λ x. ap (λ (b : Bool). cond b (f x) 0) (h x)) xs ∙ sym (sum_filter f q xs) ∙ same f
 
@@ -63,7 +63,7 @@ module _ {X : Type 0} where
   filter_all q h [] = refl
   filter_all q h (x ∷ xs) = ap (λ (b : Bool). cond b (x ∷ filter q xs) (filter q xs)) (h x) ∙ ap (λ (u : List X). x ∷ u) (filter_all q h xs)
 
-  -- what passes the stronger test among those that pass the weaker one
+  -- A filter by a stronger test can be applied after a filter by a weaker test.
   pub filter_stronger : (p q : X → Bool) → ((x : X) → p x ≡ true → q x ≡ true) → (xs ys : List X) → SameElements (filter q xs) ys → SameElements (filter p xs) (filter p ys)
   filter_stronger p q h xs ys same f =
       sum_filter f p xs ∙ sum_agree (if_passes p f) (if_passes q (if_passes p f)) (λ x. by (p x) (q x) (f x) (h x)) xs ∙ sym (sum_filter (if_passes p f) q xs) ∙ same (if_passes p f) ∙ sym (sum_filter f p ys)

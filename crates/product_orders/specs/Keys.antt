@@ -1,4 +1,4 @@
--- Products as they are compared: first by their shapes, then by their bodies, from the front or from the back.
+-- Comparing products: first by their shapes, then by their bodies, from the front or from the back.
 use Rattle.std.specs.Prelude.{◌≡◌, ℕ, Bool, false, ◌&&◌, nat_eq, if◌then◌else◌, List, [], ◌∷◌, reverse}
 use Rattle.std.specs.List.{AllByRecursion, starts_with, ends_with}
 use Rattle.std.specs.Ordering.{nat_cmp, is_lt}
@@ -12,9 +12,9 @@ use Rattle.product_orders.specs.declared.keys.End.{End}
 use Rattle.product_orders.specs.declared.keys.End.TheVariants as end
 use Rattle.product_orders.specs.declared.keys.Shape.{Shape}
 use Rattle.product_orders.specs.declared.keys.Shape.TheVariants as shape
-use Rattle.product_orders.specs.Listed.{Listed, value_at}
+use Rattle.product_orders.specs.Listed.{ProductList, product_value_at}
 
--- by whether nothing stands before the body, and nothing after it
+-- the shape of a text, by whether it has no lead and no trail
 abbrev pub shape_by : Bool → Bool → Shape
 shape_by no_lead no_trail =
     if no_lead then (if no_trail then shape.Plain else shape.WithTrail) else (if no_trail then shape.WithLead else shape.WithBoth)
@@ -24,56 +24,56 @@ shape_of value.Any = shape.Any
 shape_of value.Na = shape.Na
 shape_of (value.Text t) = shape_by (is_nothing t.lead) (is_nothing t.trail)
 
--- the place of a shape among the shapes
-abbrev pub rank : Shape → ℕ
-rank shape.Any = 0
-rank shape.Na = 1
-rank shape.Plain = 2
-rank shape.WithTrail = 3
-rank shape.WithLead = 4
-rank shape.WithBoth = 5
+-- the rank of a shape in the order of the shapes
+abbrev pub shape_rank : Shape → ℕ
+shape_rank shape.Any = 0
+shape_rank shape.Na = 1
+shape_rank shape.Plain = 2
+shape_rank shape.WithTrail = 3
+shape_rank shape.WithLead = 4
+shape_rank shape.WithBoth = 5
 
 abbrev pub body_of : Value → List ℕ
 body_of value.Any = []
 body_of value.Na = []
 body_of (value.Text t) = t.body
 
--- a body as it is compared from an end
-abbrev pub turned : End → List ℕ → List ℕ
-turned end.Front body = body
-turned end.Back body = reverse body
+-- the body as it is compared from an end: reversed if that end is the back
+abbrev pub turned_body : End → List ℕ → List ℕ
+turned_body end.Front body = body
+turned_body end.Back body = reverse body
 
 abbrev pub text_order : List ℕ → List ℕ → Ordering
 text_order = slice_cmp nat_cmp
 
-abbrev pub key : End → Value → List ℕ
-key e v = rank (shape_of v) ∷ turned e (body_of v)
+abbrev pub product_key : End → Value → List ℕ
+product_key e v = shape_rank (shape_of v) ∷ turned_body e (body_of v)
 
--- whether a text has a body at this end
-abbrev pub touches : End → List ℕ → List ℕ → Bool
-touches end.Front body text = starts_with nat_eq text body
-touches end.Back body text = ends_with nat_eq text body
+-- whether a text has `body` at this end
+abbrev pub body_touches : End → List ℕ → List ℕ → Bool
+body_touches end.Front body text = starts_with nat_eq text body
+body_touches end.Back body text = ends_with nat_eq text body
 
--- whether a text is the body, or has it at this end
+-- whether a text equals `body` (if `whole`), or has `body` at this end
 abbrev pub has_by : Bool → End → List ℕ → List ℕ → Bool
-has_by whole e body text = if whole then pointwise nat_eq body text else touches e body text
+has_by whole e body text = if whole then pointwise nat_eq body text else body_touches e body text
 
--- a product of this shape whose body is the given one, or has it at this end
+-- whether a product has this shape, and a body that equals `body` or has it at this end
 abbrev pub in_run : End → Shape → List ℕ → Bool → Value → Bool
-in_run e s body whole v = nat_eq (rank s) (rank (shape_of v)) && has_by whole e body (body_of v)
+in_run e s body whole v = nat_eq (shape_rank s) (shape_rank (shape_of v)) && has_by whole e body (body_of v)
 
--- a product that stands before all those
+-- whether a product is before all products of such a run
 abbrev pub is_below : End → Shape → List ℕ → Value → Bool
-is_below e s body v = is_lt (text_order (key e v) (rank s ∷ turned e body))
+is_below e s body v = is_lt (text_order (product_key e v) (shape_rank s ∷ turned_body e body))
 
--- each element stands in the relation to all those after it
+-- Each element is in the relation `R` to all elements after it.
 abbrev pub Ordered : {X : Type 0} → (X → X → Type 0) → List X → Type 0
 Ordered R [] = Unit {0}
 Ordered R (x ∷ xs) = AllByRecursion (λ y. R x y) xs × Ordered R xs
 
-abbrev pub NotAbove : End → Listed → ℕ → ℕ → Type 0
-NotAbove e values m n = is_lt (text_order (key e (value_at values n)) (key e (value_at values m))) ≡ false
+abbrev pub NotAbove : End → ProductList → ℕ → ℕ → Type 0
+NotAbove e values m n = is_lt (text_order (product_key e (product_value_at values n)) (product_key e (product_value_at values m))) ≡ false
 
--- numbers such that no product stands before one that is less; products with the same body may stand either way
-abbrev pub Rises : End → Listed → List ℕ → Type 0
+-- The numbers are in the order of their products. Products with the same body can be in any order.
+abbrev pub Rises : End → ProductList → List ℕ → Type 0
 Rises e values order = Ordered (NotAbove e values) order

@@ -1,4 +1,4 @@
--- Products by number: a number has one product at most.
+-- Products by number: a number has at most one product.
 use Rattle.std.specs.Prelude.{◌≡◌, ◌≢◌, ℕ, List, Option, Some, None, is_some, length}
 use Rattle.std.specs.List.{slice_index_or, filter, range_with_len}
 use Rattle.cpe_relation.specs.cpe_values.declared.value.Value.{Value}
@@ -7,36 +7,36 @@ use Rattle.cpe_relation.specs.cpe_values.declared.value.Value.TheVariants as val
 abbrev pub Product : Type 0
 Product = Value
 
--- by number; nothing where the number is free
-abbrev pub Listed : Type 0
-Listed = List (Option Product)
+-- the product of each number; none if the number is free
+abbrev pub ProductList : Type 0
+ProductList = List (Option Product)
 
-abbrev pub product_at : Listed → ℕ → Option Product
+abbrev pub product_at : ProductList → ℕ → Option Product
 product_at products n = slice_index_or products n None
 
 abbrev pub value_or : Option Product → Value
 value_or None = value.Any
 value_or (Some v) = v
 
--- the product of a number; ANY where it is free
-abbrev pub value_at : Listed → ℕ → Value
-value_at products n = value_or (product_at products n)
+-- the product of a number, or ANY if the number is free
+abbrev pub product_value_at : ProductList → ℕ → Value
+product_value_at products n = value_or (product_at products n)
 
--- the numbers from 0 on, as many as are asked for
-abbrev pub numbers : ℕ → List ℕ
-numbers n = range_with_len 0 n
+-- the first `n` numbers, from 0
+abbrev pub numbers_to : ℕ → List ℕ
+numbers_to n = range_with_len 0 n
 
 -- the numbers that have a product
-abbrev pub live : Listed → List ℕ
-live products = filter (λ n. is_some (product_at products n)) (numbers (length products))
+abbrev pub live : ProductList → List ℕ
+live products = filter (λ n. is_some (product_at products n)) (numbers_to (length products))
 
--- a number that was free has the product, and the other numbers have theirs
-pub record Adds (old new : Listed) (number : ℕ) (product : Product) : Type 0 where
+-- A free number gets the product; the other numbers keep their products.
+pub record AddsProduct (old new : ProductList) (number : ℕ) (product : Product) : Type 0 where
   pub free : product_at old number ≡ None
   pub added : product_at new number ≡ Some product
   pub others : (other : ℕ) → other ≢ number → product_at new other ≡ product_at old other
 
--- a number is free, and the other numbers have their products
-pub record Removes (old new : Listed) (number : ℕ) : Type 0 where
+-- A number is freed; the other numbers keep their products.
+pub record Removes (old new : ProductList) (number : ℕ) : Type 0 where
   pub free : product_at new number ≡ None
   pub others : (other : ℕ) → other ≢ number → product_at new other ≡ product_at old other

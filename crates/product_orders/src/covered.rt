@@ -1,7 +1,7 @@
 // Whether a product covers another.
 ghost use Rattle.std.specs.Prelude.{◌≡◌};
 ghost use Rattle.cpe_relation.specs.NameRelation.{is_above};
-ghost use Rattle.product_orders.specs.Listed.{value_at};
+ghost use Rattle.product_orders.specs.Listed.{product_value_at};
 ghost use Rattle.product_orders.specs.Near.{covers_product};
 
 use crate::products::Products;
@@ -20,9 +20,10 @@ fn covers_product(asked: &Value, other: &Value) -> bool
 }
 
 impl Products {
-    /// Whether a product covers that of a number: it is SUPERSET of it, or EQUAL to it (NIST IR 7696, 6). It takes no memory.
+    /// Whether the product `asked` covers the product of a number: it is SUPERSET of that product, or EQUAL to it (NIST
+    /// IR 7696, 6). Allocates: no.
     pub fn is_covered(&self, asked: &Value, number: u32) -> bool
-        ensures { result ≡ covers_product asked.now (value_at self.now number) }
+        ensures { result ≡ covers_product asked.now (product_value_at self.now number) }
     {
         match self.values.get(number) {
             Some(value) => covers_product(asked, value),

@@ -1,22 +1,23 @@
-// Products as they are compared: by their shapes, and then by their bodies.
+// Comparing products: first by their shapes, then by their bodies.
 ghost use Rattle.std.specs.Prelude.{◌≡◌, ◌∷◌, reverse};
 ghost use Rattle.std.specs.Ordering.{nat_cmp};
 ghost use Rattle.std.specs.Cmp.Lexicographic.{slice_cmp};
 ghost use Rattle.cpe_relation.specs.cpe_values.declared.value.Value.TheVariants.{Text};
 ghost use Rattle.cpe_relation.specs.cpe_values.Parts.{is_nothing};
-ghost use Rattle.product_orders.specs.Keys.{shape_by, shape_of, rank, body_of, turned, text_order, touches, has_by};
+ghost use Rattle.product_orders.specs.Keys.{shape_by, shape_of, shape_rank, body_of, turned_body, text_order, body_touches, has_by};
 
 use cpe_relation::{Edge, Pattern, Value};
 use std::cmp::Ordering;
 
-/// From which end bodies are compared.
+/// The end from which bodies are compared: the front or the back.
 #[derive(Clone, Copy, Debug, PartialEq, Eq)]
 pub(crate) enum End {
     Front,
     Back,
 }
 
-/// What a product is. Products of a shape stand side by side, in the order of the shapes.
+/// The shape of a product. In each order, products of the same shape are neighbours, and the shapes follow in this
+/// order.
 #[derive(Clone, Copy, Debug, PartialEq, Eq)]
 pub(crate) enum Shape {
     Any,
@@ -60,14 +61,14 @@ pub(crate) fn shape_of(value: &Value) -> Shape
     }
 }
 
-// The place of a shape among the shapes.
+// The rank of a shape in the order of the shapes.
 pub(crate) fn rank(shape: Shape) -> u8
-    ensures { result ≡ rank shape }
+    ensures { result ≡ shape_rank shape }
 {
     shape as u8
 }
 
-// The body of a text; nothing where it is none.
+// The body of a text, or no bytes if the value is ANY or NA.
 pub(crate) fn body_of(value: &Value) -> &[u8]
     ensures { result.now ≡ body_of value.now }
 {
@@ -100,7 +101,7 @@ fn compare_from_back(body: &[u8], other: &[u8]) -> Ordering
 }
 
 fn compare_bodies(end: End, body: &[u8], other: &[u8]) -> Ordering
-    ensures { result ≡ text_order (turned end body.now) (turned end other.now) }
+    ensures { result ≡ text_order (turned_body end body.now) (turned_body end other.now) }
 {
     match end {
         End::Front => body.cmp(other),
@@ -108,7 +109,7 @@ fn compare_bodies(end: End, body: &[u8], other: &[u8]) -> Ordering
     }
 }
 
-// Compares by shape, and then by body.
+// Compares two products by shape, and then by body.
 pub(crate) fn compare_keys(
     end: End,
     shape: Shape,
@@ -116,7 +117,7 @@ pub(crate) fn compare_keys(
     other_shape: Shape,
     other_body: &[u8],
 ) -> Ordering
-    ensures { result ≡ text_order (rank shape ∷ turned end body.now) (rank other_shape ∷ turned end other_body.now) }
+    ensures { result ≡ text_order (shape_rank shape ∷ turned_body end body.now) (shape_rank other_shape ∷ turned_body end other_body.now) }
 {
     match rank(shape).cmp(&rank(other_shape)) {
         Ordering::Less => Ordering::Less,
@@ -126,7 +127,7 @@ pub(crate) fn compare_keys(
 }
 
 fn touches(end: End, body: &[u8], text: &[u8]) -> bool
-    ensures { result ≡ touches end body.now text.now }
+    ensures { result ≡ body_touches end body.now text.now }
 {
     match end {
         End::Front => text.starts_with(body),
@@ -134,7 +135,7 @@ fn touches(end: End, body: &[u8], text: &[u8]) -> bool
     }
 }
 
-// Whether the text is the body, or has it at an end.
+// Whether `text` equals `body`, if `whole`, and else whether `text` has `body` at this end.
 pub(crate) fn has_body(whole: bool, end: End, body: &[u8], text: &[u8]) -> bool
     ensures { result ≡ has_by whole end body.now text.now }
 {

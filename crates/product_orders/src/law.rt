@@ -2,7 +2,7 @@
 ghost use Rattle.std.specs.Prelude.{◌↔◌, ℕ, List, IsPermutation};
 ghost use Rattle.product_orders.specs.Elements.{SameElements};
 
-/// Two lists of numbers have the same elements exactly where one is the other in another order.
+/// Law: two lists of numbers have the same elements exactly if one list is a rearrangement of the other.
 pub fn same_elements_rearrange()
     ensures { (xs ys : List ℕ) → SameElements xs ys ↔ IsPermutation xs ys }
 {}

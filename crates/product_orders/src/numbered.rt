@@ -1,4 +1,4 @@
-// Different products, each with a number that stays while it is there.
+// Different products by number. A product keeps its number until it is removed.
 ghost use Rattle.std.specs.Prelude.{◌≡◌, ℕ, ◌<◌, ◌≤◌, false, [], ◌∷◌, ◌++◌, length, get_or, Some, None, IsNone, IsSome, IfSome, IfOk, OnOk, OnErr, option_copied};
 ghost use Rattle.std.specs.Prelude.{vec_len, vec_capacity};
 ghost use Rattle.std.specs.List.{IsDistinct, swap_remove, filter};
@@ -6,33 +6,33 @@ ghost use Rattle.cpe_relation.specs.cpe_values.declared.value.Value.{Value};
 ghost use Rattle.cpe_relation.specs.cpe_values.declared.value.Value.TheVariants as value;
 ghost use Rattle.cpe_relation.specs.cpe_values.Same.{same_value};
 ghost use Rattle.product_orders.specs.Elements.{SameElements};
-ghost use Rattle.product_orders.specs.Listed.{product_at, value_at, live, Adds, Removes};
-ghost use Rattle.product_orders.specs.Placed.{number_at, Grows, freed_numbers, freed_places};
+ghost use Rattle.product_orders.specs.Listed.{product_at, product_value_at, live, AddsProduct, Removes};
+ghost use Rattle.product_orders.specs.Placed.{number_at, Grows, freed_products, freed_places};
 
 use cpe_relation::{Memory, Value};
 use indexmap::IndexSet;
 use std::alloc::Global;
 use std::marker::Model;
 
-// Different products by number. Contracts see what each number has.
+// Different products by number. Contracts see the product of each number.
 #[derive(Drop)]
-pub(crate) struct Numbered {
-    // The products, and the number of each place; after them the numbers that are free.
+pub(crate) struct NumberedProducts {
+    // `values`: the products. `numbers`: the number of each place, and after the products' places the free numbers.
     values: IndexSet<Value>,
     numbers: Vec<u32>,
     // The place of each number.
     places: Vec<u32>,
 }
 
-impl Model for Numbered {
-    ghost use Rattle.product_orders.specs.Listed.{Listed};
-    ghost use Rattle.product_orders.specs.Placed.{by_number, ArePlaced};
+impl Model for NumberedProducts {
+    ghost use Rattle.product_orders.specs.Listed.{ProductList};
+    ghost use Rattle.product_orders.specs.Placed.{by_number, ArePlacedProducts};
 
-    ghost Value = { Listed };
+    ghost Value = { ProductList };
 
     ghost view = { λ p. by_number p.values.keys p.places.items };
 
-    ghost invariant = { λ p. ArePlaced p.values.keys p.numbers.items p.places.items };
+    ghost invariant = { λ p. ArePlacedProducts p.values.keys p.numbers.items p.places.items };
 }
 
 fn number_of(numbers: &Vec<u32>, place: usize) -> u32
@@ -42,7 +42,7 @@ fn number_of(numbers: &Vec<u32>, place: usize) -> u32
     numbers[place]
 }
 
-// The number of a place, alone.
+// The number of a place, as a slice of one number.
 fn number_alone(numbers: &Vec<u32>, place: usize) -> &[u32]
     requires { place < length numbers.now.items }
     ensures { result.now ≡ number_at numbers.now.items place ∷ [] }
@@ -69,7 +69,7 @@ fn reserve_number(numbers: &mut Vec<u32>, places: &mut Vec<u32>, place: usize) -
     Ok(())
 }
 
-// The number of the first place after the products; a new one where none is free.
+// The number at the first place after the products, or a new number if none is free.
 fn free_number(numbers: &mut Vec<u32>, places: &mut Vec<u32>, place: usize) -> u32
     requires paired { length numbers.old.items ≡ length places.old.items }
     requires within { place ≤ length places.old.items }
@@ -88,7 +88,7 @@ fn free_number(numbers: &mut Vec<u32>, places: &mut Vec<u32>, place: usize) -> u
     number
 }
 
-// Takes out the product at a place, and puts the last one there.
+// Removes the product at a place, and moves the last product there.
 fn take_value(values: &mut IndexSet<Value>, place: u32)
     requires { place < length values.old.keys }
     ensures keys { values.new.keys ≡ swap_remove values.old.keys place (get_or values.old.keys place value.Any) }
@@ -97,14 +97,14 @@ fn take_value(values: &mut IndexSet<Value>, place: u32)
     let _ = values.swap_remove_index(place as usize);
 }
 
-// Frees a number: the number of the last product's place takes its place.
+// Frees a number. The number of the last product moves to the place of the freed number.
 fn move_last(numbers: &mut Vec<u32>, places: &mut Vec<u32>, number: u32, last: usize)
     requires number { number < length places.old.items }
     requires place { number_at places.old.items number < length numbers.old.items }
     requires last { last < length numbers.old.items }
     requires moved { number_at numbers.old.items last < length places.old.items }
     requires few { last < 4294967296 }
-    ensures numbers { numbers.new.items ≡ freed_numbers numbers.old.items places.old.items number last }
+    ensures numbers { numbers.new.items ≡ freed_products numbers.old.items places.old.items number last }
     ensures places { places.new.items ≡ freed_places numbers.old.items places.old.items number last }
 {
     let place = number_of(places, number as usize);
@@ -115,26 +115,26 @@ fn move_last(numbers: &mut Vec<u32>, places: &mut Vec<u32>, number: u32, last: u
     places[number as usize] = last as u32;
 }
 
-impl Numbered {
-    // No products. It takes no memory.
-    pub(crate) fn new(alloc: Global) -> Numbered
+impl NumberedProducts {
+    // No products. Allocates: no.
+    pub(crate) fn new(alloc: Global) -> NumberedProducts
         ensures { result ≡ [] }
     {
-        Numbered {
+        NumberedProducts {
             values: IndexSet::new(alloc),
             numbers: Vec::new(alloc),
             places: Vec::new(alloc),
         }
     }
 
-    // How many numbers there are, with those that are free.
+    // How many numbers there are, including the free numbers.
     pub(crate) fn len(&self) -> usize
         ensures { result ≡ length self.now }
     {
         self.places.len()
     }
 
-    // The product of a number.
+    // The product of a number, if the number has one.
     pub(crate) fn get(&self, number: u32) -> Option<&Value>
         ensures { option_copied result ≡ product_at self.now number }
     {
@@ -145,14 +145,14 @@ impl Numbered {
         self.values.get_index(place as usize)
     }
 
-    // What is so of all products: they are different. It does nothing.
+    // Law: the products are different.
     pub(crate) fn lawful(&self)
         ensures { (m n : ℕ) (v : Value) → product_at self.now m ≡ Some v → product_at self.now n ≡ Some v → m ≡ n }
     {
         let _ = &self.values;
     }
 
-    // The number of a product, by its hash.
+    // The number of a product, which is found by its hash, if a number has this product.
     pub(crate) fn find(&self, value: &Value) -> Option<u32>
         ensures found { IfSome result (λ number. product_at self.now number ≡ Some value.now) }
         ensures none { IsNone result → (number : ℕ) → product_at self.now number ≡ Some value.now → ⊥ }
@@ -163,9 +163,10 @@ impl Numbered {
         }
     }
 
-    // The number of a product alone, by its hash; nothing where no number has it.
+    // The number of a product as a slice of one number, found by its hash. The slice is empty if no number has the
+    // product.
     pub(crate) fn find_alone(&self, value: &Value) -> &[u32]
-        ensures { SameElements (filter (λ n. same_value value.now (value_at self.now n)) (live self.now)) result.now }
+        ensures { SameElements (filter (λ n. same_value value.now (product_value_at self.now n)) (live self.now)) result.now }
     {
         match self.values.get_index_of(value) {
             Some(place) => number_alone(&self.numbers, place),
@@ -173,10 +174,10 @@ impl Numbered {
         }
     }
 
-    // Adds a product, which gets a number that is free.
+    // Adds a new product. Returns its number, which was free.
     pub(crate) fn add(&mut self, value: Value) -> Result<u32, Memory>
         requires fresh { (number : ℕ) → product_at self.old number ≡ Some value → ⊥ }
-        ensures added { IfOk result (λ number. Adds self.old self.new number value) }
+        ensures added { IfOk result (λ number. AddsProduct self.old self.new number value) }
         ensures few { IfOk result (λ number. number ≤ length self.old) }
         ensures err { OnErr result (self.new ≡ self.old) }
     {
@@ -186,7 +187,7 @@ impl Numbered {
         Ok(free_number(&mut self.numbers, &mut self.places, place))
     }
 
-    // Takes a product out, whose number is free then. It takes no memory.
+    // Removes the product of a number, which is free then. Allocates: no.
     pub(crate) fn remove(&mut self, number: u32)
         requires { IsSome (product_at self.old number) }
         ensures { Removes self.old self.new number }

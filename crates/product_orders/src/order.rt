@@ -1,15 +1,16 @@
 // Numbers in the order of their products.
 ghost use Rattle.std.specs.Prelude.{◌≡◌, ◌||◌, ◌∷◌, true, filter, Contains, IsPermutation};
 ghost use Rattle.product_orders.specs.Keys.{shape_of, body_of, in_run, is_below, Rises};
-ghost use Rattle.product_orders.specs.Listed.{value_at};
+ghost use Rattle.product_orders.specs.Listed.{product_value_at};
 ghost use Rattle.product_orders.specs.Elements.{SameElements};
 
 use crate::keys::{End, Shape, body_of, compare_keys, has_body, rank, shape_of};
-use crate::numbered::Numbered;
-use number_blocks::{Blocks, Piece, Test};
+use crate::numbered::NumberedProducts;
+use number_blocks::{BlockPiece, Blocks, Test};
 use std::cmp::Ordering;
 
-// The products of a shape that have a body at an end, or whose body it is.
+// The products of one shape that have `body` at one end of their body. If `whole`, only the products whose body equals
+// `body`.
 #[derive(Clone, Copy)]
 pub(crate) struct Run<'a> {
     pub(crate) end: End,
@@ -18,10 +19,10 @@ pub(crate) struct Run<'a> {
     pub(crate) whole: bool,
 }
 
-// The shape of a number's product, and its body.
-fn key_of(values: &Numbered, number: u32) -> (Shape, &[u8])
-    ensures shape { result.0 ≡ shape_of (value_at values.now number) }
-    ensures body { result.1.now ≡ body_of (value_at values.now number) }
+// The shape and the body of a number's product.
+fn key_of(values: &NumberedProducts, number: u32) -> (Shape, &[u8])
+    ensures shape { result.0 ≡ shape_of (product_value_at values.now number) }
+    ensures body { result.1.now ≡ body_of (product_value_at values.now number) }
 {
     match values.get(number) {
         Some(value) => (shape_of(value), body_of(value)),
@@ -29,36 +30,36 @@ fn key_of(values: &Numbered, number: u32) -> (Shape, &[u8])
     }
 }
 
-// Whether a number's product stands before the run.
-fn is_below(values: &Numbered, run: Run, number: u32) -> bool
-    ensures { result ≡ is_below run.entry.end run.entry.shape run.entry.body.now (value_at values.now number) }
+// Whether a number's product is before the run.
+fn is_below(values: &NumberedProducts, run: Run, number: u32) -> bool
+    ensures { result ≡ is_below run.entry.end run.entry.shape run.entry.body.now (product_value_at values.now number) }
 {
     let (shape, body) = key_of(values, number);
     compare_keys(run.end, shape, body, run.shape, run.body) == Ordering::Less
 }
 
-fn is_in(values: &Numbered, run: Run, number: u32) -> bool
-    ensures { result ≡ in_run run.entry.end run.entry.shape run.entry.body.now run.entry.whole (value_at values.now number) }
+fn is_in(values: &NumberedProducts, run: Run, number: u32) -> bool
+    ensures { result ≡ in_run run.entry.end run.entry.shape run.entry.body.now run.entry.whole (product_value_at values.now number) }
 {
     let (shape, body) = key_of(values, number);
     rank(run.shape) == rank(shape) && has_body(run.whole, run.end, run.body, body)
 }
 
-fn is_within(values: &Numbered, run: Run, number: u32) -> bool
-    ensures { result ≡ (is_below run.entry.end run.entry.shape run.entry.body.now (value_at values.now number) || in_run run.entry.end run.entry.shape run.entry.body.now run.entry.whole (value_at values.now number)) }
+fn is_within(values: &NumberedProducts, run: Run, number: u32) -> bool
+    ensures { result ≡ (is_below run.entry.end run.entry.shape run.entry.body.now (product_value_at values.now number) || in_run run.entry.end run.entry.shape run.entry.body.now run.entry.whole (product_value_at values.now number)) }
 {
     is_below(values, run, number) || is_in(values, run, number)
 }
 
-// Which numbers stand before the run.
+// A test of numbers: whether their products are before the run.
 #[derive(Clone, Copy)]
 struct Below<'a> {
-    values: &'a Numbered,
+    values: &'a NumberedProducts,
     run: Run<'a>,
 }
 
 impl<'a> Test for Below<'a> {
-    ghost passes = { λ b n. is_below b.run.end b.run.shape b.run.body.now (value_at b.values.now n) };
+    ghost passes = { λ b n. is_below b.run.end b.run.shape b.run.body.now (product_value_at b.values.now n) };
 
     #[inline(always)]
     fn test(&self, number: u32) -> bool {
@@ -66,15 +67,15 @@ impl<'a> Test for Below<'a> {
     }
 }
 
-// Which numbers stand before the run or in it.
+// A test of numbers: whether their products are before the run or in it.
 #[derive(Clone, Copy)]
 struct Within<'a> {
-    values: &'a Numbered,
+    values: &'a NumberedProducts,
     run: Run<'a>,
 }
 
 impl<'a> Test for Within<'a> {
-    ghost passes = { λ b n. (is_below b.run.end b.run.shape b.run.body.now (value_at b.values.now n) || in_run b.run.end b.run.shape b.run.body.now b.run.whole (value_at b.values.now n)) };
+    ghost passes = { λ b n. (is_below b.run.end b.run.shape b.run.body.now (product_value_at b.values.now n) || in_run b.run.end b.run.shape b.run.body.now b.run.whole (product_value_at b.values.now n)) };
 
     #[inline(always)]
     fn test(&self, number: u32) -> bool {
@@ -82,18 +83,18 @@ impl<'a> Test for Within<'a> {
     }
 }
 
-// The numbers whose products are in the run.
-pub(crate) fn in_run<'a>(values: &Numbered, order: &'a Blocks, run: Run) -> Piece<'a>
+// The numbers of the order whose products are in the run.
+pub(crate) fn in_run<'a>(values: &NumberedProducts, order: &'a Blocks, run: Run) -> BlockPiece<'a>
     requires { Rises run.end values.now order.now.items }
-    ensures { result ≡ filter (λ n. in_run run.entry.end run.entry.shape run.entry.body.now run.entry.whole (value_at values.now n)) order.now.items }
+    ensures { result ≡ filter (λ n. in_run run.entry.end run.entry.shape run.entry.body.now run.entry.whole (product_value_at values.now n)) order.now.items }
 {
     let below = Below { values, run };
     let within = Within { values, run };
     order.between(&below, &within)
 }
 
-// Puts a number after those whose products stand before its own. It takes no memory.
-pub(crate) fn put_number(values: &Numbered, order: &mut Blocks, end: End, number: u32)
+// Adds a number to the order, after the numbers whose products are before its product. Allocates: no.
+pub(crate) fn put_number(values: &NumberedProducts, order: &mut Blocks, end: End, number: u32)
     requires rises { Rises end values.now order.old.items }
     requires ready { order.old.ready ≡ true }
     ensures rises { Rises end values.now order.new.items }
@@ -110,8 +111,8 @@ pub(crate) fn put_number(values: &Numbered, order: &mut Blocks, end: End, number
     order.put(&below, number);
 }
 
-// Takes out a number: it goes over those with the same body. It takes no memory.
-pub(crate) fn take_number(values: &Numbered, order: &mut Blocks, end: End, number: u32)
+// Removes a number from the order. Visits the numbers whose products have the same body. Allocates: no.
+pub(crate) fn take_number(values: &NumberedProducts, order: &mut Blocks, end: End, number: u32)
     requires rises { Rises end values.now order.old.items }
     requires there { Contains order.old.items number }
     ensures rises { Rises end values.now order.new.items }

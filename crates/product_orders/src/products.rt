@@ -1,11 +1,11 @@
-// Products by number.
+// The products of names, by number, with both orders.
 ghost use Rattle.std.specs.Prelude.{◌≡◌, ◌≤◌, ℕ, [], length, Some, IsNone, IsSome, IfSome, IfOk, OnErr};
 ghost use Rattle.cpe_relation.specs.cpe_values.declared.value.Value.{Value};
 ghost use Rattle.cpe_relation.specs.cpe_values.Lower.{lower_value};
-ghost use Rattle.product_orders.specs.Listed.{product_at, value_at, Adds, Removes};
+ghost use Rattle.product_orders.specs.Listed.{product_at, product_value_at, AddsProduct, Removes};
 
 use crate::keys::End;
-use crate::numbered::Numbered;
+use crate::numbered::NumberedProducts;
 use crate::order::{put_number, take_number};
 use cpe_relation::{Memory, Value};
 use number_blocks::Blocks;
@@ -15,29 +15,30 @@ use std::marker::Model;
 /// Whether the asked product is the source of the relation, or its target.
 #[derive(Clone, Copy, Debug, PartialEq, Eq)]
 pub enum Side {
-    /// The others are targets.
+    /// The asked product is the source.
     Source,
-    /// The others are sources.
+    /// The asked product is the target.
     Target,
 }
 
-/// Different products in lower case by number. Contracts see what each number has.
+/// Different products in lower case by number. Contracts see the product of each number.
 ///
-/// A product keeps its number until it is removed; the number is free then, and a product that is added later may get it. A
-/// product with a short body takes some 85 bytes.
+/// A product keeps its number until it is removed. The number is free then, and a product that is added later may get
+/// it. A product with a short body takes about 85 bytes.
 #[derive(Drop)]
 pub struct Products {
-    pub(crate) values: Numbered,
-    // Their numbers by rank and body, and by rank and body from its end.
+    pub(crate) values: NumberedProducts,
+    // `fronts`: the numbers, sorted by shape and by body from the front. `backs`: the numbers, sorted by shape and by
+    // body from the back.
     pub(crate) fronts: Blocks,
     pub(crate) backs: Blocks,
 }
 
 impl Model for Products {
-    ghost use Rattle.product_orders.specs.Listed.{Listed};
+    ghost use Rattle.product_orders.specs.Listed.{ProductList};
     ghost use Rattle.product_orders.specs.Near.{AreOrders};
 
-    ghost Value = { Listed };
+    ghost Value = { ProductList };
 
     ghost view = { λ p. p.values };
 
@@ -45,33 +46,33 @@ impl Model for Products {
 }
 
 impl Products {
-    /// No products. It takes no memory.
+    /// No products. Allocates: no.
     pub fn new(alloc: Global) -> Products
         ensures { result ≡ [] }
     {
         Products {
-            values: Numbered::new(alloc),
+            values: NumberedProducts::new(alloc),
             fronts: Blocks::new(alloc),
             backs: Blocks::new(alloc),
         }
     }
 
-    /// How many numbers there are, with those that are free: the number of each product is below.
+    /// How many numbers there are, including the free numbers. The number of each product is below this result.
     pub fn len(&self) -> usize
         ensures { result ≡ length self.now }
     {
         self.values.len()
     }
 
-    /// What is so of all products: they are in lower case, and different. It does nothing, and tells a proof so.
+    /// Law: all products are in lower case, and different.
     pub fn lawful(&self)
-        ensures lower { (number : ℕ) → lower_value (value_at self.now number) ≡ value_at self.now number }
+        ensures lower { (number : ℕ) → lower_value (product_value_at self.now number) ≡ product_value_at self.now number }
         ensures different { (m n : ℕ) (v : Value) → product_at self.now m ≡ Some v → product_at self.now n ≡ Some v → m ≡ n }
     {
         self.values.lawful();
     }
 
-    /// The number of a product, by its hash. None exactly where no number has it.
+    /// The number of a product, or none exactly if no number has this product. The product is found by its hash.
     pub fn find(&self, value: &Value) -> Option<u32>
         ensures found { IfSome result (λ number. product_at self.now number ≡ Some value.now) }
         ensures none { IsNone result → (number : ℕ) → product_at self.now number ≡ Some value.now → ⊥ }
@@ -79,14 +80,14 @@ impl Products {
         self.values.find(value)
     }
 
-    /// Adds a product, which gets a number that is free, or the next one.
+    /// Adds a new product, and returns its number: one that was free, or the next number.
     ///
     /// # Errors
-    /// That memory or numbers below 2^32 - 1 ran out; the products are then as they were.
+    /// Memory ran out, or no number below 2^32 - 1 is free; the products are then unchanged.
     pub fn add(&mut self, value: Value) -> Result<u32, Memory>
         requires fresh { (number : ℕ) → product_at self.old number ≡ Some value → ⊥ }
         requires lower { lower_value value ≡ value }
-        ensures added { IfOk result (λ number. Adds self.old self.new number value) }
+        ensures added { IfOk result (λ number. AddsProduct self.old self.new number value) }
         ensures few { IfOk result (λ number. number ≤ length self.old) }
         ensures err { OnErr result (self.new ≡ self.old) }
     {
@@ -98,8 +99,8 @@ impl Products {
         Ok(number)
     }
 
-    /// Takes a product out, and gives its memory back. Its number is free then, and the others keep theirs. It looks it up in both
-    /// orders, where it goes over the products of its shape with the same body, and takes no memory.
+    /// Removes the product of a number, and releases its memory. The number is free then; the other products keep their
+    /// numbers. The number is searched in both orders, among the products with the same shape and body. Allocates: no.
     pub fn remove(&mut self, number: u32)
         requires { IsSome (product_at self.old number) }
         ensures { Removes self.old self.new number }

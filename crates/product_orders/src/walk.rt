@@ -9,29 +9,31 @@ ghost use Rattle.product_orders.specs.declared.keys.End.TheVariants as end;
 ghost use Rattle.product_orders.specs.declared.keys.Shape.TheVariants as shapes;
 ghost use Rattle.product_orders.specs.Elements.{SameElements};
 ghost use Rattle.product_orders.specs.Keys.{in_run, shape_of, body_of};
-ghost use Rattle.product_orders.specs.Listed.{value_at, live};
+ghost use Rattle.product_orders.specs.Listed.{product_value_at, live};
 ghost use Rattle.product_orders.specs.Near.{near_on};
-ghost use Rattle.product_orders.specs.Walk.{runs, all_runs};
+ghost use Rattle.product_orders.specs.Walk.{shape_runs, all_runs};
 
 use crate::keys::{End, Shape, text_shape};
-use crate::numbered::Numbered;
+use crate::numbered::NumberedProducts;
 use crate::order::{Run, in_run};
 use crate::products::{Products, Side};
 use cpe_relation::{Pattern, Value};
-use number_blocks::{Blocks, Piece};
+use number_blocks::{BlockPiece, Blocks};
 use std::marker::Model;
 
-/// The numbers of products near a product on a side, each once. Contracts see those that are left. A step takes no memory.
+/// The numbers of the products near a given product, each once. Contracts see the numbers that are left. A step doesn't
+/// allocate.
 #[derive(Drop)]
 pub struct NearProducts<'a> {
-    values: &'a Numbered,
+    values: &'a NumberedProducts,
     order: &'a Blocks,
-    // What is left of three runs, one after another.
-    first: Piece<'a>,
-    second: Piece<'a>,
-    third: Piece<'a>,
-    // A plain text, and how many of its prefixes and of its ends, from the longest, may still be the body of a product with
-    // only a trail or only a lead.
+    // The numbers that are left of three runs, which are visited in this order.
+    first: BlockPiece<'a>,
+    second: BlockPiece<'a>,
+    third: BlockPiece<'a>,
+    // `text`: the body of a plain text. `fronts`: how many of its prefixes are still to be tried as the body of a
+    // product with only a trail. `ends`: how many of its suffixes are still to be tried as the body of a product with
+    // only a lead. The longest is tried first.
     text: &'a [u8],
     fronts: usize,
     ends: usize,
@@ -39,16 +41,16 @@ pub struct NearProducts<'a> {
 
 impl<'a> Model for NearProducts<'a> {
     ghost use Rattle.std.specs.Prelude.{ℕ, List, ◌++◌};
-    ghost use Rattle.product_orders.specs.Walk.{all_runs, StandsIn};
+    ghost use Rattle.product_orders.specs.Walk.{all_runs, IsWalkIn};
 
     ghost Value = { List ℕ };
 
     ghost view = { λ a. a.first ++ a.second ++ a.third ++ all_runs a.values.now a.order.now.items a.text.now a.fronts a.ends };
 
-    ghost invariant = { λ a. StandsIn a.values.now a.order.now.items a.text.now a.fronts a.ends };
+    ghost invariant = { λ a. IsWalkIn a.values.now a.order.now.items a.text.now a.fronts a.ends };
 }
 
-// So many last bytes.
+// The last `len` bytes of the text.
 fn end_of(text: &[u8], len: usize) -> &[u8]
     requires { len ≤ length text.now }
     ensures { result.now ≡ drop (length text.now - len) text.now }
@@ -56,7 +58,7 @@ fn end_of(text: &[u8], len: usize) -> &[u8]
     &text[text.len() - len..]
 }
 
-fn are_empty(run: &Piece<'_>, other: &Piece<'_>) -> bool
+fn are_empty(run: &BlockPiece<'_>, other: &BlockPiece<'_>) -> bool
     ensures empty { OnTrue result ((run.now ≡ []) × (other.now ≡ [])) }
     ensures some { OnFalse result (0 < length run.now + length other.now) }
 {
@@ -75,7 +77,7 @@ impl<'a> Iterator for NearProducts<'a> {
             if !are_empty(&self.second, &self.third) {
                 self.first = self.second.again();
                 self.second = self.third.again();
-                self.third = Piece::none();
+                self.third = BlockPiece::none();
             } else if self.fronts > 0 {
                 self.fronts -= 1;
                 let run = Run {
@@ -103,9 +105,9 @@ impl<'a> Iterator for NearProducts<'a> {
 }
 
 impl Products {
-    // The products of a shape that begin with the body, or whose body it is.
-    fn front_run(&self, shape: Shape, body: &[u8], whole: bool) -> Piece<'_>
-        ensures { SameElements (filter (λ n. in_run end.Front shape body.now whole (value_at self.now n)) (live self.now)) result }
+    // The products of a shape whose bodies begin with `body`, or equal `body` if `whole`.
+    fn front_run(&self, shape: Shape, body: &[u8], whole: bool) -> BlockPiece<'_>
+        ensures { SameElements (filter (λ n. in_run end.Front shape body.now whole (product_value_at self.now n)) (live self.now)) result }
     {
         let run = Run {
             end: End::Front,
@@ -116,9 +118,9 @@ impl Products {
         in_run(&self.values, &self.fronts, run)
     }
 
-    // The products of a shape that have the body at the end.
-    fn end_run(&self, shape: Shape, body: &[u8]) -> Piece<'_>
-        ensures { SameElements (filter (λ n. in_run end.Back shape body.now false (value_at self.now n)) (live self.now)) result }
+    // The products of a shape whose bodies end with `body`.
+    fn end_run(&self, shape: Shape, body: &[u8]) -> BlockPiece<'_>
+        ensures { SameElements (filter (λ n. in_run end.Back shape body.now false (product_value_at self.now n)) (live self.now)) result }
     {
         let run = Run {
             end: End::Back,
@@ -129,25 +131,25 @@ impl Products {
         in_run(&self.values, &self.backs, run)
     }
 
-    // The number of a plain text, where it is a product: found by its hash.
-    fn same_text(&self, asked: &Value) -> Piece<'_>
+    // The number of a plain text, if it is a product. It is found by its hash.
+    fn same_text(&self, asked: &Value) -> BlockPiece<'_>
         requires { shape_of asked.now ≡ shapes.Plain }
-        ensures { SameElements (filter (λ n. in_run end.Front shapes.Plain (body_of asked.now) true (value_at self.now n)) (live self.now)) result }
+        ensures { SameElements (filter (λ n. in_run end.Front shapes.Plain (body_of asked.now) true (product_value_at self.now n)) (live self.now)) result }
     {
-        Piece::of(self.values.find_alone(asked))
+        BlockPiece::of(self.values.find_alone(asked))
     }
 
-    fn all(&self) -> Piece<'_>
+    fn all(&self) -> BlockPiece<'_>
         ensures { SameElements (live self.now) result }
     {
         self.fronts.all()
     }
 
     // The products to which a text is near: one run.
-    fn near_text(&self, asked: &Value, text: &Pattern) -> Piece<'_>
+    fn near_text(&self, asked: &Value, text: &Pattern) -> BlockPiece<'_>
         requires is { asked.now ≡ Text text.now }
         requires lower { lower_value (Text text.now) ≡ Text text.now }
-        ensures { SameElements (filter (λ n. near (Text text.now) (value_at self.now n)) (live self.now)) result }
+        ensures { SameElements (filter (λ n. near (Text text.now) (product_value_at self.now n)) (live self.now)) result }
     {
         self.lawful();
         match text_shape(text) {
@@ -159,9 +161,9 @@ impl Products {
     }
 
     // The products to which a product is near: one run.
-    fn near_targets(&self, asked: &Value) -> Piece<'_>
+    fn near_targets(&self, asked: &Value) -> BlockPiece<'_>
         requires { lower_value asked.now ≡ asked.now }
-        ensures { SameElements (filter (λ n. near asked.now (value_at self.now n)) (live self.now)) result }
+        ensures { SameElements (filter (λ n. near asked.now (product_value_at self.now n)) (live self.now)) result }
     {
         self.lawful();
         match asked {
@@ -171,10 +173,11 @@ impl Products {
         }
     }
 
-    // How many prefixes of a text, or ends of it, may be the body of a product of the shape: none where no product has the shape.
+    // How many prefixes (or suffixes) of a text can be the body of a product of the shape: none if no product has the
+    // shape.
     fn piece_count(&self, shape: Shape, text: &[u8]) -> usize
         ensures few { result ≤ length text.now + 1 }
-        ensures enough { (piece : ℕ → List ℕ) → SameElements (runs self.now (live self.now) shape piece (length text.now + 1)) (runs self.now (live self.now) shape piece result) }
+        ensures enough { (piece : ℕ → List ℕ) → SameElements (shape_runs self.now (live self.now) shape piece (length text.now + 1)) (shape_runs self.now (live self.now) shape piece result) }
     {
         if self.front_run(shape, &[], false).is_empty() {
             return 0;
@@ -182,13 +185,14 @@ impl Products {
         text.len() + 1
     }
 
-    // Three runs, and then the products with only a trail whose bodies are prefixes of the text that are shorter than `fronts`,
-    // and those with only a lead whose bodies are ends of it that are shorter than `ends`.
+    // A walk over three runs, and then over products whose body is a part of the text. First, products with only a
+    // trail whose body is a prefix shorter than `fronts`. Then, products with only a lead whose body is a suffix
+    // shorter than `ends`.
     fn in_runs<'a>(
         &'a self,
-        first: Piece<'a>,
-        second: Piece<'a>,
-        third: Piece<'a>,
+        first: BlockPiece<'a>,
+        second: BlockPiece<'a>,
+        third: BlockPiece<'a>,
         text: &'a [u8],
         fronts: usize,
         ends: usize,
@@ -212,15 +216,15 @@ impl Products {
     // The products that are near a plain text.
     fn near_plain<'a>(
         &'a self,
-        any: Piece<'a>,
+        any: BlockPiece<'a>,
         asked: &Value,
         text: &'a Pattern,
     ) -> NearProducts<'a>
         requires is { asked.now ≡ Text text.now }
         requires lower { lower_value (Text text.now) ≡ Text text.now }
         requires plain { shape_of (Text text.now) ≡ shapes.Plain }
-        requires any { SameElements (filter (λ n. in_run end.Front shapes.Any [] false (value_at self.now n)) (live self.now)) any }
-        ensures { SameElements (filter (λ n. near (value_at self.now n) (Text text.now)) (live self.now)) result }
+        requires any { SameElements (filter (λ n. in_run end.Front shapes.Any [] false (product_value_at self.now n)) (live self.now)) any }
+        ensures { SameElements (filter (λ n. near (product_value_at self.now n) (Text text.now)) (live self.now)) result }
     {
         self.lawful();
         let body = text.stem();
@@ -234,39 +238,41 @@ impl Products {
     // The products that are near a product.
     fn near_sources<'a>(&'a self, asked: &'a Value) -> NearProducts<'a>
         requires { lower_value asked.now ≡ asked.now }
-        ensures { SameElements (filter (λ n. near (value_at self.now n) asked.now) (live self.now)) result }
+        ensures { SameElements (filter (λ n. near (product_value_at self.now n) asked.now) (live self.now)) result }
     {
         let any = self.front_run(Shape::Any, &[], false);
         match asked {
-            Value::Any => self.in_runs(any, Piece::none(), Piece::none(), &[], 0, 0),
+            Value::Any => self.in_runs(any, BlockPiece::none(), BlockPiece::none(), &[], 0, 0),
             Value::Na => self.in_runs(
                 any,
                 self.front_run(Shape::Na, &[], false),
-                Piece::none(),
+                BlockPiece::none(),
                 &[],
                 0,
                 0,
             ),
             Value::Text(text) => match text_shape(text) {
                 Shape::Plain => self.near_plain(any, asked, text),
-                _ => self.in_runs(any, Piece::none(), Piece::none(), &[], 0, 0),
+                _ => self.in_runs(any, BlockPiece::none(), BlockPiece::none(), &[], 0, 0),
             },
         }
     }
 
-    /// A walk over the numbers of the products that are near this one, which is the source or the target. It takes no memory. A
-    /// plain text is found by its hash. Any other source looks up one run of one of the orders. A target looks up, where ANY is
-    /// a product or one has a special, those of each such shape; where products with a trail alone are there, one run more for
-    /// each of its prefixes; and where products with a lead alone are there, one for each of its ends.
+    /// A walk over the numbers of the products that are near `asked`, which is the source or the target. Allocates: no.
+    ///
+    /// A plain text as source is found by its hash, and any other source by one run of one of the orders. For a plain
+    /// text as target, the walk has a run for ANY, the text itself, and a run for the products with lead and trail. If
+    /// there are products with only a trail, it has a run for each prefix of the text. If there are products with only
+    /// a lead, it has a run for each suffix. For any other target, the walk has at most two runs.
     pub fn near<'a>(&'a self, asked: &'a Value, side: Side) -> NearProducts<'a>
         requires { lower_value asked.now ≡ asked.now }
-        ensures { SameElements (filter (λ n. near_on side asked.now (value_at self.now n)) (live self.now)) result }
+        ensures { SameElements (filter (λ n. near_on side asked.now (product_value_at self.now n)) (live self.now)) result }
     {
         match side {
             Side::Source => self.in_runs(
                 self.near_targets(asked),
-                Piece::none(),
-                Piece::none(),
+                BlockPiece::none(),
+                BlockPiece::none(),
                 &[],
                 0,
                 0,

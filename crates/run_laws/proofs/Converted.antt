@@ -17,8 +17,8 @@ use Rattle.cpe_rows.specs.cpe_name.Eleven.{Values}
 use Rattle.cpe_rows.specs.cpe_name.Names.{value_of, IsName}
 use Rattle.cpe_rows.specs.cpe_name.Text.{attribute_name}
 use Rattle.cpe_rows.proofs.cpe_name.WholeTexts.{good_value}
-use Rattle.cpe_rows.specs.cpe_fs.Grammar.{component}
-use Rattle.proof_lines.specs.cpe_uri.Canon.{is_any}
+use Rattle.cpe_rows.specs.cpe_fs.Grammar.{fs_component}
+use Rattle.certificate_records.specs.cpe_uri.Canon.{is_any_component}
 use Rattle.cpe_rows.specs.Date.{is_date}
 use Rattle.cpe_rows.specs.FactNames.{fact_names, fact_names_step}
 use Rattle.cpe_rows.specs.Formed.{IsDated}
@@ -45,7 +45,7 @@ use Rattle.cpe_rows.specs.declared.test.Test.TheOpen.{Test-F}
 use Rattle.cpe_rows.specs.declared.test.Test.TheViews.{roll-Test}
 use Rattle.cpe_rows.specs.declared.test.Test.TheFolds.{fold-roll-Test, ind-Test, map-Test}
 use Rattle.cpe_rows.proofs.TestNames.{names-logic}
-use Rattle.cpe_records.specs.cpe_members.Words.{kind_word, note_kind_word, mode_word, operator_word}
+use Rattle.cpe_records.specs.record_members.Words.{kind_word, note_kind_word, mode_word, operator_word}
 use Rattle.cpe_records.specs.Edited.{line_edited}
 use Rattle.cpe_records.specs.Read.{IsRead, IsReadEdit, IsReadQuery}
 use Rattle.cpe_records.specs.Reading.{record_of}
@@ -57,26 +57,26 @@ use Rattle.cpe_records.specs.declared.record_kind.RecordKind.{RecordKind}
 use Rattle.cpe_records.specs.declared.record_kind.RecordKind.TheVariants as record_kind
 use Rattle.cpe_records.proofs.RecordReads.{line_read}
 use Rattle.cpe_records.proofs.TestReads.{keys-logic}
-use Rattle.cpe_snapshot.specs.States.{IsString, IsTextKey, keys_of, keys_step}
-use Rattle.proof_lines.specs.written_records.NameObject.{sorted_attributes, with_value, with_values, name_object}
-use Rattle.proof_lines.specs.written_records.Written.{items_by, note_json, provenance_json}
-use Rattle.proof_lines.specs.written_records.WrittenRecord.{key_json, items_of, test_json, version, about_json, about_id_json, change_json, edit_json, query_json, record_json, record_text}
-use Rattle.proof_lines.proofs.written_records.Printed.{IsAscii-component, IsAscii-date}
-use Rattle.proof_lines.proofs.written_records.TestForms.{json-logic, json-fact, json-check}
-use Rattle.cpe_command.specs.cpe_session.Folding.{folded}
-use Rattle.cpe_command.specs.cpe_session.Task.{Transcript, speech, spoken}
-use Rattle.cpe_convert.specs.Convert.{convert_session}
-use Rattle.cpe_convert.specs.Growing.{IsGrown, IsWhole}
-use Rattle.run_laws.specs.Theorems.{rows_of, Writes, ConvertedIsSame}
+use Rattle.snapshot_bytes.specs.States.{IsString, IsTextKey, keys_of, stored_keys_step}
+use Rattle.certificate_records.specs.record_writer.NameObject.{sorted_attributes, with_value, with_values, name_object}
+use Rattle.certificate_records.specs.record_writer.Written.{items_by, note_json, provenance_json}
+use Rattle.certificate_records.specs.record_writer.WrittenRecord.{key_json, items_of, test_json, version, about_json, about_id_json, change_json, edit_json, query_json, record_json, record_text}
+use Rattle.certificate_records.proofs.record_writer.Printed.{IsAscii-component, IsAscii-date}
+use Rattle.certificate_records.proofs.record_writer.TestForms.{json-logic, json-fact, json-check}
+use Rattle.cpe_command.specs.line_session.Folding.{folded_lines}
+use Rattle.cpe_command.specs.line_session.Task.{Transcript, speech, spoken}
+use Rattle.convert_lines.specs.Convert.{convert_session}
+use Rattle.convert_lines.specs.Growing.{IsGrown, IsWhole}
+use Rattle.run_laws.specs.Theorems.{rows_of_lines, WritesTranscript, ConvertedIsSame}
 use Rattle.run_laws.proofs.Writing.{word_text}
 
 -- ---- names
 
 member_text : (name : List ℕ) (v : Value) (rest : json.Members) → IsUtf8 name → IsValue v → MembersWriteTexts rest → MembersWriteTexts (with_value name v rest)
-member_text name v rest key h more = by (is_any v) where
-  by : (b : Bool) → MembersWriteTexts (if b then rest else json.member name (json.string (component v)) rest)
+member_text name v rest key h more = by (is_any_component v) where
+  by : (b : Bool) → MembersWriteTexts (if b then rest else json.member name (json.string (fs_component v)) rest)
   by true = more
-  by false = (key, IsUtf8-from_ascii (component v) (IsAscii-component v h), more)
+  by false = (key, IsUtf8-from_ascii (fs_component v) (IsAscii-component v h), more)
 
 attribute_text : (a : Attribute) → IsUtf8 (attribute_name a)
 attribute_text Part = IsUtf8-are_ascii _ refl
@@ -148,7 +148,7 @@ rolled (Test-F.Fact n) h =
     let names = subst (AllByRecursion IsName) (fold-roll-Test (List Values) fact_names_step (Test-F.Fact n)) h.0 in
     subst WritesTexts (sym (json-fact (roll-Test (Test-F.Fact n)) n (rolls-Fact n))) (IsUtf8-are_ascii _ refl, name_text n names.0, tt)
 rolled (Test-F.Check k) h =
-    let keys = subst (AllByRecursion IsTextKey) (fold-roll-Test (List CheckKey) keys_step (Test-F.Check k)) h.1 in
+    let keys = subst (AllByRecursion IsTextKey) (fold-roll-Test (List CheckKey) stored_keys_step (Test-F.Check k)) h.1 in
     subst WritesTexts (sym (json-check (roll-Test (Test-F.Check k)) k (rolls-Check k))) (IsUtf8-are_ascii _ refl, key_text k keys.0, tt)
 
 test_text : (t : Test) → WritesTest t
@@ -271,7 +271,7 @@ module _ (prints : PrintsAreTexts) where
   all_whole (line ∷ more) = (line_whole line, all_whole more)
 
   pub converted_is_same : ((rows : Rows) (ls : List (Option (List ℕ))) → AllByRecursion (λ line. IsGrown line → ⊥) ls → AllByRecursion IsWhole ls
-      → folded line_edited rows (lines (spoken (speech convert_session tt) ls).text) ≡ folded line_edited rows ls)
+      → folded_lines line_edited rows (lines (spoken (speech convert_session tt) ls).text) ≡ folded_lines line_edited rows ls)
       → ConvertedIsSame
   converted_is_same same input converted h grown =
-      ap (λ (t : Transcript). rows_of (lines t.text)) h ∙ same no_rows (lines input) grown (all_whole (lines input))
+      ap (λ (t : Transcript). rows_of_lines (lines t.text)) h ∙ same no_rows (lines input) grown (all_whole (lines input))

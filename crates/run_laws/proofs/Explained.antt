@@ -9,36 +9,36 @@ use Rattle.std.proofs.lemmas.Slice.Eq.{bytes_eq-Decides}
 use Rattle.cpe_rows.proofs.KeyTests.{other_bytes}
 use Rattle.cpe_rows.proofs.Lists.{not_element}
 use Rattle.cpe_command.specs.cpe_io.Lines.{lines}
-use Rattle.cpe_command.specs.cpe_session.Session.{Stage, start, stage_after, after_next, line_says, next_writes, out_from, state_after, writes}
-use Rattle.cpe_command.specs.cpe_session.Task.{Transcript}
-use Rattle.cpe_command.proofs.cpe_session.SessionLemmas.{out_from-append}
+use Rattle.cpe_command.specs.line_session.Session.{Stage, start, stage_after, after_next, line_says, next_writes, out_from, state_after, writes}
+use Rattle.cpe_command.specs.line_session.Task.{Transcript}
+use Rattle.cpe_command.proofs.line_session.SessionLemmas.{out_from-append}
 use Rattle.cpe_rows.specs.Rows.{Rows, no_rows, has_id}
 use Rattle.cpe_rows.specs.Reach.{Among}
 use Rattle.cpe_rows.specs.Lawful.{IsLawful, are_different}
 use Rattle.cpe_rows.specs.declared.statement.Statement.{Statement}
-use Rattle.checked_certificates.specs.Checks.{GoodProofsAreRight}
-use Rattle.checked_certificates.specs.Good.{Good}
-use Rattle.checked_certificates.specs.Tested.{test_passes}
-use Rattle.checked_certificates.specs.declared.proof.Checked.{Checked}
-use Rattle.checked_certificates.specs.declared.proof.Checked.TheVariants.{Holds, Fails, Absent}
-use Rattle.checked_certificates.specs.declared.proof.Proof.{Proof}
-use Rattle.checked_certificates.specs.declared.proof.Why.{Why}
-use Rattle.checked_certificates.proofs.Told.{told}
-use Rattle.cpe_explain.specs.Choices.{certificate}
-use Rattle.cpe_explain.specs.Laws.{CertificatesAreGood}
+use Rattle.certificate_check.specs.Checks.{GoodCertificatesAreRight}
+use Rattle.certificate_check.specs.Good.{Good}
+use Rattle.certificate_check.specs.Tested.{test_passes}
+use Rattle.certificate_check.specs.declared.certificate.Checked.{Checked}
+use Rattle.certificate_check.specs.declared.certificate.Checked.TheVariants.{Holds, Fails, Absent}
+use Rattle.certificate_check.specs.declared.certificate.Certificate.{Certificate}
+use Rattle.certificate_check.specs.declared.certificate.Why.{Why}
+use Rattle.certificate_check.proofs.TestedLemmas.{tested}
+use Rattle.certificate_search.specs.Choices.{explained_certificate}
+use Rattle.certificate_search.specs.Laws.{CertificatesAreGood}
 use Rattle.cpe_records.specs.JsonTexts.{PrintsAreTexts}
 use Rattle.json.specs.Print.{print_from}
-use Rattle.proof_lines.specs.Reading.{proof_of}
-use Rattle.proof_lines.specs.Written.{proof_text}
-use Rattle.proof_lines.specs.declared.fault.ProofFault.{ProofFault}
-use Rattle.proof_lines.proofs.GoodForms.{good_has_names}
+use Rattle.certificate_records.specs.Reading.{certificate_read_of}
+use Rattle.certificate_records.specs.Written.{certificate_text}
+use Rattle.certificate_records.specs.declared.fault.CertificateFault.{CertificateFault}
+use Rattle.certificate_records.proofs.GoodForms.{good_has_names}
 use Rattle.cpe_records.specs.Reading.{record_of}
-use Rattle.cpe_convert.specs.cpe_replies.Proofs.{certificate_lines, checked_line, checked_word}
-use Rattle.cpe_command.specs.record_lines.Checking.{checked}
-use Rattle.cpe_command.specs.record_lines.Records.{by_proof, by_record, record_session}
-use Rattle.cpe_command.specs.record_lines.declared.records.RecordCommand.TheVariants.{Check, Explain}
-use Rattle.cpe_snapshot.specs.States.{IsTextStatement}
-use Rattle.run_laws.specs.Theorems.{rows_of, AreKept, Writes, certificates, LinesAreCheckedInTurn, EndsWithCertificates, EndsWithHolds, ExplainedIsChecked, HasVerdict, HeldIsVerdict}
+use Rattle.convert_lines.specs.line_replies.CertificateReplies.{certificate_lines, checked_line, checked_word}
+use Rattle.cpe_command.specs.Checking.{checked}
+use Rattle.cpe_command.specs.Records.{by_certificate_line, by_record, record_session}
+use Rattle.cpe_command.specs.declared.records.RecordCommand.TheVariants.{Check, Explain}
+use Rattle.snapshot_bytes.specs.States.{IsTextStatement}
+use Rattle.run_laws.specs.Theorems.{rows_of_lines, AreLawfulTexts, WritesTranscript, certificates, LinesAreCheckedInTurn, EndsWithCertificates, EndsWithHolds, ExplainedIsChecked, HasVerdict, HeldIsVerdict}
 use Rattle.run_laws.proofs.Folded.{rows_kept}
 use Rattle.run_laws.proofs.Saved.{rows_after}
 use Rattle.run_laws.proofs.Writing.{written_text}
@@ -71,12 +71,12 @@ said_of rows w o = option_map_or (λ s. if test_passes rows s.mode s.test w then
 checked_holds : (rows : Rows) → IsLawful rows → (s : Statement) → Among rows.statements s → (w : Why) → Good rows s w → checked rows (record { id = s.id; why = w }) ≡ Holds
 unfolding checked
 checked_holds rows lawful s there w good =
-    ap (said_of rows w) (found_at rows.statements s lawful.ids_differ there) ∙ ap (λ b. if b then Holds else Fails) ((told rows lawful s.mode s.test w).1 good)
+    ap (said_of rows w) (found_at rows.statements s lawful.ids_differ there) ∙ ap (λ b. if b then Holds else Fails) ((tested rows lawful s.mode s.test w).1 good)
 
-module _ (right : GoodProofsAreRight) (rows : Rows) (lawful : IsLawful rows) (p : Proof) where
+module _ (right : GoodCertificatesAreRight) (rows : Rows) (lawful : IsLawful rows) (p : Certificate) where
   by_test : (s : Statement) → find (has_id p.id) rows.statements ≡ Some s → (b : Bool) → test_passes rows s.mode s.test p.why ≡ b → (if b then Holds else Fails) ≡ Holds → HasVerdict rows p
   by_test s found true passes holds =
-      let good : Good rows s p.why = (told rows lawful s.mode s.test p.why).0 passes in
+      let good : Good rows s p.why = (tested rows lawful s.mode s.test p.why).0 passes in
       record { statement = s; found = found; good = good; gives = right rows s p.why good }
   by_test s found false passes holds = let wrong : ⊥ = cc in absurd wrong
 
@@ -114,21 +114,21 @@ has_bytes [] = false
 has_bytes (x ∷ xs) = true
 
 -- the text of a certificate has bytes: it begins with a brace
-text_has_bytes : (p : Proof) → has_bytes (proof_text p) ≡ true
-unfolding proof_text print_from
+text_has_bytes : (p : Certificate) → has_bytes (certificate_text p) ≡ true
+unfolding certificate_text print_from
 text_has_bytes p = refl
 
-module _ (rows : Rows) (number : ℕ) (text : List ℕ) (p : Proof) where
-  by_certificate : (r : Result (Option Proof) ProofFault) → r ≡ Ok (Some p) → by_proof rows r (by_record Check number rows (record_of text)) ≡ Ok (checked_line p.id (checked rows p), rows)
-  by_certificate r is = ap (λ (q : Result (Option Proof) ProofFault). by_proof rows q (by_record Check number rows (record_of text))) is
+module _ (rows : Rows) (number : ℕ) (text : List ℕ) (p : Certificate) where
+  by_certificate : (r : Result (Option Certificate) CertificateFault) → r ≡ Ok (Some p) → by_certificate_line rows r (by_record Check number rows (record_of text)) ≡ Ok (checked_line p.id (checked rows p), rows)
+  by_certificate r is = ap (λ (q : Result (Option Certificate) CertificateFault). by_certificate_line rows q (by_record Check number rows (record_of text))) is
 
-line_checked : (rows : Rows) (number : ℕ) (text : List ℕ) (p : Proof) → proof_of text ≡ Ok (Some p) → has_bytes text ≡ true
+line_checked : (rows : Rows) (number : ℕ) (text : List ℕ) (p : Certificate) → certificate_read_of text ≡ Ok (Some p) → has_bytes text ≡ true
     → line_says (record_session Check) rows number (Some text) ≡ Ok (checked_line p.id (checked rows p), rows)
 line_checked rows number [] p is some = let wrong : ⊥ = cc in absurd wrong
-line_checked rows number (x ∷ xs) p is some = by_certificate rows number (x ∷ xs) p (proof_of (x ∷ xs)) is
+line_checked rows number (x ∷ xs) p is some = by_certificate rows number (x ∷ xs) p (certificate_read_of (x ∷ xs)) is
 
 -- if `check` says that a line's certificate holds, the result of its test is that it holds
-by_bytes : (rows : Rows) (number : ℕ) (line : List ℕ) (p : Proof) → proof_of line ≡ Ok (Some p)
+by_bytes : (rows : Rows) (number : ℕ) (line : List ℕ) (p : Certificate) → certificate_read_of line ≡ Ok (Some p)
     → writes false number (line_says (record_session Check) rows number (Some line)) ≡ checked_line p.id Holds → checked_line p.id (checked rows p) ≡ checked_line p.id Holds
 by_bytes rows number [] p is holds = let wrong : ⊥ = cc in absurd wrong
 by_bytes rows number (x ∷ xs) p is holds = sym (ap (writes false number) (line_checked rows number (x ∷ xs) p is refl)) ∙ holds
@@ -140,50 +140,50 @@ after_line = after_next (record_session Check)
 
 module _ (prints : PrintsAreTexts) (good : CertificatesAreGood)
     (read : (rows : Rows) → IsLawful rows → (s : Statement) → Among rows.statements s → (w : Why) → Good rows s w
-    → IsUtf8 (proof_text (record { id = s.id; why = w })) → proof_of (proof_text (record { id = s.id; why = w })) ≡ Ok (Some (record { id = s.id; why = w }))) where
-  module _ (rows : Rows) (kept : AreKept rows) (s : Statement) (there : Among rows.statements s) where
-    is_good : Good rows s (certificate rows s).why
+    → IsUtf8 (certificate_text (record { id = s.id; why = w })) → certificate_read_of (certificate_text (record { id = s.id; why = w })) ≡ Ok (Some (record { id = s.id; why = w }))) where
+  module _ (rows : Rows) (kept : AreLawfulTexts rows) (s : Statement) (there : Among rows.statements s) where
+    is_good : Good rows s (explained_certificate rows s).why
     is_good = good rows kept.lawful s
 
-    is_read : proof_of (proof_text (certificate rows s)) ≡ Ok (Some (certificate rows s))
+    is_read : certificate_read_of (certificate_text (explained_certificate rows s)) ≡ Ok (Some (explained_certificate rows s))
     is_read =
-        read rows kept.lawful s there (certificate rows s).why is_good
-        (written_text prints (certificate rows s) (each_among IsTextStatement rows.statements s kept.texts.statements there).id
-        (good_has_names rows kept.lawful s there (certificate rows s).why is_good))
+        read rows kept.lawful s there (explained_certificate rows s).why is_good
+        (written_text prints (explained_certificate rows s) (each_among IsTextStatement rows.statements s kept.texts.statements there).id
+        (good_has_names rows kept.lawful s there (explained_certificate rows s).why is_good))
 
-    is_said : (number : ℕ) → line_says (record_session Check) rows number (Some (proof_text (certificate rows s))) ≡ Ok (checked_line s.id Holds, rows)
+    is_said : (number : ℕ) → line_says (record_session Check) rows number (Some (certificate_text (explained_certificate rows s))) ≡ Ok (checked_line s.id Holds, rows)
     is_said number =
-        line_checked rows number (proof_text (certificate rows s)) (certificate rows s) is_read (text_has_bytes (certificate rows s))
-        ∙ ap (λ (said : Checked). Ok (checked_line s.id said, rows)) (checked_holds rows kept.lawful s there (certificate rows s).why is_good)
+        line_checked rows number (certificate_text (explained_certificate rows s)) (explained_certificate rows s) is_read (text_has_bytes (explained_certificate rows s))
+        ∙ ap (λ (said : Checked). Ok (checked_line s.id said, rows)) (checked_holds rows kept.lawful s there (explained_certificate rows s).why is_good)
 
-  module _ (rows : Rows) (kept : AreKept rows) where
+  module _ (rows : Rows) (kept : AreLawfulTexts rows) where
     one_written : (stage : Stage Rows) → stage.state ≡ rows → (s : Statement) → Among rows.statements s
-        → (next_writes (record_session Check) stage (Some (proof_text (certificate rows s))) ≡ checked_line s.id Holds) × ((after_line stage (Some (proof_text (certificate rows s)))).state ≡ rows)
+        → (next_writes (record_session Check) stage (Some (certificate_text (explained_certificate rows s))) ≡ checked_line s.id Holds) × ((after_line stage (Some (certificate_text (explained_certificate rows s)))).state ≡ rows)
     one_written stage is s there =
-        let line = Some (proof_text (certificate rows s)) in
+        let line = Some (certificate_text (explained_certificate rows s)) in
         let said = ap (λ (now : Rows). line_says (record_session Check) now (stage.number + 1) line) is ∙ is_said rows kept s there (stage.number + 1) in
         (ap (writes false (stage.number + 1)) said, ap (state_after stage.state) said)
 
     all_written : (stage : Stage Rows) → stage.state ≡ rows → (ss : List Statement) → ((s : Statement) → Among ss s → Among rows.statements s)
-        → out_from (record_session Check) stage (map (λ s. Some (proof_text (certificate rows s))) ss) ≡ flat_map (λ s. checked_line s.id Holds) ss
+        → out_from (record_session Check) stage (map (λ s. Some (certificate_text (explained_certificate rows s))) ss) ≡ flat_map (λ s. checked_line s.id Holds) ss
     all_written stage is [] there = refl
     all_written stage is (s ∷ ss) there =
         let one = one_written stage is s (there s (inl refl)) in
-        let rest = all_written (after_line stage (Some (proof_text (certificate rows s)))) one.1 ss (λ t m. there t (inr m)) in
+        let rest = all_written (after_line stage (Some (certificate_text (explained_certificate rows s)))) one.1 ss (λ t m. there t (inr m)) in
         λ i. one.0 i ++ rest i
 
   -- ---- the runs
 
-  explained_ends : (input : List ℕ) (explained : Transcript) → Writes (codes "explain") input explained → EndsWithCertificates input explained
+  explained_ends : (input : List ℕ) (explained : Transcript) → WritesTranscript (codes "explain") input explained → EndsWithCertificates input explained
   explained_ends input explained h = record {
     answers = out_from (record_session Explain) (start no_rows) (lines input);
     text = ap (λ (t : Transcript). t.text) h ∙ ap (λ now. out_from (record_session Explain) (start no_rows) (lines input) ++ certificate_lines now) (rows_after Explain (lines input));
   }
 
-  checked_ends : (input both : List ℕ) (it : Transcript) → lines both ≡ lines input ++ certificates (rows_of (lines input)) → Writes (codes "check") both it → EndsWithHolds input it
+  checked_ends : (input both : List ℕ) (it : Transcript) → lines both ≡ lines input ++ certificates (rows_of_lines (lines input)) → WritesTranscript (codes "check") both it → EndsWithHolds input it
   checked_ends input both it joined h =
       let ls = lines input in
-      let rows = rows_of ls in
+      let rows = rows_of_lines ls in
       let stage = stage_after (record_session Check) (start no_rows) ls in
       record {
         answers = out_from (record_session Check) (start no_rows) ls;
@@ -208,9 +208,9 @@ lines_are_checked_in_turn input it before more line h splits =
 
 -- ---- a certificate that holds
 
-pub held_is_verdict : GoodProofsAreRight → HeldIsVerdict
+pub held_is_verdict : GoodCertificatesAreRight → HeldIsVerdict
 held_is_verdict right before line p is holds =
-    let rows = rows_of before in
+    let rows = rows_of_lines before in
     let stage = stage_after (record_session Check) (start no_rows) before in
     let number = stage.number + 1 in
     let moved = ap (λ (now : Rows). writes false number (line_says (record_session Check) now number (Some line))) (rows_after Check before) in

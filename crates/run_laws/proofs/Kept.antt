@@ -13,7 +13,7 @@ use Rattle.cpe_rows.specs.declared.entry.NoteKind.{NoteKind}
 use Rattle.cpe_rows.specs.declared.entry.NoteKind.TheVariants as note
 use Rattle.cpe_rows.specs.declared.test.CheckKey.{CheckKey}
 use Rattle.cpe_rows.specs.declared.truth.Truth.{Truth}
-use Rattle.cpe_snapshot.specs.States.{AreTexts, IsString, IsTextEntry, IsTextKey, IsTextStatement}
+use Rattle.snapshot_bytes.specs.States.{AreTexts, IsString, IsTextEntry, IsTextKey, IsTextStatement}
 use Rattle.cpe_records.specs.Texts.{IsTextEdit}
 
 pushed : {A : Type 0} (P : A → Type 0) (xs : List A) (x : A) → AllByRecursion P xs → P x → AllByRecursion P (xs ++ x ∷ [])

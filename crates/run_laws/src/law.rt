@@ -10,7 +10,7 @@ pub fn rows_are_kept()
 pub fn saved_is_loaded()
     ensures { SavedIsLoaded }
 {
-    cpe_snapshot::law::states_have_snapshots();
+    snapshot_bytes::law::states_have_snapshots();
 }
 
 /// The lines that `convert` writes for an input leave the rows that the input leaves, if no record of the input has
@@ -18,7 +18,7 @@ pub fn saved_is_loaded()
 pub fn converted_is_same()
     ensures { ConvertedIsSame }
 {
-    cpe_convert::law::written_rows_stay();
+    convert_lines::law::written_rows_stay();
     cpe_records::json_law::prints_are_texts();
 }
 
@@ -27,8 +27,8 @@ pub fn converted_is_same()
 pub fn explained_is_checked()
     ensures { ExplainedIsChecked }
 {
-    cpe_explain::law::certificates_are_good();
-    proof_lines::law::good_proofs_are_read();
+    certificate_search::law::certificates_are_good();
+    certificate_records::law::good_certificates_are_read();
     cpe_records::json_law::prints_are_texts();
 }
 
@@ -38,5 +38,5 @@ pub fn held_is_verdict()
     ensures in_turn { LinesAreCheckedInTurn }
     ensures verdict { HeldIsVerdict }
 {
-    checked_certificates::law::good_proofs_are_right();
+    certificate_check::law::good_certificates_are_right();
 }

@@ -14,7 +14,7 @@ use Rattle.cpe_rows.specs.declared.test.Operator.{Operator}
 use Rattle.cpe_rows.specs.declared.test.Test.{Test, Logic}
 use Rattle.cpe_rows.proofs.KeyTests.{key_is}
 use Rattle.cpe_rows.proofs.Within.{depth-logic}
-use Rattle.statement_rows.specs.Askers.{AreAsked, IsAsked, has_place, items_or_none, may_enter, trim_list, trim_list_if}
+use Rattle.statement_rows.specs.Askers.{AreAskers, IsAsked, has_place, askers_or_none, may_enter, trim_list, trim_list_if}
 use Rattle.statement_rows.specs.ByResult.{asks_one}
 use Rattle.statement_rows.specs.Readings.{check_keys, is_asked}
 use Rattle.statement_rows.specs.Tickets.{IsBelow, ends_with, is_empty, with_if, with_last, with_last_if, without_if}
@@ -50,11 +50,11 @@ with_last_new false t xs h = refl
 
 -- a change of one list keeps that no other list is empty
 pub asked_still : (old new : List (CheckKey × Vec ℕ Global)) (key : CheckKey) → ((other : CheckKey) → same_key key other ≡ false → lookup (same_key other) new ≡ lookup (same_key other) old)
-    → (IsAsked old key → IsAsked new key) → AreAsked old → AreAsked new
+    → (IsAsked old key → IsAsked new key) → AreAskers old → AreAskers new
 asked_still old new key others list asked other = go (same_key key other) refl where
   go : (b : Bool) → same_key key other ≡ b → IsAsked new other
   go true e = subst (IsAsked new) (key_is key other e) (list (asked key))
-  go false e = λ none. others other e ∙ asked other (sym (ap items_or_none (others other e)) ∙ none)
+  go false e = λ none. others other e ∙ asked other (sym (ap askers_or_none (others other e)) ∙ none)
 
 -- ---- lists with a place
 
@@ -65,9 +65,9 @@ ends_with-last t xs = go (ends_with t xs) refl where
   go false e = ends-last t xs
 
 -- if a list could end with a ticket, it still can
-pub may_step : (t : ℕ) (b : Bool) (first now : Option (Vec ℕ Global)) → items_or_none now ≡ with_last_if b t (items_or_none first) → (b ≡ false → now ≡ first)
+pub may_step : (t : ℕ) (b : Bool) (first now : Option (Vec ℕ Global)) → askers_or_none now ≡ with_last_if b t (askers_or_none first) → (b ≡ false → now ≡ first)
     → may_enter t first ≡ true → may_enter t now ≡ true
-may_step t true first now e others h = or_right (has_place now) (ends_with t (items_or_none now)) (ap (ends_with t) e ∙ ends_with-last t (items_or_none first))
+may_step t true first now e others h = or_right (has_place now) (ends_with t (askers_or_none now)) (ap (ends_with t) e ∙ ends_with-last t (askers_or_none first))
 may_step t false first now e others h = ap (may_enter t) (others refl) ∙ h
 
 pub place_step : {V : Type 0} (P : V → Type 0) (b c : Bool) (now next : V) → (c ≡ true → P next) → (c ≡ false → next ≡ now) → (b ≡ true → P now) → (b || c) ≡ true → P next

@@ -11,14 +11,14 @@ use Rattle.cpe_rows.specs.declared.test.CheckKey.{CheckKey}
 use Rattle.statement_rows.specs.declared.by_result.ByResult.{ByResult}
 use Rattle.statement_rows.specs.declared.row.Cause.{Cause}
 use Rattle.statement_rows.specs.declared.row.Cause.TheVariants.{Check, Fact}
-use Rattle.statement_rows.specs.declared.row.Row.{Row}
+use Rattle.statement_rows.specs.declared.row.JudgedRow.{JudgedRow}
 use Rattle.statement_rows.specs.ByResult.{asks_one, at_result, each_result, truth_with}
 use Rattle.statement_rows.specs.Readings.{FactTruths, check_keys, is_asked, truths_of}
-use Rattle.statement_rows.specs.Rows.{asks, each_verdict, judge_row, ticket_of, tickets, verdict_after, verdict_now}
+use Rattle.statement_rows.specs.Rows.{asks, each_verdict, judge_row, ticket_of, statement_tickets, verdict_after, verdict_now}
 use Rattle.statement_rows.specs.Tickets.{among}
-use Rattle.cpe_inventory.specs.ticket_list.Rising.{IsRisingBy}
-use Rattle.cpe_inventory.specs.Kept.{kept_truth}
-use Rattle.cpe_inventory.proofs.ticket_list.RisingLemmas.{all_passing}
+use Rattle.check_results.specs.ticket_list.Rising.{IsRisingBy}
+use Rattle.check_results.specs.Kept.{kept_truth}
+use Rattle.check_results.proofs.ticket_list.RisingLemmas.{all_passing}
 use Rattle.statement_rows.proofs.RowLemmas.{lower_differs, higher_differs}
 use Rattle.statement_rows.proofs.VerdictLemmas.{reading_agree}
 
@@ -55,7 +55,7 @@ only_key (x ∷ xs) key k h asked too = sym (first_that x xs h key asked) ∙ fi
 
 -- ---- the verdict that is read off a row
 
-pub verdict_read : (truth : FactTruths) (checks : List (CheckKey × Truth)) (key : CheckKey) (t : Truth) (r : Row) → t ≡ kept_truth checks key
+pub verdict_read : (truth : FactTruths) (checks : List (CheckKey × Truth)) (key : CheckKey) (t : Truth) (r : JudgedRow) → t ≡ kept_truth checks key
     → r.alone ≡ asks_one (check_keys r.numbered.value.statement.test)
     → (r.alone ≡ true → r.by_result ≡ each_verdict truth r.numbered.value.statement r.numbered.value.ids.items) → asks key r ≡ true
     → verdict_after (Check t) truth checks r ≡ verdict_now truth checks r
@@ -78,10 +78,10 @@ verdict_read truth checks key t r kept one each asked = go r.alone refl where
   go false e = refl
 
 -- to judge a row again changes nothing
-pub anew_again : (cause : Cause) (truth : FactTruths) (checks : List (CheckKey × Truth)) (r : Row)
+pub again_once_more : (cause : Cause) (truth : FactTruths) (checks : List (CheckKey × Truth)) (r : JudgedRow)
     → judge_row cause truth checks (judge_row cause truth checks r) ≡ judge_row cause truth checks r
-anew_again (Check t) truth checks r = refl
-anew_again Fact truth checks r = go r.alone where
+again_once_more (Check t) truth checks r = refl
+again_once_more Fact truth checks r = go r.alone where
   now : ByResult
   now = each_verdict truth r.numbered.value.statement r.numbered.value.ids.items
 
@@ -96,20 +96,20 @@ none_among : (n : ℕ) (ts : List ℕ) → AllByRecursion (λ y. n < y) ts → a
 none_among n [] h = refl
 none_among n (y ∷ ts) h = ap (λ (b : Bool). b || among ts n) (higher_differs n y h.0) ∙ none_among n ts h.1
 
-module _ (p : Row → Bool) where
-  later : (n : ℕ) (ts : List ℕ) (ys : List Row) → AllByRecursion (λ y. n < ticket_of y) ys → AllByRecursion (λ r. among ts (ticket_of r) ≡ true → p r ≡ true) ys
+module _ (p : JudgedRow → Bool) where
+  later : (n : ℕ) (ts : List ℕ) (ys : List JudgedRow) → AllByRecursion (λ y. n < ticket_of y) ys → AllByRecursion (λ r. among ts (ticket_of r) ≡ true → p r ≡ true) ys
       → AllByRecursion (λ r. among (n ∷ ts) (ticket_of r) ≡ true → p r ≡ true) ys
   later n ts [] above h = tt
   later n ts (y ∷ ys) above h =
       ((λ m. h.0 (sym (ap (λ (b : Bool). b || among ts (ticket_of y)) (lower_differs n (ticket_of y) above.0)) ∙ m)), later n ts ys above.1 h.1)
 
-  pub inside : (rows : List Row) → IsRisingBy ticket_of rows → AllByRecursion (λ r. among (tickets p rows) (ticket_of r) ≡ true → p r ≡ true) rows
+  pub inside : (rows : List JudgedRow) → IsRisingBy ticket_of rows → AllByRecursion (λ r. among (statement_tickets p rows) (ticket_of r) ≡ true → p r ≡ true) rows
   inside [] rising = tt
   inside (x ∷ xs) rising = go (p x) refl (inside xs rising.1) where
-    go : (b : Bool) → p x ≡ b → AllByRecursion (λ r. among (tickets p xs) (ticket_of r) ≡ true → p r ≡ true) xs
+    go : (b : Bool) → p x ≡ b → AllByRecursion (λ r. among (statement_tickets p xs) (ticket_of r) ≡ true → p r ≡ true) xs
         → AllByRecursion (λ r. among (map ticket_of (cond b (x ∷ filter p xs) (filter p xs))) (ticket_of r) ≡ true → p r ≡ true) (x ∷ xs)
-    go true e more = ((λ m. e), later (ticket_of x) (tickets p xs) xs rising.0 more)
+    go true e more = ((λ m. e), later (ticket_of x) (statement_tickets p xs) xs rising.0 more)
     go false e more = (
-      (λ m. absurd (let wrong : false ≡ true = sym (none_among (ticket_of x) (tickets p xs) (all_passing ticket_of (ticket_of x) p xs rising.0)) ∙ m in cc)),
+      (λ m. absurd (let wrong : false ≡ true = sym (none_among (ticket_of x) (statement_tickets p xs) (all_passing ticket_of (ticket_of x) p xs rising.0)) ∙ m in cc)),
       more,
     )

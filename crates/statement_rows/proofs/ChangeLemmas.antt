@@ -7,7 +7,7 @@ use Rattle.cpe_rows.specs.Changes.{change, differing}
 use Rattle.cpe_rows.specs.declared.reply.Changed.{Changed}
 use Rattle.cpe_rows.specs.declared.truth.Truth.{Truth}
 use Rattle.cpe_rows.specs.declared.truth.Truth.TheVariants.{True, False, Error, Unknown}
-use Rattle.statement_rows.specs.State.{State, StatementRow, change_at, changed_places, places}
+use Rattle.statement_rows.specs.State.{State, StatementRow, change_at, changed_places, places_where}
 
 either_way : (a b : Truth) → same_truth a b ≡ same_truth b a
 either_way True True = refl
@@ -36,11 +36,11 @@ module _ {X : Type 0} (before now : X → Truth) where
 
   -- the elements from the n-th place on are these
   pub changes_from : (get : ℕ → Option X) (n : ℕ) (xs : List X) → ((i : ℕ) → get (n + i) ≡ slice_get xs i)
-      → map (λ k. change k (option_map before (get k)) (option_map now (get k))) (places differ n xs) ≡ differing n (map before xs) (map now xs)
+      → map (λ k. change k (option_map before (get k)) (option_map now (get k))) (places_where differ n xs) ≡ differing n (map before xs) (map now xs)
   changes_from get n [] at = refl
   changes_from get n (x ∷ xs) at =
       let more = changes_from get (suc n) xs (λ i. let same : suc n + i ≡ n + suc i = omega arith in ap get same ∙ at (suc i)) in
-      ap (λ (b : Bool). map one (cond (not b) (n ∷ places differ (suc n) xs) (places differ (suc n) xs))) (either_way (now x) (before x))
+      ap (λ (b : Bool). map one (cond (not b) (n ∷ places_where differ (suc n) xs) (places_where differ (suc n) xs))) (either_way (now x) (before x))
       ∙ go (same_truth (before x) (now x)) (more ∙ ap (λ (m : ℕ). differing m (map before xs) (map now xs)) (after_one n))
     where
       one : ℕ → Changed
@@ -49,8 +49,8 @@ module _ {X : Type 0} (before now : X → Truth) where
       here : get n ≡ Some x
       here = let same : n ≡ n + 0 = omega arith in ap get same ∙ at 0
 
-      go : (b : Bool) → map one (places differ (suc n) xs) ≡ differing (n + 1) (map before xs) (map now xs)
-          → map one (cond (not b) (n ∷ places differ (suc n) xs) (places differ (suc n) xs))
+      go : (b : Bool) → map one (places_where differ (suc n) xs) ≡ differing (n + 1) (map before xs) (map now xs)
+          → map one (cond (not b) (n ∷ places_where differ (suc n) xs) (places_where differ (suc n) xs))
           ≡ cond b (differing (n + 1) (map before xs) (map now xs)) (change n (Some (before x)) (Some (now x)) ∷ differing (n + 1) (map before xs) (map now xs))
       go true h = h
       go false h = λ i. change n (option_map before (here i)) (option_map now (here i)) ∷ h i
@@ -61,18 +61,18 @@ changes_are b = changes_from (λ j. j.known) (λ (j : StatementRow). j.verdict) 
 -- ---- one change after the other
 
 module _ {X : Type 0} (p : X → Bool) where
-  pub few_places : (n : ℕ) (xs : List X) → length (places p n xs) ≤ length xs
+  pub few_places : (n : ℕ) (xs : List X) → length (places_where p n xs) ≤ length xs
   few_places n [] = omega arith
   few_places n (x ∷ xs) = go (p x) (few_places (suc n) xs) where
-    go : (b : Bool) → length (places p (suc n) xs) ≤ length xs → length (cond b (n ∷ places p (suc n) xs) (places p (suc n) xs)) ≤ suc (length xs)
+    go : (b : Bool) → length (places_where p (suc n) xs) ≤ length xs → length (cond b (n ∷ places_where p (suc n) xs) (places_where p (suc n) xs)) ≤ suc (length xs)
     go true h = omega (arith, h)
     go false h = omega (arith, h)
 
-  pub place_within : (n : ℕ) (xs : List X) (j k : ℕ) → slice_get (places p n xs) j ≡ Some k → k < n + length xs
+  pub place_within : (n : ℕ) (xs : List X) (j k : ℕ) → slice_get (places_where p n xs) j ≡ Some k → k < n + length xs
   place_within n [] j k h = absurd (let wrong : None ≡ Some k = h in cc)
   place_within n (x ∷ xs) j k h = go (p x) j h (place_within (suc n) xs) where
-    go : (b : Bool) (j : ℕ) → slice_get (cond b (n ∷ places p (suc n) xs) (places p (suc n) xs)) j ≡ Some k
-        → ((j k : ℕ) → slice_get (places p (suc n) xs) j ≡ Some k → k < suc n + length xs) → k < n + suc (length xs)
+    go : (b : Bool) (j : ℕ) → slice_get (cond b (n ∷ places_where p (suc n) xs) (places_where p (suc n) xs)) j ≡ Some k
+        → ((j k : ℕ) → slice_get (places_where p (suc n) xs) j ≡ Some k → k < suc n + length xs) → k < n + suc (length xs)
     go true zero h more = let same : n ≡ k = cc h in omega (arith, same)
     go true (suc j) h more = let lt = more j k h in omega (arith, lt)
     go false j h more = let lt = more j k h in omega (arith, lt)

@@ -9,13 +9,13 @@ use Rattle.cpe_rows.proofs.KeyTests.{key_is, other_key}
 use Rattle.cpe_rows.specs.declared.truth.Truth.{Truth}
 use Rattle.cpe_rows.specs.declared.truth.Truth.TheVariants.{Unknown}
 use Rattle.cpe_rows.specs.declared.test.CheckKey.{CheckKey}
-use Rattle.cpe_inventory.specs.Kept.{kept_truth}
-use Rattle.cpe_inventory.specs.ticket_list.Rising.{IsRisingBy}
+use Rattle.check_results.specs.Kept.{kept_truth}
+use Rattle.check_results.specs.ticket_list.Rising.{IsRisingBy}
 use Rattle.statement_rows.specs.declared.row.Cause.TheVariants.{Check}
-use Rattle.statement_rows.specs.declared.row.Row.{Row}
+use Rattle.statement_rows.specs.declared.row.JudgedRow.{JudgedRow}
 use Rattle.statement_rows.specs.Invariant.{IsAlone}
 use Rattle.statement_rows.specs.Readings.{FactTruths}
-use Rattle.statement_rows.specs.Rows.{asks, at_rows, each_verdict, judge_row, ticket_of, tickets}
+use Rattle.statement_rows.specs.Rows.{asks, at_rows, each_verdict, judge_row, ticket_of, statement_tickets}
 use Rattle.statement_rows.specs.State.{StatementRow, judge, view_of, without_verdict}
 use Rattle.statement_rows.specs.Tickets.{among}
 use Rattle.statement_rows.proofs.ByResultLemmas.{inside, verdict_read}
@@ -67,46 +67,46 @@ all_both : {X : Type 0} (P Q : X → Type 0) (xs : List X) → AllByRecursion P 
 all_both P Q [] h k = tt
 all_both P Q (x ∷ xs) h k = ((h.0, k.0), all_both P Q xs h.1 k.1)
 
-all_of : (P : StatementRow → Type 0) (rows : List Row) → AllByRecursion P (map view_of rows) → AllByRecursion (λ r. P (view_of r)) rows
+all_of : (P : StatementRow → Type 0) (rows : List JudgedRow) → AllByRecursion P (map view_of rows) → AllByRecursion (λ r. P (view_of r)) rows
 all_of P [] h = tt
 all_of P (r ∷ rows) h = (h.0, all_of P rows h.1)
 
-pub all_of_view : (P : StatementRow → Type 0) (rows : List Row) → AllByRecursion (λ r. P (view_of r)) rows → AllByRecursion P (map view_of rows)
+pub all_of_view : (P : StatementRow → Type 0) (rows : List JudgedRow) → AllByRecursion (λ r. P (view_of r)) rows → AllByRecursion P (map view_of rows)
 all_of_view P [] h = tt
 all_of_view P (r ∷ rows) h = (h.0, all_of_view P rows h.1)
 
-pub rising_view : (rows : List Row) → IsRisingBy ticket_of rows → IsRisingBy (λ (j : StatementRow). j.ticket) (map view_of rows)
+pub rising_view : (rows : List JudgedRow) → IsRisingBy ticket_of rows → IsRisingBy (λ (j : StatementRow). j.ticket) (map view_of rows)
 rising_view [] h = tt
 rising_view (r ∷ rows) h = (all_of_view (λ (j : StatementRow). r.ticket < j.ticket) rows h.0, rising_view rows h.1)
 
 -- rows that pass are among the tickets
-outside : (p : Row → Bool) (rows : List Row) → AllByRecursion (λ r. among (tickets p rows) (ticket_of r) ≡ false → p r ≡ false) rows
+outside : (p : JudgedRow → Bool) (rows : List JudgedRow) → AllByRecursion (λ r. among (statement_tickets p rows) (ticket_of r) ≡ false → p r ≡ false) rows
 outside p rows =
-    all_weaker (λ r. p r ≡ true → among (tickets p rows) (ticket_of r) ≡ true) (λ r. among (tickets p rows) (ticket_of r) ≡ false → p r ≡ false)
+    all_weaker (λ r. p r ≡ true → among (statement_tickets p rows) (ticket_of r) ≡ true) (λ r. among (statement_tickets p rows) (ticket_of r) ≡ false → p r ≡ false)
     (λ r h no_. go r (p r) h no_) rows (members ticket_of p rows)
   where
-    go : (r : Row) (b : Bool) → (b ≡ true → among (tickets p rows) (ticket_of r) ≡ true) → among (tickets p rows) (ticket_of r) ≡ false → b ≡ false
+    go : (r : JudgedRow) (b : Bool) → (b ≡ true → among (statement_tickets p rows) (ticket_of r) ≡ true) → among (statement_tickets p rows) (ticket_of r) ≡ false → b ≡ false
     go r true h no_ = sym (h refl) ∙ no_
     go r false h no_ = refl
 
 module _ (truth : FactTruths) (checks checks1 : List (CheckKey × Truth)) (key : CheckKey) (t : Truth) (kept : t ≡ kept_truth checks1 key)
     (others : (k : CheckKey) → same_key key k ≡ false → kept_truth checks k ≡ kept_truth checks1 k) where
-  abbrev IsJudged : List (CheckKey × Truth) → Row → Type 0
+  abbrev IsJudged : List (CheckKey × Truth) → JudgedRow → Type 0
   IsJudged cs r = judge truth cs (view_of r) ≡ view_of r
 
-  judged_here : (r : Row) → IsAlone r → IsJudged checks r → asks key r ≡ true → IsJudged checks1 (judge_row (Check t) truth checks1 r)
+  judged_here : (r : JudgedRow) → IsAlone r → IsJudged checks r → asks key r ≡ true → IsJudged checks1 (judge_row (Check t) truth checks1 r)
   judged_here r one h asked =
       let each : r.alone ≡ true → r.by_result ≡ each_verdict truth r.numbered.value.statement r.numbered.value.ids.items = λ e.
       sym (ap (λ (j : StatementRow). j.by_result) h) ∙ ap (λ (b : Bool). cond b (each_verdict truth r.numbered.value.statement r.numbered.value.ids.items) r.by_result) (sym one ∙ e) in
       let verdict = sym (verdict_read truth checks1 key t r kept one each asked) in
       λ i. record (view_of (judge_row (Check t) truth checks1 r)) { verdict = verdict i; by_result = (h i).by_result }
 
-  judged_else : (r : Row) → IsJudged checks r → asks key r ≡ false → IsJudged checks1 r
+  judged_else : (r : JudgedRow) → IsJudged checks r → asks key r ≡ false → IsJudged checks1 r
   judged_else r h unasked =
       let verdict = sym (check_cover truth checks checks1 key others r unasked) ∙ ap (λ (j : StatementRow). j.verdict) h in
       λ i. record (view_of r) { verdict = verdict i; by_result = (h i).by_result }
 
-  pub judged_check : (rows rows1 : List Row) (ts : List ℕ) → IsRisingBy ticket_of rows → ts ≡ tickets (asks key) rows → AllByRecursion IsAlone rows → rows1 ≡ at_rows ts (judge_row (Check t) truth checks1) rows
+  pub judged_check : (rows rows1 : List JudgedRow) (ts : List ℕ) → IsRisingBy ticket_of rows → ts ≡ statement_tickets (asks key) rows → AllByRecursion IsAlone rows → rows1 ≡ at_rows ts (judge_row (Check t) truth checks1) rows
       → AllByRecursion (λ j. judge truth checks j ≡ j) (map view_of rows) → AllByRecursion (λ j. judge truth checks1 j ≡ j) (map view_of rows1)
   judged_check rows rows1 ts rising e one are h =
       all_of_view (λ j. judge truth checks1 j ≡ j) rows1
@@ -117,12 +117,12 @@ module _ (truth : FactTruths) (checks checks1 : List (CheckKey × Truth)) (key :
       (all_both (λ r. among us (ticket_of r) ≡ true → asks key r ≡ true) (λ r. among us (ticket_of r) ≡ false → asks key r ≡ false) rows (inside (asks key) rows rising) (outside (asks key) rows)))))
     where
       us : List ℕ
-      us = tickets (asks key) rows
+      us = statement_tickets (asks key) rows
 
-      Given : Row → Type 0
+      Given : JudgedRow → Type 0
       Given r = (IsJudged checks r × IsAlone r) × ((among us (ticket_of r) ≡ true → asks key r ≡ true) × (among us (ticket_of r) ≡ false → asks key r ≡ false))
 
-pub unjudged-check : (truth : FactTruths) (checks : List (CheckKey × Truth)) (t : Truth) (ts : List ℕ) (rows : List Row)
+pub unjudged-check : (truth : FactTruths) (checks : List (CheckKey × Truth)) (t : Truth) (ts : List ℕ) (rows : List JudgedRow)
     → map without_verdict (map view_of (at_rows ts (judge_row (Check t) truth checks) rows)) ≡ map without_verdict (map view_of rows)
 unjudged-check truth checks t ts [] = refl
 unjudged-check truth checks t ts (r ∷ rows) = λ i. go (among ts (ticket_of r)) i ∷ unjudged-check truth checks t ts rows i where

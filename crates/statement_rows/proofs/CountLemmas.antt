@@ -9,7 +9,7 @@ use Rattle.cpe_rows.specs.FactNames.{fact_names, number_of_facts}
 use Rattle.cpe_rows.specs.Limits.{most}
 use Rattle.cpe_rows.specs.declared.fault.Which.TheVariants.{Facts}
 use Rattle.cpe_rows.specs.declared.statement.Statement.{Statement}
-use Rattle.cpe_inventory.specs.Kept.{IsCounted}
+use Rattle.check_results.specs.Kept.{IsCounted}
 use Rattle.statement_rows.proofs.TakeLemmas.{first_place_gone, next_place, removed}
 
 abbrev pub facts_in : Statement → List Values

@@ -2,7 +2,7 @@
 use Rattle.std.proofs.Common.{◌≡◌, ℕ, Bool, true, false, cond, List, [], ◌∷◌, ◌++◌, refl, sym, ap, ◌∙◌, Vec, Global}
 use Rattle.std.specs.Prelude.{None}
 use Rattle.cpe_rows.specs.declared.test.CheckKey.{CheckKey}
-use Rattle.statement_rows.specs.Askers.{AreAsked, AreAskedBut, askers_at, items_or_none, list_at}
+use Rattle.statement_rows.specs.Askers.{AreAskers, AreAskedBut, askers_at, askers_or_none, asker_list_at}
 use Rattle.statement_rows.specs.Readings.{is_asked}
 use Rattle.statement_rows.specs.Tickets.{ends_with, with_last, with_last_if}
 
@@ -23,8 +23,8 @@ module _ (keys : List CheckKey) (old new : List (CheckKey × Vec ℕ Global)) wh
 
   -- the ticket is added
   pub asked_put : (t : ℕ) → ((q : CheckKey) → askers_at new q ≡ with_last_if (is_asked keys q) t (askers_at old q))
-      → ((q : CheckKey) → is_asked keys q ≡ false → list_at new q ≡ list_at old q) → AreAskedBut keys old → AreAsked new
+      → ((q : CheckKey) → is_asked keys q ≡ false → asker_list_at new q ≡ asker_list_at old q) → AreAskedBut keys old → AreAskers new
   asked_put t entered others h q none = go (is_asked keys q) refl where
-    go : (b : Bool) → is_asked keys q ≡ b → list_at new q ≡ None
+    go : (b : Bool) → is_asked keys q ≡ b → asker_list_at new q ≡ None
     go true e = absurd (full t (askers_at old q) (sym (entered q ∙ ap (λ (b : Bool). with_last_if b t (askers_at old q)) e) ∙ none))
-    go false e = others q e ∙ h q e (sym (ap items_or_none (others q e)) ∙ none)
+    go false e = others q e ∙ h q e (sym (ap askers_or_none (others q e)) ∙ none)

@@ -4,7 +4,7 @@ use Rattle.std.specs.Prelude.{nat_eq}
 use Rattle.std.specs.List.{AllByRecursion}
 use Rattle.std.proofs.lemmas.Bool.Decides.{nat_tests}
 use Rattle.statement_rows.specs.Tickets.{ends_with, with_last, without, without_if}
-use Rattle.cpe_inventory.specs.ticket_list.Rising.{IsRising}
+use Rattle.check_results.specs.ticket_list.Rising.{IsRising}
 
 -- ---- lists of tickets
 

@@ -12,7 +12,7 @@ use Rattle.cpe_rows.specs.declared.test.Test.{Test}
 use Rattle.cpe_rows.specs.declared.test.Test.TheOpen.{Test-F}
 use Rattle.cpe_rows.specs.declared.test.Test.TheViews.{roll-Test}
 use Rattle.cpe_rows.specs.declared.test.Test.TheFolds.{fold-roll-Test, ind-Test, map-Test}
-use Rattle.statement_rows.specs.Readings.{Reading, reading, reading_step, truths_along}
+use Rattle.statement_rows.specs.Readings.{TruthReading, reading, reading_step, truths_along}
 
 map_both : {X Y : Type 0} (f : X → Y) (xs ys : List X) (zs : List Y) → map f (xs ++ ys) ++ zs ≡ map f xs ++ (map f ys ++ zs)
 map_both f xs ys zs = ap (λ us. us ++ zs) (map-append f xs ys) ∙ append_assoc (map f xs) (map f ys) zs
@@ -27,7 +27,7 @@ module _ (fact : Values → Truth) (check : CheckKey → Truth) where
   abbrev tests : List Shown → List Test
   tests es = map (λ (e : Shown). e.0) es
 
-  along : (r : Reading) (rs : List Reading) (us vs ws : List Truth) (t : Truth) (all : List Truth) → ◌≡◌ {A = Truth × List Truth} (r us) (t, vs)
+  along : (r : TruthReading) (rs : List TruthReading) (us vs ws : List Truth) (t : Truth) (all : List Truth) → ◌≡◌ {A = Truth × List Truth} (r us) (t, vs)
       → ◌≡◌ {A = List Truth × List Truth} (truths_along rs vs) (all, ws) → ◌≡◌ {A = List Truth × List Truth} (truths_along (r ∷ rs) us) (t ∷ all, ws)
   along r rs us vs ws t all h k =
       let rest = ap (λ (x : Truth × List Truth). truths_along rs x.1) h ∙ k in
@@ -41,8 +41,8 @@ module _ (fact : Values → Truth) (check : CheckKey → Truth) where
       ∙ along (reading check e.0) (map (reading check) (tests es)) (map fact (fact_names e.0) ++ (map fact (flat_map fact_names (tests es)) ++ ts)) (map fact (flat_map fact_names (tests es)) ++ ts) ts
       (test_truth fact check e.0) (map (test_truth fact check) (tests es)) (e.1 (map fact (flat_map fact_names (tests es)) ++ ts)) (all_read es ts)
 
-  level : (y : Test-F Test) (us : List Truth) → reading check (roll-Test y) us ≡ reading_step check (map-Test Test Reading (reading check) y) us
-  level y us = ap (λ (r : Reading). r us) (fold-roll-Test Reading (reading_step check) y)
+  level : (y : Test-F Test) (us : List Truth) → reading check (roll-Test y) us ≡ reading_step check (map-Test Test TruthReading (reading check) y) us
+  level y us = ap (λ (r : TruthReading). r us) (fold-roll-Test TruthReading (reading_step check) y)
 
   names_level : (y : Test-F Test) → fact_names (roll-Test y) ≡ fact_names_step (map-Test Test (List Values) fact_names y)
   names_level y = fold-roll-Test (List Values) fact_names_step y

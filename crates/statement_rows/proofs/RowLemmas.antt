@@ -2,7 +2,7 @@
 use Rattle.std.specs.Bool.{Decides}
 use Rattle.std.proofs.Common.{rules, ◌≡◌, ℕ, zero, suc, ◌+◌, ◌<◌, ◌≤◌, ◌||◌, Bool, true, false, not, cond, List, [], ◌∷◌, ◌++◌, length, map, take, get_or, refl, sym, ap, subst, ◌∙◌, arith}
 use Rattle.std.specs.Prelude.{find, nat_eq, nat_lt, slice_get, Option, Some, None}
-use Rattle.cpe_inventory.specs.ticket_list.TicketList.{has_ticket, with_change}
+use Rattle.check_results.specs.ticket_list.TicketList.{has_ticket, with_change}
 use Rattle.std.specs.Option.{option_map}
 use Rattle.std.specs.List.{AllByRecursion, filter}
 use Rattle.std.proofs.lemmas.Bool.Decides.{nat_tests}
@@ -10,11 +10,11 @@ use Rattle.std.proofs.lemmas.List.Folds.{list_any-append}
 use Rattle.std.proofs.lemmas.List.{take_more}
 use Rattle.cpe_rows.specs.Truth.{same_truth}
 use Rattle.cpe_rows.specs.declared.truth.Truth.{Truth}
-use Rattle.statement_rows.specs.declared.row.Row.{Row}
-use Rattle.statement_rows.specs.Rows.{after_move, at_place, at_rows, at_ticket, forget_change, is_changed, place_in, ticket_of, tickets}
+use Rattle.statement_rows.specs.declared.row.JudgedRow.{JudgedRow}
+use Rattle.statement_rows.specs.Rows.{after_move, at_place, at_rows, at_ticket, forget_change, is_changed, ticket_place_in, ticket_of, statement_tickets}
 use Rattle.statement_rows.specs.Tickets.{among, without}
-use Rattle.cpe_inventory.specs.ticket_list.Rising.{IsRisingBy, put_in}
-use Rattle.cpe_inventory.proofs.ticket_list.RisingLemmas.{all_passing}
+use Rattle.check_results.specs.ticket_list.Rising.{IsRisingBy, put_in}
+use Rattle.check_results.proofs.ticket_list.RisingLemmas.{all_passing}
 use Rattle.statement_rows.proofs.TicketLemmas.{without_none}
 use Rattle.statement_rows.proofs.ListLemmas.{nat_decides, nat_same}
 
@@ -199,12 +199,12 @@ same_at f g (suc k) r (x ∷ xs) e h = ap (λ u. x ∷ u) (same_at f g k r xs e 
 
 -- ---- the place of a ticket
 
-pub found : (t k : ℕ) (rows : List Row) → place_in t rows ≡ Some k → (r : Row) × (slice_get rows k ≡ Some r) × (r.ticket ≡ t)
+pub found : (t k : ℕ) (rows : List JudgedRow) → ticket_place_in t rows ≡ Some k → (r : JudgedRow) × (slice_get rows k ≡ Some r) × (r.ticket ≡ t)
 found t k [] h = absurd (cc)
-found t k (x ∷ xs) h = go (nat_eq (ticket_of x) t) refl k h (place_in t xs) refl (λ n. found t n xs) where
-  go : (b : Bool) → nat_eq (ticket_of x) t ≡ b → (k : ℕ) → cond b (Some 0) (option_map suc (place_in t xs)) ≡ Some k → (o : Option ℕ) → place_in t xs ≡ o
-      → ((n : ℕ) → place_in t xs ≡ Some n → (r : Row) × (slice_get xs n ≡ Some r) × (r.ticket ≡ t))
-      → (r : Row) × (slice_get (x ∷ xs) k ≡ Some r) × (r.ticket ≡ t)
+found t k (x ∷ xs) h = go (nat_eq (ticket_of x) t) refl k h (ticket_place_in t xs) refl (λ n. found t n xs) where
+  go : (b : Bool) → nat_eq (ticket_of x) t ≡ b → (k : ℕ) → cond b (Some 0) (option_map suc (ticket_place_in t xs)) ≡ Some k → (o : Option ℕ) → ticket_place_in t xs ≡ o
+      → ((n : ℕ) → ticket_place_in t xs ≡ Some n → (r : JudgedRow) × (slice_get xs n ≡ Some r) × (r.ticket ≡ t))
+      → (r : JudgedRow) × (slice_get (x ∷ xs) k ≡ Some r) × (r.ticket ≡ t)
   go true e k h o f more = let same : 0 ≡ k = cc h in (x, ap (slice_get (x ∷ xs)) (sym same), nat_decides (ticket_of x) t e)
   go false e k h None f more = absurd (let wrong : None ≡ Some k = sym (ap (option_map suc) f) ∙ h in cc)
   go false e k h (Some n) f more =
@@ -221,12 +221,12 @@ either_way a b = go (nat_eq a b) (nat_eq b a) refl refl where
   go false true e f = let same = nat_decides b a f in absurd (omega (arith, apart_numbers a b e, same))
 
 -- a change by ticket, of the list and of the rows
-pub changed_rows : (f : Row → Row) (t : ℕ) (rows : List Row) → with_change ticket_of t f rows ≡ at_ticket t f rows
+pub changed_rows : (f : JudgedRow → JudgedRow) (t : ℕ) (rows : List JudgedRow) → with_change ticket_of t f rows ≡ at_ticket t f rows
 changed_rows f t [] = refl
 changed_rows f t (r ∷ rows) = λ i. cond (either_way (ticket_of r) t i) (f r) r ∷ changed_rows f t rows i
 
--- the row that is found by its ticket
-pub found_row : (t : ℕ) (r : Row) (rows : List Row) → find (has_ticket ticket_of t) rows ≡ Some r → (k : ℕ) × (slice_get rows k ≡ Some r) × (ticket_of r ≡ t)
+-- a row that is found by a ticket is at some place of the list, and has this ticket
+pub found_row : (t : ℕ) (r : JudgedRow) (rows : List JudgedRow) → find (has_ticket ticket_of t) rows ≡ Some r → (k : ℕ) × (slice_get rows k ≡ Some r) × (ticket_of r ≡ t)
 found_row t r [] h = absurd (no_element h)
 found_row t r (x ∷ xs) h = go (nat_eq (ticket_of x) t) refl h (found_row t r xs) where
   go : (b : Bool) → nat_eq (ticket_of x) t ≡ b → cond b (Some x) (find (has_ticket ticket_of t) xs) ≡ Some r
@@ -235,7 +235,7 @@ found_row t r (x ∷ xs) h = go (nat_eq (ticket_of x) t) refl h (found_row t r x
   go true e h more = let same : x ≡ r = cc h in (0, h, ap ticket_of (sym same) ∙ nat_decides (ticket_of x) t e)
   go false e h more = let at = more h in (suc at.0, at.1, at.2)
 
-pub not_found : (f : Row → Row) (t : ℕ) (rows : List Row) → find (has_ticket ticket_of t) rows ≡ None → rows ≡ at_ticket t f rows
+pub not_found : (f : JudgedRow → JudgedRow) (t : ℕ) (rows : List JudgedRow) → find (has_ticket ticket_of t) rows ≡ None → rows ≡ at_ticket t f rows
 not_found f t [] h = refl
 not_found f t (x ∷ xs) h = go (nat_eq (ticket_of x) t) refl h (not_found f t xs) where
   go : (b : Bool) → nat_eq (ticket_of x) t ≡ b → cond b (Some x) (find (has_ticket ticket_of t) xs) ≡ None
@@ -243,8 +243,8 @@ not_found f t (x ∷ xs) h = go (nat_eq (ticket_of x) t) refl h (not_found f t x
   go true e h more = absurd (no_element (sym h))
   go false e h more = λ i. cond (sym (either_way t (ticket_of x) ∙ e) i) (f x) x ∷ more h i
 
--- the row at a place is the row of its ticket
-pub placed_row : (f : Row → Row) (t k : ℕ) (r : Row) (rows : List Row) → IsRisingBy ticket_of rows → slice_get rows k ≡ Some r → ticket_of r ≡ t → at_place k f rows ≡ at_ticket t f rows
+-- to change the row at a place is to change the row with that row's ticket, if tickets rise
+pub placed_row : (f : JudgedRow → JudgedRow) (t k : ℕ) (r : JudgedRow) (rows : List JudgedRow) → IsRisingBy ticket_of rows → slice_get rows k ≡ Some r → ticket_of r ≡ t → at_place k f rows ≡ at_ticket t f rows
 placed_row f t k r rows rising at e = placed ticket_of f k r rows rising at ∙ ap (λ (n : ℕ). at_ticket n f rows) e
 
 -- ---- rows that change, and keep their tickets
@@ -254,29 +254,29 @@ there [] k d lt = absurd (omega (arith, lt))
 there (x ∷ xs) zero d lt = refl
 there (x ∷ xs) (suc k) d lt = there xs k d (omega (arith, lt))
 
-module _ (f : Row → Row) (keeps : (r : Row) → ticket_of (f r) ≡ ticket_of r) where
-  keep_if : (b : Bool) (r : Row) → ticket_of (cond b (f r) r) ≡ ticket_of r
+module _ (f : JudgedRow → JudgedRow) (keeps : (r : JudgedRow) → ticket_of (f r) ≡ ticket_of r) where
+  keep_if : (b : Bool) (r : JudgedRow) → ticket_of (cond b (f r) r) ≡ ticket_of r
   keep_if true r = keeps r
   keep_if false r = refl
 
-  pub rising-at : (t : ℕ) (rows : List Row) → IsRisingBy ticket_of rows → IsRisingBy ticket_of (at_ticket t f rows)
+  pub rising-at : (t : ℕ) (rows : List JudgedRow) → IsRisingBy ticket_of rows → IsRisingBy ticket_of (at_ticket t f rows)
   rising-at t = rising-map ticket_of (λ r. cond (nat_eq t r.ticket) (f r) r) (λ r. keep_if (nat_eq t r.ticket) r)
 
-  pub rising-at_all : (ts : List ℕ) (rows : List Row) → IsRisingBy ticket_of rows → IsRisingBy ticket_of (at_rows ts f rows)
+  pub rising-at_all : (ts : List ℕ) (rows : List JudgedRow) → IsRisingBy ticket_of rows → IsRisingBy ticket_of (at_rows ts f rows)
   rising-at_all ts = rising-map ticket_of (λ r. cond (among ts r.ticket) (f r) r) (λ r. keep_if (among ts r.ticket) r)
 
-  pub tickets-at_all : (p : Row → Bool) → ((r : Row) → p (f r) ≡ p r) → (ts : List ℕ) (rows : List Row) → tickets p (at_rows ts f rows) ≡ tickets p rows
+  pub tickets-at_all : (p : JudgedRow → Bool) → ((r : JudgedRow) → p (f r) ≡ p r) → (ts : List ℕ) (rows : List JudgedRow) → statement_tickets p (at_rows ts f rows) ≡ statement_tickets p rows
   tickets-at_all p same ts = passing-map ticket_of (λ r. cond (among ts r.ticket) (f r) r) (λ r. keep_if (among ts r.ticket) r) p (λ r. pass_if (among ts r.ticket) r) where
-    pass_if : (b : Bool) (r : Row) → p (cond b (f r) r) ≡ p r
+    pass_if : (b : Bool) (r : JudgedRow) → p (cond b (f r) r) ≡ p r
     pass_if true r = same r
     pass_if false r = refl
 
-  pub no_tickets : (rows : List Row) → at_rows [] f rows ≡ rows
+  pub no_tickets : (rows : List JudgedRow) → at_rows [] f rows ≡ rows
   no_tickets [] = refl
   no_tickets (r ∷ rows) = ap (λ u. r ∷ u) (no_tickets rows)
 
   -- one more ticket of a list
-  pub at_more : ((r : Row) → f (f r) ≡ f r) → (ts : List ℕ) (i : ℕ) (rows now : List Row) → i < length ts → now ≡ at_rows (take i ts) f rows
+  pub at_more : ((r : JudgedRow) → f (f r) ≡ f r) → (ts : List ℕ) (i : ℕ) (rows now : List JudgedRow) → i < length ts → now ≡ at_rows (take i ts) f rows
       → at_ticket (get_or ts i 0) f now ≡ at_rows (take (i + 1) ts) f rows
   at_more again ts i rows now lt h =
       ap (at_ticket (get_or ts i 0) f) h
@@ -292,7 +292,7 @@ unchanged_is a b h = (same_decides a b).0 (by (same_truth a b) h)
     by true none = refl
     by false none = absurd (cc)
 
-know_one : (ts : List ℕ) (r : Row) → (is_changed r ≡ true → among ts (ticket_of r) ≡ true) → cond (among ts (ticket_of r)) (forget_change r) r ≡ forget_change r
+know_one : (ts : List ℕ) (r : JudgedRow) → (is_changed r ≡ true → among ts (ticket_of r) ≡ true) → cond (among ts (ticket_of r)) (forget_change r) r ≡ forget_change r
 know_one ts r h = go (among ts (ticket_of r)) (is_changed r) refl h where
   go : (b c : Bool) → is_changed r ≡ c → (c ≡ true → b ≡ true) → cond b (forget_change r) r ≡ forget_change r
   go true c e h = refl
@@ -300,12 +300,12 @@ know_one ts r h = go (among ts (ticket_of r)) (is_changed r) refl h where
   go false false e h = ap (λ (t : Truth). record r { known = t }) (sym (unchanged_is r.verdict r.known e))
 
 -- if these are the tickets of the changed rows, then all verdicts are known
-know_these : (ts : List ℕ) (rows : List Row) → AllByRecursion (λ r. is_changed r ≡ true → among ts (ticket_of r) ≡ true) rows → at_rows ts forget_change rows ≡ map forget_change rows
+know_these : (ts : List ℕ) (rows : List JudgedRow) → AllByRecursion (λ r. is_changed r ≡ true → among ts (ticket_of r) ≡ true) rows → at_rows ts forget_change rows ≡ map forget_change rows
 know_these ts [] h = refl
 know_these ts (r ∷ rows) h = λ i. know_one ts r h.0 i ∷ know_these ts rows h.1 i
 
-pub all_known : (rows : List Row) → at_rows (tickets is_changed rows) forget_change rows ≡ map forget_change rows
-all_known rows = know_these (tickets is_changed rows) rows (members ticket_of is_changed rows)
+pub all_known : (rows : List JudgedRow) → at_rows (statement_tickets is_changed rows) forget_change rows ≡ map forget_change rows
+all_known rows = know_these (statement_tickets is_changed rows) rows (members ticket_of is_changed rows)
 
 -- ---- room
 

@@ -12,11 +12,11 @@ use Rattle.statement_rows.specs.declared.ready_statement.ReadyStatement.{ReadySt
 use Rattle.statement_rows.specs.declared.row.NumberedStatement.{NumberedStatement}
 use Rattle.statement_rows.specs.Askers.{askers_at}
 use Rattle.statement_rows.specs.ByResult.{asks_one, each_result}
-use Rattle.statement_rows.specs.Invariant.{AreRows, IsAlone}
+use Rattle.statement_rows.specs.Invariant.{AreStatementRows, IsAlone}
 use Rattle.statement_rows.specs.Readings.{FactTruths, check_keys}
 use Rattle.statement_rows.specs.Room.{RowRoom, with_id}
-use Rattle.statement_rows.specs.Rows.{asks, at_rows, each_verdict, has_row_id, is_changed, judge_row, ticket_of, tickets, verdict_by, verdict_now}
-use Rattle.statement_rows.specs.State.{AreJudged, SameRows, State, StatementReady, StatementRow, at_tickets, has_room, is_of, judge, new_statement_row, statements_of, view_of}
+use Rattle.statement_rows.specs.Rows.{asks, at_rows, each_verdict, has_row_id, is_changed, judge_row, ticket_of, statement_tickets, verdict_by, verdict_now}
+use Rattle.statement_rows.specs.State.{AreJudged, SameRows, State, StatementReady, StatementRow, at_tickets, has_statement_room, is_of, judge, new_statement_row, statements_of, view_of}
 use Rattle.statement_rows.specs.Tickets.{IsBelow, among, with_if}
 use Rattle.std.specs.List.{AllByRecursion, filter, list_any}
 use Rattle.std.specs.Map.{lookup}
@@ -27,17 +27,17 @@ use Rattle.cpe_rows.specs.declared.truth.Truth.{Truth}
 use Rattle.cpe_rows.specs.declared.truth.Truth.TheVariants.{True, False, Error, Unknown}
 use Rattle.cpe_rows.specs.declared.statement.Statement.{Statement}
 use Rattle.cpe_rows.specs.declared.test.CheckKey.{CheckKey}
-use Rattle.cpe_inventory.specs.Results.{one_or_none}
+use Rattle.check_results.specs.Results.{one_or_none}
 use Rattle.name_index.specs.declared.table.NameId.{NameId}
-use Rattle.cpe_inventory.specs.ticket_list.Rising.{IsRisingBy}
-use Rattle.cpe_inventory.proofs.ticket_list.RisingLemmas.{rising_last, rising_passing}
+use Rattle.check_results.specs.ticket_list.Rising.{IsRisingBy}
+use Rattle.check_results.proofs.ticket_list.RisingLemmas.{rising_last, rising_passing}
 use Rattle.statement_rows.specs.declared.row.Cause.{Cause}
 use Rattle.statement_rows.specs.declared.row.Cause.TheVariants.{Fact}
-use Rattle.statement_rows.specs.declared.row.Row.{Row}
+use Rattle.statement_rows.specs.declared.row.JudgedRow.{JudgedRow}
 use Rattle.statement_rows.proofs.RowLemmas.{rising-at_all, still_room, tickets-at_all}
 
-module _ (f : Row → Row) (P Q : Row → Type 0) (ts : List ℕ) (here : (r : Row) → among ts (ticket_of r) ≡ true → P r → Q (f r)) (else_ : (r : Row) → among ts (ticket_of r) ≡ false → P r → Q r) where
-  pub all_at_rows : (rows : List Row) → AllByRecursion P rows → AllByRecursion Q (at_rows ts f rows)
+module _ (f : JudgedRow → JudgedRow) (P Q : JudgedRow → Type 0) (ts : List ℕ) (here : (r : JudgedRow) → among ts (ticket_of r) ≡ true → P r → Q (f r)) (else_ : (r : JudgedRow) → among ts (ticket_of r) ≡ false → P r → Q r) where
+  pub all_at_rows : (rows : List JudgedRow) → AllByRecursion P rows → AllByRecursion Q (at_rows ts f rows)
   all_at_rows [] h = tt
   all_at_rows (r ∷ rows) h = (go (among ts (ticket_of r)) refl, all_at_rows rows h.1) where
     go : (b : Bool) → among ts (ticket_of r) ≡ b → Q (cond b (f r) r)
@@ -69,28 +69,28 @@ same_self Unknown = refl
 -- ---- rows that are judged
 
 module _ (cause : Cause) (truth : FactTruths) (checks : List (CheckKey × Truth)) (ts : List ℕ) where
-  abbrev f : Row → Row
+  abbrev f : JudgedRow → JudgedRow
   f = judge_row cause truth checks
 
-  pub statements-judged : (rows : List Row) → statements_of (map view_of (at_rows ts f rows)) ≡ statements_of (map view_of rows)
+  pub statements-judged : (rows : List JudgedRow) → statements_of (map view_of (at_rows ts f rows)) ≡ statements_of (map view_of rows)
   statements-judged [] = refl
   statements-judged (r ∷ rows) = λ i. go (among ts (ticket_of r)) i ∷ statements-judged rows i where
     go : (b : Bool) → (view_of (cond b (f r) r)).statement ≡ (view_of r).statement
     go true = refl
     go false = refl
 
-  module _ (rows rows1 : List Row) (list list1 : Vec ℕ Global) (by_id : List (List ℕ × ℕ)) (askers : List (CheckKey × Vec ℕ Global)) (next : ℕ) (h : AreRows rows list by_id askers next)
-      (are : rows1 ≡ at_rows ts f rows) (changed : list1.items ≡ tickets is_changed rows1) (capacity : vec_capacity list1 ≡ vec_capacity list) where
-    same : (p : Row → Bool) → ((r : Row) → p (f r) ≡ p r) → tickets p rows ≡ tickets p rows1
-    same p e = sym (tickets-at_all f (λ r. refl) p e ts rows) ∙ ap (tickets p) (sym are)
+  module _ (rows rows1 : List JudgedRow) (list list1 : Vec ℕ Global) (by_id : List (List ℕ × ℕ)) (askers : List (CheckKey × Vec ℕ Global)) (next : ℕ) (h : AreStatementRows rows list by_id askers next)
+      (are : rows1 ≡ at_rows ts f rows) (changed : list1.items ≡ statement_tickets is_changed rows1) (capacity : vec_capacity list1 ≡ vec_capacity list) where
+    same : (p : JudgedRow → Bool) → ((r : JudgedRow) → p (f r) ≡ p r) → statement_tickets p rows ≡ statement_tickets p rows1
+    same p e = sym (tickets-at_all f (λ r. refl) p e ts rows) ∙ ap (statement_tickets p) (sym are)
 
-    pub AreRows-judged : AreRows rows1 list1 by_id askers next
+    pub AreRows-judged : AreStatementRows rows1 list1 by_id askers next
     AreRows-judged = record {
       noted = record {
         rising = subst (IsRisingBy ticket_of) (sym are) (rising-at_all f (λ r. refl) ts rows h.noted.rising);
         changed = changed;
         room = still_room (length rows1) (length rows) (vec_capacity list) (vec_capacity list1)
-            (ap length are ∙ length-map rows (λ (r : Row). cond (among ts r.ticket) (f r) r)) capacity h.noted.room;
+            (ap length are ∙ length-map rows (λ (r : JudgedRow). cond (among ts r.ticket) (f r) r)) capacity h.noted.room;
       };
       below = subst (AllByRecursion (λ r. ticket_of r < next)) (sym are)
           (all_at_rows f (λ r. ticket_of r < next) (λ r. ticket_of r < next) ts (λ r e lt. lt) (λ r e lt. lt) rows h.below);
@@ -100,11 +100,11 @@ module _ (cause : Cause) (truth : FactTruths) (checks : List (CheckKey × Truth)
     }
 
 module _ (truth : FactTruths) (checks : List (CheckKey × Truth)) (ts : List ℕ) where
-  judged-one : (r : Row) → IsAlone r → view_of (judge_row Fact truth checks r) ≡ judge truth checks (view_of r)
+  judged-one : (r : JudgedRow) → IsAlone r → view_of (judge_row Fact truth checks r) ≡ judge truth checks (view_of r)
   judged-one r one =
       ap (λ (b : Bool). record (view_of r) { verdict = verdict_now truth checks r; by_result = cond b (each_verdict truth r.numbered.value.statement r.numbered.value.ids.items) r.by_result }) one
 
-  pub judged-at : (rows : List Row) → AllByRecursion IsAlone rows → map view_of (at_rows ts (judge_row Fact truth checks) rows) ≡ at_tickets ts (judge truth checks) (map view_of rows)
+  pub judged-at : (rows : List JudgedRow) → AllByRecursion IsAlone rows → map view_of (at_rows ts (judge_row Fact truth checks) rows) ≡ at_tickets ts (judge truth checks) (map view_of rows)
   judged-at [] h = refl
   judged-at (r ∷ rows) h = λ i. go (among ts (ticket_of r)) i ∷ judged-at rows h.1 i where
     go : (b : Bool) → view_of (cond b (judge_row Fact truth checks r) r) ≡ cond b (judge truth checks (view_of r)) (view_of r)
@@ -113,19 +113,19 @@ module _ (truth : FactTruths) (checks : List (CheckKey × Truth)) (ts : List ℕ
 
 -- ---- the same rows, with more room
 
-pub AreRows-same : (rows rows1 : List Row) (list list1 : Vec ℕ Global) (by_id by_id1 : List (List ℕ × ℕ)) (askers askers1 : List (CheckKey × Vec ℕ Global)) (next : ℕ)
-    → AreRows rows list by_id askers next → rows1 ≡ rows → list1.items ≡ list.items → vec_capacity list ≤ vec_capacity list1
+pub AreRows-same : (rows rows1 : List JudgedRow) (list list1 : Vec ℕ Global) (by_id by_id1 : List (List ℕ × ℕ)) (askers askers1 : List (CheckKey × Vec ℕ Global)) (next : ℕ)
+    → AreStatementRows rows list by_id askers next → rows1 ≡ rows → list1.items ≡ list.items → vec_capacity list ≤ vec_capacity list1
     → ((q : List ℕ) → lookup (bytes_eq q) by_id1 ≡ lookup (bytes_eq q) by_id) → ((k : CheckKey) → askers_at askers1 k ≡ askers_at askers k)
-    → AreRows rows1 list1 by_id1 askers1 next
+    → AreStatementRows rows1 list1 by_id1 askers1 next
 AreRows-same rows rows1 list list1 by_id by_id1 askers askers1 next h are changed capacity ids asked = record {
   noted = record {
     rising = subst (IsRisingBy ticket_of) (sym are) h.noted.rising;
-    changed = changed ∙ (h.noted.changed ∙ ap (tickets is_changed) (sym are));
+    changed = changed ∙ (h.noted.changed ∙ ap (statement_tickets is_changed) (sym are));
     room = let as_long = ap length are in omega (arith, as_long, capacity, h.noted.room);
   };
   below = subst (AllByRecursion (λ r. ticket_of r < next)) (sym are) h.below;
-  ids = λ q. ap one_or_none (ids q) ∙ (h.ids q ∙ ap (tickets (has_row_id q)) (sym are));
-  asked = λ k. asked k ∙ (h.asked k ∙ ap (tickets (asks k)) (sym are));
+  ids = λ q. ap one_or_none (ids q) ∙ (h.ids q ∙ ap (statement_tickets (has_row_id q)) (sym are));
+  asked = λ k. asked k ∙ (h.asked k ∙ ap (statement_tickets (asks k)) (sym are));
   alone = subst (AllByRecursion IsAlone) (sym are) h.alone;
 }
 
@@ -135,40 +135,40 @@ with-cons : (b : Bool) (n t : ℕ) (ts : List ℕ) → with_if b t (n ∷ ts) �
 with-cons true n t ts = refl
 with-cons false n t ts = refl
 
-tickets-last : (p : Row → Bool) (rows : List Row) (r : Row) → tickets p (rows ++ r ∷ []) ≡ with_if (p r) (ticket_of r) (tickets p rows)
+tickets-last : (p : JudgedRow → Bool) (rows : List JudgedRow) (r : JudgedRow) → statement_tickets p (rows ++ r ∷ []) ≡ with_if (p r) (ticket_of r) (statement_tickets p rows)
 tickets-last p [] r = go (p r) where
   go : (b : Bool) → map ticket_of (cond b (r ∷ []) []) ≡ with_if b (ticket_of r) []
   go true = refl
   go false = refl
 tickets-last p (x ∷ rows) r = go (p x) (tickets-last p rows r) where
-  go : (b : Bool) → tickets p (rows ++ r ∷ []) ≡ with_if (p r) (ticket_of r) (tickets p rows)
+  go : (b : Bool) → statement_tickets p (rows ++ r ∷ []) ≡ with_if (p r) (ticket_of r) (statement_tickets p rows)
       → map ticket_of (cond b (x ∷ filter p (rows ++ r ∷ [])) (filter p (rows ++ r ∷ []))) ≡ with_if (p r) (ticket_of r) (map ticket_of (cond b (x ∷ filter p rows) (filter p rows)))
-  go true h = ap (λ (u : List ℕ). ticket_of x ∷ u) h ∙ sym (with-cons (p r) (ticket_of x) (ticket_of r) (tickets p rows))
+  go true h = ap (λ (u : List ℕ). ticket_of x ∷ u) h ∙ sym (with-cons (p r) (ticket_of x) (ticket_of r) (statement_tickets p rows))
   go false h = h
 
-tickets_below : (p : Row → Bool) (n : ℕ) (rows : List Row) → AllByRecursion (λ r. ticket_of r < n) rows → AllByRecursion (λ t. t < n) (tickets p rows)
+tickets_below : (p : JudgedRow → Bool) (n : ℕ) (rows : List JudgedRow) → AllByRecursion (λ r. ticket_of r < n) rows → AllByRecursion (λ t. t < n) (statement_tickets p rows)
 tickets_below p n [] h = tt
 tickets_below p n (x ∷ rows) h = go (p x) (tickets_below p n rows h.1) where
-  go : (b : Bool) → AllByRecursion (λ t. t < n) (tickets p rows) → AllByRecursion (λ t. t < n) (map ticket_of (cond b (x ∷ filter p rows) (filter p rows)))
+  go : (b : Bool) → AllByRecursion (λ t. t < n) (statement_tickets p rows) → AllByRecursion (λ t. t < n) (map ticket_of (cond b (x ∷ filter p rows) (filter p rows)))
   go true more = (h.0, more)
   go false more = more
 
 -- the next ticket is above all in each list
-pub below_next : (p : Row → Bool) (n : ℕ) (rows : List Row) (ts : List ℕ) → IsRisingBy ticket_of rows → AllByRecursion (λ r. ticket_of r < n) rows → ts ≡ tickets p rows → IsBelow n ts
+pub below_next : (p : JudgedRow → Bool) (n : ℕ) (rows : List JudgedRow) (ts : List ℕ) → IsRisingBy ticket_of rows → AllByRecursion (λ r. ticket_of r < n) rows → ts ≡ statement_tickets p rows → IsBelow n ts
 below_next p n rows ts rising below e = subst (IsBelow n) (sym e) (rising_passing ticket_of p rows rising, tickets_below p n rows below)
 
-none_tickets : (p : Row → Bool) (rows : List Row) → list_any p rows ≡ false → tickets p rows ≡ []
+none_tickets : (p : JudgedRow → Bool) (rows : List JudgedRow) → list_any p rows ≡ false → statement_tickets p rows ≡ []
 none_tickets p [] h = refl
 none_tickets p (x ∷ rows) h = go (p x) h (none_tickets p rows) where
-  go : (b : Bool) → (b || list_any p rows) ≡ false → (list_any p rows ≡ false → tickets p rows ≡ []) → map ticket_of (cond b (x ∷ filter p rows) (filter p rows)) ≡ []
+  go : (b : Bool) → (b || list_any p rows) ≡ false → (list_any p rows ≡ false → statement_tickets p rows ≡ []) → map ticket_of (cond b (x ∷ filter p rows) (filter p rows)) ≡ []
   go true h more = absurd (cc)
   go false h more = more h
 
-any-judged : (id : List ℕ) (rows : List Row) → list_any (is_of id) (map view_of rows) ≡ list_any (has_row_id id) rows
+any-judged : (id : List ℕ) (rows : List JudgedRow) → list_any (is_of id) (map view_of rows) ≡ list_any (has_row_id id) rows
 any-judged id [] = refl
 any-judged id (r ∷ rows) = ap (λ (b : Bool). has_row_id id r || b) (any-judged id rows)
 
-pub new_id : (id : List ℕ) (rows : List Row) → list_any (is_of id) (map view_of rows) ≡ false → tickets (has_row_id id) rows ≡ []
+pub new_id : (id : List ℕ) (rows : List JudgedRow) → list_any (is_of id) (map view_of rows) ≡ false → statement_tickets (has_row_id id) rows ≡ []
 new_id id rows h = none_tickets (has_row_id id) rows (sym (any-judged id rows) ∙ h)
 
 -- a list that had no ticket of the id has the new one alone
@@ -176,22 +176,22 @@ id_put : (b : Bool) (o : Option ℕ) (t : ℕ) (ts : List ℕ) → one_or_none o
 id_put true o t ts e none = ap (λ (us : List ℕ). us ++ t ∷ []) (sym (none refl))
 id_put false o t ts e none = e
 
-module _ (rows rows1 : List Row) (list : Vec ℕ Global) (by_id by_id1 : List (List ℕ × ℕ)) (askers askers1 : List (CheckKey × Vec ℕ Global)) (next : ℕ) (h : AreRows rows list by_id askers next)
-    (r : Row) (ticket : r.ticket ≡ next) (was : r.verdict ≡ r.known) (one : IsAlone r) (are : rows1 ≡ rows ++ r ∷ [])
-    (new : tickets (has_row_id r.numbered.value.statement.id) rows ≡ [])
+module _ (rows rows1 : List JudgedRow) (list : Vec ℕ Global) (by_id by_id1 : List (List ℕ × ℕ)) (askers askers1 : List (CheckKey × Vec ℕ Global)) (next : ℕ) (h : AreStatementRows rows list by_id askers next)
+    (r : JudgedRow) (ticket : r.ticket ≡ next) (was : r.verdict ≡ r.known) (one : IsAlone r) (are : rows1 ≡ rows ++ r ∷ [])
+    (new : statement_tickets (has_row_id r.numbered.value.statement.id) rows ≡ [])
     (ids : (q : List ℕ) → lookup (bytes_eq q) by_id1 ≡ cond (bytes_eq r.numbered.value.statement.id q) (Some r.ticket) (lookup (bytes_eq q) by_id))
     (asked : (k : CheckKey) → askers_at askers1 k ≡ with_if (asks k r) r.ticket (askers_at askers k))
     (room : length rows < vec_capacity list) where
-  more : (p : Row → Bool) (ts : List ℕ) → ts ≡ tickets p rows → with_if (p r) r.ticket ts ≡ tickets p rows1
-  more p ts e = ap (with_if (p r) r.ticket) e ∙ (sym (tickets-last p rows r) ∙ ap (tickets p) (sym are))
+  more : (p : JudgedRow → Bool) (ts : List ℕ) → ts ≡ statement_tickets p rows → with_if (p r) r.ticket ts ≡ statement_tickets p rows1
+  more p ts e = ap (with_if (p r) r.ticket) e ∙ (sym (tickets-last p rows r) ∙ ap (statement_tickets p) (sym are))
 
-  none_of : (q : List ℕ) → bytes_eq r.numbered.value.statement.id q ≡ true → tickets (has_row_id q) rows ≡ []
-  none_of q e = subst (λ (id : List ℕ). tickets (has_row_id id) rows ≡ []) ((bytes_eq-Decides r.numbered.value.statement.id q).0 e) new
+  none_of : (q : List ℕ) → bytes_eq r.numbered.value.statement.id q ≡ true → statement_tickets (has_row_id q) rows ≡ []
+  none_of q e = subst (λ (id : List ℕ). statement_tickets (has_row_id id) rows ≡ []) ((bytes_eq-Decides r.numbered.value.statement.id q).0 e) new
 
   unchanged : is_changed r ≡ false
   unchanged = ap (λ (t : Truth). not (same_truth t r.known)) was ∙ ap not (same_self r.known)
 
-  pub AreRows-put : AreRows rows1 list by_id1 askers1 (next + 1)
+  pub AreRows-put : AreStatementRows rows1 list by_id1 askers1 (next + 1)
   AreRows-put = record {
     noted = record {
       rising = subst (IsRisingBy ticket_of) (sym are) (rising_last ticket_of r rows h.noted.rising (subst (λ (n : ℕ). AllByRecursion (λ x. ticket_of x < n) rows) (sym ticket) h.below));
@@ -201,8 +201,8 @@ module _ (rows rows1 : List Row) (list : Vec ℕ Global) (by_id by_id1 : List (L
     below = subst (AllByRecursion (λ x. ticket_of x < next + 1)) (sym are)
         (all_last (λ x. ticket_of x < next + 1) rows r (all_weaker (λ x. ticket_of x < next) (λ x. ticket_of x < next + 1) (λ x lt. omega (arith, lt)) rows h.below) (omega (arith, ticket)));
     ids = λ q. ap one_or_none (ids q)
-        ∙ (id_put (bytes_eq r.numbered.value.statement.id q) (lookup (bytes_eq q) by_id) r.ticket (tickets (has_row_id q) rows) (h.ids q) (none_of q)
-        ∙ more (has_row_id q) (tickets (has_row_id q) rows) refl);
+        ∙ (id_put (bytes_eq r.numbered.value.statement.id q) (lookup (bytes_eq q) by_id) r.ticket (statement_tickets (has_row_id q) rows) (h.ids q) (none_of q)
+        ∙ more (has_row_id q) (statement_tickets (has_row_id q) rows) refl);
     asked = λ k. asked k ∙ more (asks k) (askers_at askers k) (h.asked k);
     alone = subst (AllByRecursion IsAlone) (sym are) (all_last IsAlone rows r h.alone one);
   }
@@ -224,11 +224,11 @@ judged_last truth a b s ids rows checks h =
     (subst (AllByRecursion (λ j. judge truth a.checks j ≡ j)) (sym rows)
     (all_last (λ j. judge truth a.checks j ≡ j) a.rows (new_statement_row truth a s ids) h (judged_put truth a s ids)))
 
-pub statements-last : (rows : List Row) (r : Row) → statements_of (map view_of (rows ++ r ∷ [])) ≡ statements_of (map view_of rows) ++ r.numbered.value.statement ∷ []
+pub statements-last : (rows : List JudgedRow) (r : JudgedRow) → statements_of (map view_of (rows ++ r ∷ [])) ≡ statements_of (map view_of rows) ++ r.numbered.value.statement ∷ []
 statements-last [] r = refl
 statements-last (x ∷ rows) r = ap (λ (ss : List Statement). x.numbered.value.statement ∷ ss) (statements-last rows r)
 
-pub room_of : (listed : Bool) (count capacity spare next : ℕ) → has_room listed count capacity spare next ≡ true → count < capacity
+pub room_of : (listed : Bool) (count capacity spare next : ℕ) → has_statement_room listed count capacity spare next ≡ true → count < capacity
 room_of listed count capacity spare next h =
     let one = and_parts listed _ h in
     let two = and_parts (nat_lt count capacity) _ one.1 in
@@ -237,7 +237,7 @@ room_of listed count capacity spare next h =
 
 -- a statement is ready, or memory ran out
 module _ {Fault : Type 0} (a b : State) (s : Statement) (ids : List NameId) (numbered : Box NumberedStatement Global) (listed : Bool) (count capacity spare : ℕ)
-    (same : SameRows a b) (ready : b.ready ≡ has_room listed count capacity spare a.next) (is_held : numbered.value.statement ≡ s) (are_ids : numbered.value.ids.items ≡ ids)
+    (same : SameRows a b) (ready : b.ready ≡ has_statement_room listed count capacity spare a.next) (is_held : numbered.value.statement ≡ s) (are_ids : numbered.value.ids.items ≡ ids)
     (new : list_any (is_of s.id) a.rows ≡ false) (few : nat_lt (most which.Facts) (number_of_facts (statements_of a.rows ++ s ∷ [])) ≡ false) where
   ready_cases : (id : Result (List ℕ) Fault) → RowRoom listed count capacity spare a.next s a.askers b.askers id → StatementReady a b s ids (with_id numbered a.next id)
   ready_cases (Ok i) h = record {

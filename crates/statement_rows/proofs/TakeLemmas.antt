@@ -1,15 +1,15 @@
 -- A list without the element at a place.
 use Rattle.std.proofs.Common.{◌≡◌, ℕ, zero, suc, ◌+◌, ◌<◌, ◌≤◌, ◌||◌, Bool, true, false, not, cond, List, [], ◌∷◌, ◌++◌, length, map, take, drop, refl, sym, ap, subst, ◌∙◌, arith}
-use Rattle.cpe_inventory.specs.ticket_list.TicketList.{has_ticket, without_ticket}
+use Rattle.check_results.specs.ticket_list.TicketList.{has_ticket, without_ticket}
 use Rattle.std.specs.Prelude.{find, nat_eq, slice_get, Option, Some, None}
 use Rattle.std.specs.List.{AllByRecursion, filter, list_any}
 use Rattle.std.specs.Option.{option_map}
 use Rattle.cpe_rows.specs.After.{without_first}
-use Rattle.statement_rows.specs.declared.row.Row.{Row}
+use Rattle.statement_rows.specs.declared.row.JudgedRow.{JudgedRow}
 use Rattle.statement_rows.specs.Rows.{ticket_of}
 use Rattle.statement_rows.specs.Tickets.{first_place, without, without_if}
-use Rattle.cpe_inventory.specs.ticket_list.Rising.{IsRisingBy}
-use Rattle.cpe_inventory.proofs.ticket_list.RisingLemmas.{all_passing}
+use Rattle.check_results.specs.ticket_list.Rising.{IsRisingBy}
+use Rattle.check_results.proofs.ticket_list.RisingLemmas.{all_passing}
 use Rattle.statement_rows.proofs.ListLemmas.{nat_same}
 use Rattle.statement_rows.proofs.RowLemmas.{all_at, higher_differs, lower_differs, no_element, without_lowest}
 
@@ -123,19 +123,19 @@ module _ {X : Type 0} (p : X → Bool) where
 
 -- ---- the row at a place, by its ticket
 
-ticket_above : (n k t : ℕ) (rows : List Row) → AllByRecursion (λ r. n < ticket_of r) rows → option_map ticket_of (slice_get rows k) ≡ Some t → n < t
+ticket_above : (n k t : ℕ) (rows : List JudgedRow) → AllByRecursion (λ r. n < ticket_of r) rows → option_map ticket_of (slice_get rows k) ≡ Some t → n < t
 ticket_above n k t [] h e = absurd (no_element e)
 ticket_above n zero t (r ∷ rows) h e = let same : ticket_of r ≡ t = cc e in subst (λ (m : ℕ). n < m) same h.0
 ticket_above n (suc k) t (r ∷ rows) h e = ticket_above n k t rows h.1 e
 
-others_stay : (n t : ℕ) (rows : List Row) → AllByRecursion (λ r. n < ticket_of r) rows → n ≡ t → rows ≡ without_ticket ticket_of t rows
+others_stay : (n t : ℕ) (rows : List JudgedRow) → AllByRecursion (λ r. n < ticket_of r) rows → n ≡ t → rows ≡ without_ticket ticket_of t rows
 others_stay n t [] h e = refl
 others_stay n t (r ∷ rows) h e =
     let lt : n < ticket_of r = h.0 in
-    ap (λ (u : List Row). r ∷ u) (others_stay n t rows h.1 e)
+    ap (λ (u : List JudgedRow). r ∷ u) (others_stay n t rows h.1 e)
     ∙ ap (λ (b : Bool). cond (not b) (r ∷ without_ticket ticket_of t rows) (without_ticket ticket_of t rows)) (sym (higher_differs t (ticket_of r) (omega (arith, lt, e))))
 
-pub row_taken : (k t : ℕ) (rows : List Row) → IsRisingBy ticket_of rows → option_map ticket_of (slice_get rows k) ≡ Some t
+pub row_taken : (k t : ℕ) (rows : List JudgedRow) → IsRisingBy ticket_of rows → option_map ticket_of (slice_get rows k) ≡ Some t
     → (find (has_ticket ticket_of t) rows ≡ slice_get rows k) × (without_ticket ticket_of t rows ≡ removed k rows)
 row_taken k t [] rising h = absurd (no_element h)
 row_taken zero t (x ∷ xs) rising h =
@@ -150,10 +150,10 @@ row_taken (suc k) t (x ∷ xs) rising h =
     let differs = lower_differs (ticket_of x) t (ticket_above (ticket_of x) k t xs rising.0 h) in (
       ap (λ (b : Bool). cond b (Some x) (find (has_ticket ticket_of t) xs)) differs ∙ more.0,
       ap (λ (b : Bool). cond (not b) (x ∷ without_ticket ticket_of t xs) (without_ticket ticket_of t xs)) differs
-          ∙ (ap (λ (u : List Row). x ∷ u) more.1 ∙ sym (next_place x k xs)),
+          ∙ (ap (λ (u : List JudgedRow). x ∷ u) more.1 ∙ sym (next_place x k xs)),
     )
 
-pub row_there : (k : ℕ) (rows : List Row) → k < length rows → None ≡ option_map ticket_of (slice_get rows k) → ⊥
+pub row_there : (k : ℕ) (rows : List JudgedRow) → k < length rows → None ≡ option_map ticket_of (slice_get rows k) → ⊥
 row_there k [] lt h = omega (arith, lt)
 row_there zero (x ∷ xs) lt h = no_element h
 row_there (suc k) (x ∷ xs) lt h = row_there k xs (omega (arith, lt)) h

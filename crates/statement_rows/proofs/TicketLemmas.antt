@@ -4,7 +4,7 @@ use Rattle.std.specs.Prelude.{nat_eq, nat_lt}
 use Rattle.std.specs.List.{AllByRecursion, slice_index_or}
 use Rattle.std.proofs.lemmas.Bool.Decides.{nat_tests}
 use Rattle.statement_rows.specs.Tickets.{ends_with, is_at, without}
-use Rattle.cpe_inventory.specs.ticket_list.Rising.{IsRising, prefix}
+use Rattle.check_results.specs.ticket_list.Rising.{IsRising, prefix}
 
 pub without_none : (t : ℕ) (xs : List ℕ) → AllByRecursion (λ y. nat_eq y t ≡ false) xs → without t xs ≡ xs
 without_none t [] h = refl

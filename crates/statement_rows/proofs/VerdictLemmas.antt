@@ -16,10 +16,10 @@ use Rattle.cpe_rows.specs.declared.test.Test.{Test}
 use Rattle.cpe_rows.specs.declared.test.Test.TheOpen.{Test-F}
 use Rattle.cpe_rows.specs.declared.test.Test.TheViews.{roll-Test}
 use Rattle.cpe_rows.specs.declared.test.Test.TheFolds.{fold-roll-Test, ind-Test, map-Test}
-use Rattle.statement_rows.specs.declared.row.Row.{Row}
-use Rattle.statement_rows.specs.Readings.{FactTruths, Reading, check_keys, has_fact, is_asked, keys_step, reading, reading_step, truths_along, truths_of}
+use Rattle.statement_rows.specs.declared.row.JudgedRow.{JudgedRow}
+use Rattle.statement_rows.specs.Readings.{FactTruths, TruthReading, check_keys, has_fact, is_asked, asked_keys_step, reading, reading_step, truths_along, truths_of}
 use Rattle.statement_rows.specs.Rows.{asks, verdict_by, verdict_now}
-use Rattle.cpe_inventory.specs.Kept.{kept_truth}
+use Rattle.check_results.specs.Kept.{kept_truth}
 use Rattle.name_index.specs.declared.table.NameId.{NameId}
 use Rattle.statement_rows.proofs.ListLemmas.{nat_same}
 
@@ -51,7 +51,7 @@ module _ (check other : CheckKey → Truth) where
   abbrev Shown : Type 0
   Shown = (t : Test) × Stays t
 
-  both : (x y : Truth × List Truth) (rs qs : List Reading) → x ≡ y → truths_along rs x.1 ≡ truths_along qs y.1
+  both : (x y : Truth × List Truth) (rs qs : List TruthReading) → x ≡ y → truths_along rs x.1 ≡ truths_along qs y.1
       → ◌≡◌ {A = List Truth × List Truth} (x.0 ∷ (truths_along rs x.1).0, (truths_along rs x.1).1) (y.0 ∷ (truths_along qs y.1).0, (truths_along qs y.1).1)
   both x y rs qs h e = λ i. ((h i).0 ∷ (e i).0, (e i).1)
 
@@ -65,11 +65,11 @@ module _ (check other : CheckKey → Truth) where
       both (reading check e.0 ts) (reading other e.0 ts) (map (reading check) (map (λ (e : Shown). e.0) es)) (map (reading other) (map (λ (e : Shown). e.0) es)) here
       (behind (reading check e.0 ts).1 ∙ ap (λ (x : Truth × List Truth). truths_along (map (reading other) (map (λ (e : Shown). e.0) es)) x.1) here)
 
-  level : (c : CheckKey → Truth) (y : Test-F Test) (ts : List Truth) → reading c (roll-Test y) ts ≡ reading_step c (map-Test Test Reading (reading c) y) ts
-  level c y ts = ap (λ (r : Reading). r ts) (fold-roll-Test Reading (reading_step c) y)
+  level : (c : CheckKey → Truth) (y : Test-F Test) (ts : List Truth) → reading c (roll-Test y) ts ≡ reading_step c (map-Test Test TruthReading (reading c) y) ts
+  level c y ts = ap (λ (r : TruthReading). r ts) (fold-roll-Test TruthReading (reading_step c) y)
 
-  keys_level : (y : Test-F Test) → check_keys (roll-Test y) ≡ keys_step (map-Test Test (List CheckKey) check_keys y)
-  keys_level y = fold-roll-Test (List CheckKey) keys_step y
+  keys_level : (y : Test-F Test) → check_keys (roll-Test y) ≡ asked_keys_step (map-Test Test (List CheckKey) check_keys y)
+  keys_level y = fold-roll-Test (List CheckKey) asked_keys_step y
 
   rolled : (y : Test-F Shown) → Stays (roll-Test (map-Test Shown Test (λ e. e.0) y))
   rolled (Test-F.Logic o negate es) = λ h ts.
@@ -109,7 +109,7 @@ not_this keys key k no_ yes_ = go (same_key key k) refl where
 
 pub check_cover : (truth : FactTruths) (checks checks1 : List (CheckKey × Truth)) (key : CheckKey)
     → ((k : CheckKey) → same_key key k ≡ false → kept_truth checks k ≡ kept_truth checks1 k)
-    → (r : Row) → asks key r ≡ false
+    → (r : JudgedRow) → asks key r ≡ false
     → verdict_now truth checks r ≡ verdict_now truth checks1 r
 check_cover truth checks checks1 key others r unasked =
     verdict_same truth truth checks checks1 r.numbered.value.statement r.numbered.value.ids.items (λ q m. refl)

@@ -26,38 +26,38 @@ abbrev pub has_fact : List NameId → ℕ → Bool
 has_fact ids q = list_any (λ (id : NameId). nat_eq id.0 q) ids
 
 -- a truth, and the truths that are left for what follows
-abbrev pub Reading : Type 0
-Reading = List Truth → Truth × List Truth
+abbrev pub TruthReading : Type 0
+TruthReading = List Truth → Truth × List Truth
 
 -- a fact reference takes the next truth
-abbrev pub next_truth : Reading
+abbrev pub next_truth : TruthReading
 next_truth [] = (Unknown, [])
 next_truth (t ∷ ts) = (t, ts)
 
 -- each child takes its truths from those that the children before it left
-abbrev pub truths_along : List Reading → List Truth → List Truth × List Truth
+abbrev pub truths_along : List TruthReading → List Truth → List Truth × List Truth
 truths_along [] ts = ([], ts)
 truths_along (r ∷ rs) ts = ((r ts).0 ∷ (truths_along rs (r ts).1).0, (truths_along rs (r ts).1).1)
 
 -- one level of a test: a logical test joins the truths of its children, and a check reference takes no truth from the list
-abbrev pub reading_step : (CheckKey → Truth) → Test-F Reading → Reading
+abbrev pub reading_step : (CheckKey → Truth) → Test-F TruthReading → TruthReading
 reading_step check (Test-F.Logic operator negate of) = λ ts. (negated negate (joined operator (truths_along of ts).0), (truths_along of ts).1)
 reading_step check (Test-F.Fact name) = next_truth
 reading_step check (Test-F.Check key) = λ ts. (check key, ts)
 
 -- how a test reads its truth from the truths of its fact references
-abbrev pub reading : (CheckKey → Truth) → Test → Reading
-reading check = fold-Test Reading (reading_step check)
+abbrev pub reading : (CheckKey → Truth) → Test → TruthReading
+reading check = fold-Test TruthReading (reading_step check)
 
 -- one level of a test: the keys of its children, or its own
-abbrev pub keys_step : Test-F (List CheckKey) → List CheckKey
-keys_step (Test-F.Logic operator negate of) = flat_map (λ keys. keys) of
-keys_step (Test-F.Fact name) = []
-keys_step (Test-F.Check key) = key ∷ []
+abbrev pub asked_keys_step : Test-F (List CheckKey) → List CheckKey
+asked_keys_step (Test-F.Logic operator negate of) = flat_map (λ keys. keys) of
+asked_keys_step (Test-F.Fact name) = []
+asked_keys_step (Test-F.Check key) = key ∷ []
 
 -- the keys of the check references of a test, in the order of its arrays
 abbrev pub check_keys : Test → List CheckKey
-check_keys = fold-Test (List CheckKey) keys_step
+check_keys = fold-Test (List CheckKey) asked_keys_step
 
 -- the check is one of these
 abbrev pub is_asked : List CheckKey → CheckKey → Bool

@@ -13,14 +13,14 @@ use Rattle.cpe_rows.specs.declared.statement.Mode.{Mode}
 use Rattle.cpe_rows.specs.declared.statement.Statement.{Statement}
 use Rattle.cpe_rows.specs.declared.test.CheckKey.{CheckKey}
 use Rattle.cpe_rows.specs.declared.truth.Truth.{Truth}
-use Rattle.cpe_inventory.specs.Results.{ChecksNow, IsReadyResult as IsReadyFor}
-use Rattle.cpe_inventory.specs.declared.ready_result.ReadyResult.{ReadyResult}
+use Rattle.check_results.specs.Results.{ChecksNow, IsReadyCheck as IsReadyFor}
+use Rattle.check_results.specs.declared.ready_result.ReadyResult.{ReadyResult}
 use Rattle.name_index.specs.declared.table.NameId.{NameId}
 use Rattle.statement_rows.specs.declared.by_result.ByResult.{ByResult}
 use Rattle.statement_rows.specs.declared.fact_use.FactUse.{FactUse}
-use Rattle.statement_rows.specs.declared.row.Row.{Row}
+use Rattle.statement_rows.specs.declared.row.JudgedRow.{JudgedRow}
 use Rattle.statement_rows.specs.declared.ready_statement.ReadyStatement.{ReadyStatement}
-use Rattle.statement_rows.specs.Askers.{AreAsked, AreAskedBut, HasPlace, askers_at}
+use Rattle.statement_rows.specs.Askers.{AreAskers, AreAskedBut, HasPlace, askers_at}
 use Rattle.statement_rows.specs.ByResult.{asks_one, each_result}
 use Rattle.statement_rows.specs.Readings.{FactTruths, check_keys, is_asked}
 use Rattle.statement_rows.specs.Rows.{each_verdict, verdict_by}
@@ -47,16 +47,16 @@ pub record State : Type 0 where
   pub result_room : Bool
 
 -- what contracts see of a row
-abbrev pub view_of : Row → StatementRow
+abbrev pub view_of : JudgedRow → StatementRow
 view_of r = record { statement = r.numbered.value.statement; ids = r.numbered.value.ids.items; ticket = r.ticket; verdict = r.verdict; known = r.known; by_result = r.by_result }
 
 -- the largest number of 64 bits, which no statement gets
-abbrev pub last_ticket : ℕ
-last_ticket = 18446744073709551615
+abbrev pub last_statement_ticket : ℕ
+last_statement_ticket = 18446744073709551615
 
 -- there is room for one more row, for its ticket among those of the changed rows, and for its id; and there is a ticket for it
-abbrev pub has_room : Bool → ℕ → ℕ → ℕ → ℕ → Bool
-has_room listed count capacity spare next = listed && (nat_lt count capacity && (nat_lt 0 spare && nat_lt next last_ticket))
+abbrev pub has_statement_room : Bool → ℕ → ℕ → ℕ → ℕ → Bool
+has_statement_room listed count capacity spare next = listed && (nat_lt count capacity && (nat_lt 0 spare && nat_lt next last_statement_ticket))
 
 -- the statements of rows
 abbrev pub statements_of : List StatementRow → List Statement
@@ -120,13 +120,13 @@ abbrev pub has_changed : StatementRow → Bool
 has_changed j = not (same_truth j.verdict j.known)
 
 -- the places of the elements that pass, counted from n
-abbrev pub places : {X : Type 0} → (X → Bool) → ℕ → List X → List ℕ
-places p n [] = []
-places p n (x ∷ xs) = cond (p x) (n ∷ places p (suc n) xs) (places p (suc n) xs)
+abbrev pub places_where : {X : Type 0} → (X → Bool) → ℕ → List X → List ℕ
+places_where p n [] = []
+places_where p n (x ∷ xs) = cond (p x) (n ∷ places_where p (suc n) xs) (places_where p (suc n) xs)
 
 -- the places of the statements whose verdict differs from the known one, rising
 abbrev pub changed_places : State → List ℕ
-changed_places b = places has_changed 0 b.rows
+changed_places b = places_where has_changed 0 b.rows
 
 -- the known verdict and the present one of the statement at a place
 abbrev pub change_at : State → ℕ → Changed
@@ -150,9 +150,9 @@ pub record StatementReady {Fault : Type 0} (old new : State) (s : Statement) (id
   pub same : SameRows old new
   pub ready : IfOk result (IsReadyRow new s ids)
   -- if a check has a list for which no statement asks, the ready statement asks for it
-  pub asked : AreAsked old.askers → OnOk result (AreAskedBut (check_keys s.test) new.askers)
+  pub asked : AreAskers old.askers → OnOk result (AreAskedBut (check_keys s.test) new.askers)
   -- without memory no check has such a list
-  pub left : AreAsked old.askers → OnErr result (AreAsked new.askers)
+  pub left : AreAskers old.askers → OnErr result (AreAskers new.askers)
 
 -- the row of a new statement, whose verdict is known
 abbrev pub new_statement_row : FactTruths → State → Statement → List NameId → StatementRow
@@ -161,11 +161,11 @@ new_statement_row truth b s ids =
     record { statement = s; ids = ids; ticket = b.next; verdict = v; known = v; by_result = cond (asks_one (check_keys s.test)) (each_verdict truth s ids) (each_result (λ t. v)) }
 
 -- The statement is the last one, and has its verdict.
-pub record StatementAdded (old new : State) (s : Statement) (ids : List NameId) (truth : FactTruths) : Type 0 where
+pub record StatementStored (old new : State) (s : Statement) (ids : List NameId) (truth : FactTruths) : Type 0 where
   pub rows : new.rows ≡ old.rows ++ new_statement_row truth old s ids ∷ []
   pub checks : new.checks ≡ old.checks
   pub next : new.next ≡ old.next + 1
-  pub asked : AreAskedBut (check_keys s.test) old.askers → AreAsked new.askers
+  pub asked : AreAskedBut (check_keys s.test) old.askers → AreAskers new.askers
   pub judged : AreJudged old truth → AreJudged new truth
 
 -- ---- a result
@@ -175,5 +175,5 @@ abbrev pub checks_of : State → ChecksNow
 checks_of b = record { list = b.checks; ready = b.result_room }
 
 -- all memory is taken for a result of this key
-abbrev pub IsReadyResult : State → CheckKey → ReadyResult → Type 0
-IsReadyResult b k r = IsReadyFor (checks_of b) k r
+abbrev pub IsReadyTruth : State → CheckKey → ReadyResult → Type 0
+IsReadyTruth b k r = IsReadyFor (checks_of b) k r

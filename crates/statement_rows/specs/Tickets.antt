@@ -2,7 +2,7 @@
 use Rattle.std.specs.Prelude.{ℕ, suc, ◌<◌, Bool, true, false, not, cond, nat_eq, slice_get, List, [], ◌∷◌, ◌++◌, Option, Some, None}
 use Rattle.std.specs.List.{AllByRecursion, filter, list_any}
 use Rattle.std.specs.Option.{option_map, option_map_or}
-use Rattle.cpe_inventory.specs.ticket_list.Rising.{IsRising}
+use Rattle.check_results.specs.ticket_list.Rising.{IsRising}
 
 -- the list rises, and each of its tickets is below this one
 abbrev pub IsBelow : ℕ → List ℕ → Type 0

@@ -3,10 +3,10 @@ ghost use Rattle.std.specs.Prelude.{◌≡◌, [], false, true, None, OnOk, leng
 ghost use Rattle.std.specs.Bool.{OnTrue};
 ghost use Rattle.cpe_rows.specs.Rows.{same_key};
 ghost use Rattle.cpe_rows.specs.declared.test.CheckKey.{CheckKey};
-ghost use Rattle.statement_rows.specs.Askers.{AreAsked, HasPlace, IsAsked, askers_at, list_at, may_enter, trim_list, trim_list_if};
+ghost use Rattle.statement_rows.specs.Askers.{AreAskers, HasPlace, IsAsked, askers_at, asker_list_at, may_enter, trim_list, trim_list_if};
 ghost use Rattle.statement_rows.specs.Readings.{check_keys, is_asked};
 ghost use Rattle.statement_rows.specs.Tickets.{is_empty, with_last, with_last_if, without, without_if};
-ghost use Rattle.cpe_inventory.specs.ticket_list.Rising.{IsRising};
+ghost use Rattle.check_results.specs.ticket_list.Rising.{IsRising};
 
 use crate::tickets::{add_last, remove_ticket};
 use cpe_rows::{CheckKey, Memory, Test};
@@ -36,7 +36,7 @@ fn reserve(
 ) -> Result<(), Memory>
     ensures place { OnOk result (HasPlace askers.new.entries key.now) }
     ensures tickets { askers_at askers.new.entries key.now ≡ askers_at askers.old.entries key.now }
-    ensures others { (q : CheckKey) → same_key key.now q ≡ false → list_at askers.new.entries q ≡ list_at askers.old.entries q }
+    ensures others { (q : CheckKey) → same_key key.now q ≡ false → asker_list_at askers.new.entries q ≡ asker_list_at askers.old.entries q }
 {
     match askers.get_mut(key) {
         Some(list) => reserve_one(list),
@@ -59,10 +59,10 @@ fn reserve_first(
     alloc: Global,
     key: &CheckKey,
 ) -> Result<(), Memory>
-    requires { list_at askers.old.entries key.now ≡ None }
+    requires { asker_list_at askers.old.entries key.now ≡ None }
     ensures place { OnOk result (HasPlace askers.new.entries key.now) }
     ensures tickets { askers_at askers.new.entries key.now ≡ askers_at askers.old.entries key.now }
-    ensures others { (q : CheckKey) → same_key key.now q ≡ false → list_at askers.new.entries q ≡ list_at askers.old.entries q }
+    ensures others { (q : CheckKey) → same_key key.now q ≡ false → asker_list_at askers.new.entries q ≡ asker_list_at askers.old.entries q }
 {
     let mut list = Vec::new(alloc);
     reserve_one(&mut list)?;
@@ -84,7 +84,7 @@ pub(crate) fn reserve_all(
 ) -> Result<(), Memory>
     ensures places { OnOk result ((q : CheckKey) → is_asked (check_keys test.now) q ≡ true → HasPlace askers.new.entries q) }
     ensures tickets { (q : CheckKey) → askers_at askers.new.entries q ≡ askers_at askers.old.entries q }
-    ensures others { (q : CheckKey) → is_asked (check_keys test.now) q ≡ false → list_at askers.new.entries q ≡ list_at askers.old.entries q }
+    ensures others { (q : CheckKey) → is_asked (check_keys test.now) q ≡ false → asker_list_at askers.new.entries q ≡ asker_list_at askers.old.entries q }
 {
     match test {
         Test::Logic { of, .. } => {
@@ -102,8 +102,8 @@ pub(crate) fn reserve_all(
 
 // Removes the list of a check if it is empty.
 fn trim(askers: &mut HashMap<CheckKey, Vec<u64>>, key: &CheckKey)
-    ensures here { list_at askers.new.entries key.now ≡ trim_list (list_at askers.old.entries key.now) }
-    ensures others { (q : CheckKey) → same_key key.now q ≡ false → list_at askers.new.entries q ≡ list_at askers.old.entries q }
+    ensures here { asker_list_at askers.new.entries key.now ≡ trim_list (asker_list_at askers.old.entries key.now) }
+    ensures others { (q : CheckKey) → same_key key.now q ≡ false → asker_list_at askers.new.entries q ≡ asker_list_at askers.old.entries q }
 {
     if is_unasked(askers, key) {
         drop(askers.remove(key));
@@ -121,7 +121,7 @@ fn is_unasked(askers: &HashMap<CheckKey, Vec<u64>>, key: &CheckKey) -> bool
 
 // Removes the lists of the checks of a test that are empty. Takes no memory.
 pub(crate) fn trim_all(askers: &mut HashMap<CheckKey, Vec<u64>>, test: &Test)
-    ensures { (q : CheckKey) → list_at askers.new.entries q ≡ trim_list_if (is_asked (check_keys test.now) q) (list_at askers.old.entries q) }
+    ensures { (q : CheckKey) → asker_list_at askers.new.entries q ≡ trim_list_if (is_asked (check_keys test.now) q) (asker_list_at askers.old.entries q) }
 {
     match test {
         Test::Logic { of, .. } => {
@@ -136,9 +136,9 @@ pub(crate) fn trim_all(askers: &mut HashMap<CheckKey, Vec<u64>>, test: &Test)
 
 // Adds a ticket as one that asks for a check, unless it is the last of these.
 fn add(askers: &mut HashMap<CheckKey, Vec<u64>>, key: &CheckKey, ticket: u64)
-    requires { may_enter ticket (list_at askers.old.entries key.now) ≡ true }
+    requires { may_enter ticket (asker_list_at askers.old.entries key.now) ≡ true }
     ensures here { askers_at askers.new.entries key.now ≡ with_last ticket (askers_at askers.old.entries key.now) }
-    ensures others { (q : CheckKey) → same_key key.now q ≡ false → list_at askers.new.entries q ≡ list_at askers.old.entries q }
+    ensures others { (q : CheckKey) → same_key key.now q ≡ false → asker_list_at askers.new.entries q ≡ asker_list_at askers.old.entries q }
 {
     match askers.get_mut(key) {
         Some(list) => add_last(list, ticket),
@@ -148,9 +148,9 @@ fn add(askers: &mut HashMap<CheckKey, Vec<u64>>, key: &CheckKey, ticket: u64)
 
 // For each check in a test, appends a ticket to the list of those that ask for it, unless it is already the last one there. Takes no memory.
 pub(crate) fn add_all(askers: &mut HashMap<CheckKey, Vec<u64>>, test: &Test, ticket: u64)
-    requires { (q : CheckKey) → is_asked (check_keys test.now) q ≡ true → may_enter ticket (list_at askers.old.entries q) ≡ true }
+    requires { (q : CheckKey) → is_asked (check_keys test.now) q ≡ true → may_enter ticket (asker_list_at askers.old.entries q) ≡ true }
     ensures tickets { (q : CheckKey) → askers_at askers.new.entries q ≡ with_last_if (is_asked (check_keys test.now) q) ticket (askers_at askers.old.entries q) }
-    ensures others { (q : CheckKey) → is_asked (check_keys test.now) q ≡ false → list_at askers.new.entries q ≡ list_at askers.old.entries q }
+    ensures others { (q : CheckKey) → is_asked (check_keys test.now) q ≡ false → asker_list_at askers.new.entries q ≡ asker_list_at askers.old.entries q }
 {
     match test {
         Test::Logic { of, .. } => {
@@ -167,7 +167,7 @@ pub(crate) fn add_all(askers: &mut HashMap<CheckKey, Vec<u64>>, test: &Test, tic
 fn remove(askers: &mut HashMap<CheckKey, Vec<u64>>, key: &CheckKey, ticket: u64)
     requires { IsRising (askers_at askers.old.entries key.now) }
     ensures here { askers_at askers.new.entries key.now ≡ without ticket (askers_at askers.old.entries key.now) }
-    ensures others { (q : CheckKey) → same_key key.now q ≡ false → list_at askers.new.entries q ≡ list_at askers.old.entries q }
+    ensures others { (q : CheckKey) → same_key key.now q ≡ false → asker_list_at askers.new.entries q ≡ asker_list_at askers.old.entries q }
     ensures list { IsAsked askers.new.entries key.now }
 {
     if remove_from(askers, key, ticket) {
@@ -181,7 +181,7 @@ fn remove_from(askers: &mut HashMap<CheckKey, Vec<u64>>, key: &CheckKey, ticket:
     ensures empty { OnTrue result (askers_at askers.new.entries key.now ≡ []) }
     ensures left { askers_at askers.new.entries key.now ≡ [] → result ≡ true }
     ensures here { askers_at askers.new.entries key.now ≡ without ticket (askers_at askers.old.entries key.now) }
-    ensures others { (q : CheckKey) → same_key key.now q ≡ false → list_at askers.new.entries q ≡ list_at askers.old.entries q }
+    ensures others { (q : CheckKey) → same_key key.now q ≡ false → asker_list_at askers.new.entries q ≡ asker_list_at askers.old.entries q }
 {
     match askers.get_mut(key) {
         Some(list) => {
@@ -196,7 +196,7 @@ fn remove_from(askers: &mut HashMap<CheckKey, Vec<u64>>, key: &CheckKey, ticket:
 pub(crate) fn remove_all(askers: &mut HashMap<CheckKey, Vec<u64>>, test: &Test, ticket: u64)
     requires { (q : CheckKey) → IsRising (askers_at askers.old.entries q) }
     ensures tickets { (q : CheckKey) → askers_at askers.new.entries q ≡ without_if (is_asked (check_keys test.now) q) ticket (askers_at askers.old.entries q) }
-    ensures lists { AreAsked askers.old.entries → AreAsked askers.new.entries }
+    ensures lists { AreAskers askers.old.entries → AreAskers askers.new.entries }
 {
     match test {
         Test::Logic { of, .. } => {

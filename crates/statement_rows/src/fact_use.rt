@@ -2,7 +2,7 @@
 ghost use Rattle.std.specs.Prelude.{◌≡◌};
 ghost use Rattle.statement_rows.specs.State.{use_in, use_of, view_of};
 
-use crate::row::{NumberedStatement, Row};
+use crate::row::{JudgedRow, NumberedStatement};
 use cpe_rows::{Mode, Statement};
 use name_index::NameId;
 
@@ -18,7 +18,7 @@ pub struct FactUse {
 }
 
 // The facts that the statement of a row uses.
-pub(crate) fn into_use(row: Row) -> FactUse
+pub(crate) fn into_use(row: JudgedRow) -> FactUse
     ensures { use_in result ≡ use_of (view_of row) }
 {
     let ticket = row.ticket;

@@ -3,25 +3,25 @@ ghost use Rattle.std.specs.Prelude.{◌≡◌, ◌<◌, ℕ, List, cond, None, S
 ghost use Rattle.std.specs.HashMap.{spare};
 ghost use Rattle.std.specs.Map.{lookup};
 ghost use Rattle.std.specs.Str.{bytes_eq};
-ghost use Rattle.cpe_inventory.specs.Results.{one_or_none};
-ghost use Rattle.statement_rows.specs.Rows.{has_row_id, ticket_of, tickets};
+ghost use Rattle.check_results.specs.Results.{one_or_none};
+ghost use Rattle.statement_rows.specs.Rows.{has_row_id, ticket_of, statement_tickets};
 ghost use Rattle.statement_rows.specs.Tickets.{first_place};
-ghost use Rattle.cpe_inventory.specs.ticket_list.Rising.{IsRisingBy};
+ghost use Rattle.check_results.specs.ticket_list.Rising.{IsRisingBy};
 
-use crate::row::Row;
+use crate::row::JudgedRow;
 use crate::rows::place_of;
-use cpe_inventory::TicketList;
+use check_results::TicketList;
 use cpe_rows::Text;
 use std::collections::HashMap;
 
 // The place of the row of an id, from 0.
 pub(crate) fn place_by_id(
-    rows: &TicketList<Row>,
+    rows: &TicketList<JudgedRow>,
     by_id: &HashMap<Text, u64>,
     id: &Text,
 ) -> Option<usize>
     requires rising { IsRisingBy ticket_of rows.now.items }
-    requires ids { one_or_none (lookup (bytes_eq id.now) by_id.now.entries) ≡ tickets (has_row_id id.now) rows.now.items }
+    requires ids { one_or_none (lookup (bytes_eq id.now) by_id.now.entries) ≡ statement_tickets (has_row_id id.now) rows.now.items }
     ensures { result ≡ first_place (has_row_id id.now) rows.now.items }
 {
     match by_id.get(id) {

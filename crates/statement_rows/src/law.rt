@@ -6,7 +6,7 @@ ghost use Rattle.cpe_rows.specs.declared.statement.Statement.{Statement};
 ghost use Rattle.cpe_rows.specs.declared.test.CheckKey.{CheckKey};
 ghost use Rattle.cpe_rows.specs.declared.truth.Truth.{Truth};
 ghost use Rattle.cpe_rows.specs.Evaluation.{test_truth};
-ghost use Rattle.cpe_inventory.specs.Kept.{kept_truth};
+ghost use Rattle.check_results.specs.Kept.{kept_truth};
 ghost use Rattle.name_index.specs.declared.table.NameId.{NameId};
 ghost use Rattle.statement_rows.specs.Readings.{FactTruths, has_fact, truths_of};
 ghost use Rattle.statement_rows.specs.Rows.{verdict_by};

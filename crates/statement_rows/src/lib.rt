@@ -27,7 +27,7 @@ mod statements;
 mod tickets;
 mod truths;
 
-pub use cpe_inventory::ReadyResult;
+pub use check_results::ReadyResult;
 pub use fact_use::FactUse;
 pub use ready_statement::ReadyStatement;
 pub use statements::StatementRows;

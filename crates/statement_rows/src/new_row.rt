@@ -4,15 +4,15 @@ ghost use Rattle.std.specs.Map.{lookup};
 ghost use Rattle.std.specs.HashMap.{spare};
 ghost use Rattle.statement_rows.specs.Invariant.{new_row};
 ghost use Rattle.statement_rows.specs.Room.{RowRoom, with_id};
-ghost use Rattle.statement_rows.specs.State.{has_room, last_ticket};
+ghost use Rattle.statement_rows.specs.State.{has_statement_room, last_statement_ticket};
 
 use crate::askers::{reserve_all, trim_all};
 use crate::by_result::{ByResult, asks_one};
 use crate::ready_statement::ReadyStatement;
-use crate::row::{NumberedStatement, Row};
+use crate::row::{JudgedRow, NumberedStatement};
 use crate::rows::{by_result_of, verdict_of};
 use crate::truths::FactTruth;
-use cpe_inventory::{Checks, TicketList};
+use check_results::{Checks, TicketList};
 use cpe_rows::{CheckKey, Memory, Statement, Text};
 use name_index::NameId;
 use std::alloc::Global;
@@ -61,7 +61,7 @@ fn boxed(alloc: Global, numbered: NumberedStatement) -> Result<Box<NumberedState
 // # Errors
 // Only that memory ran out.
 fn reserve(
-    rows: &mut TicketList<Row>,
+    rows: &mut TicketList<JudgedRow>,
     changed: &mut Vec<u64>,
     by_id: &mut HashMap<Text, u64>,
 ) -> Result<(), Memory>
@@ -69,7 +69,7 @@ fn reserve(
     ensures changed { changed.new.items ≡ changed.old.items }
     ensures capacity { vec_capacity changed.old ≤ vec_capacity changed.new }
     ensures ids { (q : List ℕ) → lookup (bytes_eq q) by_id.new.entries ≡ lookup (bytes_eq q) by_id.old.entries }
-    ensures room { OnOk result ((next : ℕ) → nat_lt next last_ticket ≡ true → has_room rows.new.ready (length rows.new.items) (vec_capacity changed.new) (spare by_id.new) next ≡ true) }
+    ensures room { OnOk result ((next : ℕ) → nat_lt next last_statement_ticket ≡ true → has_statement_room rows.new.ready (length rows.new.items) (vec_capacity changed.new) (spare by_id.new) next ≡ true) }
 {
     rows.reserve()?;
     changed.reserve(rows.len() + 1)?;
@@ -82,7 +82,7 @@ fn reserve(
 // # Errors
 // Only that memory ran out.
 pub(crate) fn ready_row(
-    rows: &mut TicketList<Row>,
+    rows: &mut TicketList<JudgedRow>,
     changed: &mut Vec<u64>,
     by_id: &mut HashMap<Text, u64>,
     askers: &mut HashMap<CheckKey, Vec<u64>>,
@@ -138,13 +138,13 @@ pub(crate) fn row_of<T: FactTruth>(
     ticket: u64,
     facts: &T,
     results: &Checks,
-) -> Row
+) -> JudgedRow
     ensures { result ≡ new_row (T.fact_truth facts.now) results.now.list ticket numbered }
 {
     let verdict = verdict_of(&numbered, facts, results);
     let alone = asks_one(&numbered.statement.test);
     let by_result = by_result_of(alone, ByResult::same(verdict), &numbered, facts);
-    Row {
+    JudgedRow {
         ticket,
         verdict,
         known: verdict,

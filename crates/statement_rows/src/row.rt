@@ -1,7 +1,7 @@
 // The row of a statement, and what changes it.
 
 use crate::by_result::ByResult;
-use cpe_inventory::{Change, Ticketed};
+use check_results::{Change, Ticketed};
 use cpe_rows::{Statement, Truth};
 use name_index::NameId;
 
@@ -14,7 +14,7 @@ pub(crate) struct NumberedStatement {
 
 // A statement with its ticket and its verdicts. Tickets rise from row to row.
 #[derive(Drop)]
-pub(crate) struct Row {
+pub(crate) struct JudgedRow {
     pub(crate) ticket: u64,
     pub(crate) verdict: Truth,
     // The verdict that callers know.
@@ -35,7 +35,7 @@ pub(crate) enum Cause {
     Check(Truth),
 }
 
-impl Ticketed for Row {
+impl Ticketed for JudgedRow {
     ghost ticket_of = { λ r. r.ticket };
 
     fn ticket(&self) -> u64 {
@@ -50,10 +50,10 @@ pub(crate) struct Refresh {
     pub(crate) by_result: ByResult,
 }
 
-impl Change<Row> for Refresh {
+impl Change<JudgedRow> for Refresh {
     ghost changed = { λ refresh r. record r { verdict = refresh.verdict; by_result = refresh.by_result } };
 
-    fn change(&self, row: &mut Row) {
+    fn change(&self, row: &mut JudgedRow) {
         row.verdict = self.verdict;
         row.by_result = self.by_result;
     }
@@ -63,12 +63,12 @@ impl Change<Row> for Refresh {
 #[derive(Drop)]
 pub(crate) struct KnownVerdict;
 
-impl Change<Row> for KnownVerdict {
+impl Change<JudgedRow> for KnownVerdict {
     ghost use Rattle.statement_rows.specs.Rows.{forget_change};
 
     ghost changed = { λ known_verdict r. forget_change r };
 
-    fn change(&self, row: &mut Row) {
+    fn change(&self, row: &mut JudgedRow) {
         row.known = row.verdict;
     }
 }

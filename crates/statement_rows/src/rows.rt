@@ -1,28 +1,28 @@
 // The rows of statements, and which of them are changed.
 ghost use Rattle.std.specs.Prelude.{◌≡◌, ◌<◌, ◌+◌, ◌++◌, [], cond, map, drop, false, not, length, slice_get, take, vec_capacity, option_map};
 ghost use Rattle.cpe_rows.specs.Truth.{same_truth};
-ghost use Rattle.cpe_inventory.specs.ticket_list.Rising.{IsRising, IsRisingBy};
+ghost use Rattle.check_results.specs.ticket_list.Rising.{IsRising, IsRisingBy};
 ghost use Rattle.statement_rows.specs.declared.row.Cause.TheVariants.{Check};
 ghost use Rattle.statement_rows.specs.Invariant.{IsNoted};
-ghost use Rattle.statement_rows.specs.Rows.{after_move, at_rows, at_ticket, by_result_after, each_verdict, forget_change, is_changed, judge_row, place_in, ticket_of, tickets, verdict_after, verdict_by};
+ghost use Rattle.statement_rows.specs.Rows.{after_move, at_rows, at_ticket, by_result_after, each_verdict, forget_change, is_changed, judge_row, ticket_place_in, ticket_of, statement_tickets, verdict_after, verdict_by};
 ghost use Rattle.statement_rows.specs.Tickets.{without_if};
 
 use crate::by_result::{ByResult, test_truths};
-use crate::row::{Cause, KnownVerdict, NumberedStatement, Refresh, Row};
+use crate::row::{Cause, JudgedRow, KnownVerdict, NumberedStatement, Refresh};
 use crate::tickets::{add_ticket, remove_ticket};
 use crate::truths::{FactTruth, test_truth};
-use cpe_inventory::{Checks, TicketList};
+use check_results::{Checks, TicketList};
 use cpe_rows::Truth;
 
 // The place of the row of a ticket, from 0. There is none exactly if no row has the ticket.
-pub(crate) fn place_of(rows: &TicketList<Row>, ticket: u64) -> Option<usize>
-    ensures { result ≡ place_in ticket rows.now.items }
+pub(crate) fn place_of(rows: &TicketList<JudgedRow>, ticket: u64) -> Option<usize>
+    ensures { result ≡ ticket_place_in ticket rows.now.items }
 {
     rows.place_of(ticket)
 }
 
 // Removes the row at a place. Takes no memory.
-pub(crate) fn take_row(rows: &mut TicketList<Row>, place: usize) -> Option<Row>
+pub(crate) fn take_row(rows: &mut TicketList<JudgedRow>, place: usize) -> Option<JudgedRow>
     requires rising { IsRisingBy ticket_of rows.old.items }
     requires place { place < length rows.old.items }
     ensures row { result ≡ slice_get rows.old.items place }
@@ -34,7 +34,7 @@ pub(crate) fn take_row(rows: &mut TicketList<Row>, place: usize) -> Option<Row>
     }
 }
 
-fn ticket_at(rows: &TicketList<Row>, place: usize) -> Option<u64>
+fn ticket_at(rows: &TicketList<JudgedRow>, place: usize) -> Option<u64>
     ensures { result ≡ option_map ticket_of (slice_get rows.now.items place) }
 {
     match rows.at(place) {
@@ -103,7 +103,7 @@ fn verdicts_of<T: FactTruth>(numbered: &NumberedStatement, facts: &T) -> ByResul
 }
 
 // The verdict of a row whose check has this result.
-fn verdict_at<T: FactTruth>(row: &Row, truth: Truth, facts: &T, results: &Checks) -> Truth
+fn verdict_at<T: FactTruth>(row: &JudgedRow, truth: Truth, facts: &T, results: &Checks) -> Truth
     ensures { result ≡ verdict_after (Check truth) (T.fact_truth facts.now) results.now.list row.now }
 {
     if row.alone {
@@ -114,7 +114,7 @@ fn verdict_at<T: FactTruth>(row: &Row, truth: Truth, facts: &T, results: &Checks
 }
 
 // What a refresh makes of a row.
-fn refresh_of<T: FactTruth>(row: &Row, cause: Cause, facts: &T, results: &Checks) -> Refresh
+fn refresh_of<T: FactTruth>(row: &JudgedRow, cause: Cause, facts: &T, results: &Checks) -> Refresh
     ensures verdict { result.verdict ≡ verdict_after cause (T.fact_truth facts.now) results.now.list row.now }
     ensures by_result { result.by_result ≡ by_result_after cause (T.fact_truth facts.now) row.now }
 {
@@ -146,7 +146,7 @@ fn move_ticket(changed: &mut Vec<u64>, ticket: u64, before: bool, after: bool)
 
 // Judges the row of a ticket.
 fn refresh_row<T: FactTruth>(
-    rows: &mut TicketList<Row>,
+    rows: &mut TicketList<JudgedRow>,
     changed: &mut Vec<u64>,
     ticket: u64,
     cause: Cause,
@@ -156,7 +156,7 @@ fn refresh_row<T: FactTruth>(
     requires { IsNoted rows.old.items changed.old }
     ensures rows { rows.new.items ≡ at_ticket ticket (judge_row cause (T.fact_truth facts.now) results.now.list) rows.old.items }
     ensures ready { rows.new.ready ≡ rows.old.ready }
-    ensures changed { changed.new.items ≡ tickets is_changed rows.new.items }
+    ensures changed { changed.new.items ≡ statement_tickets is_changed rows.new.items }
     ensures capacity { vec_capacity changed.new ≡ vec_capacity changed.old }
 {
     if let Some(row) = rows.find(ticket) {
@@ -171,7 +171,7 @@ fn refresh_row<T: FactTruth>(
 // Judges the rows of these tickets, and no others. Before and after, `changed` has the tickets of the rows whose verdict differs from
 // the known one. Takes no memory.
 pub(crate) fn refresh_rows<T: FactTruth>(
-    rows: &mut TicketList<Row>,
+    rows: &mut TicketList<JudgedRow>,
     changed: &mut Vec<u64>,
     list: &[u64],
     cause: Cause,
@@ -181,7 +181,7 @@ pub(crate) fn refresh_rows<T: FactTruth>(
     requires { IsNoted rows.old.items changed.old }
     ensures rows { rows.new.items ≡ at_rows list.now (judge_row cause (T.fact_truth facts.now) results.now.list) rows.old.items }
     ensures ready { rows.new.ready ≡ rows.old.ready }
-    ensures changed { changed.new.items ≡ tickets is_changed rows.new.items }
+    ensures changed { changed.new.items ≡ statement_tickets is_changed rows.new.items }
     ensures capacity { vec_capacity changed.new ≡ vec_capacity changed.old }
 {
     for ticket in list {
@@ -190,14 +190,14 @@ pub(crate) fn refresh_rows<T: FactTruth>(
 }
 
 // Makes the verdict of the row of a ticket the known one.
-fn forget_one(rows: &mut TicketList<Row>, ticket: u64)
+fn forget_one(rows: &mut TicketList<JudgedRow>, ticket: u64)
     ensures rows { rows.new.items ≡ at_ticket ticket forget_change rows.old.items }
     ensures ready { rows.new.ready ≡ rows.old.ready }
 {
     rows.change(ticket, &KnownVerdict);
 }
 
-fn forget_each(rows: &mut TicketList<Row>, list: &[u64])
+fn forget_each(rows: &mut TicketList<JudgedRow>, list: &[u64])
     ensures rows { rows.new.items ≡ at_rows list.now forget_change rows.old.items }
     ensures ready { rows.new.ready ≡ rows.old.ready }
 {
@@ -207,8 +207,8 @@ fn forget_each(rows: &mut TicketList<Row>, list: &[u64])
 }
 
 // Makes each verdict the known one. Looks at the changed rows alone, and takes no memory.
-pub(crate) fn forget_changes(rows: &mut TicketList<Row>, changed: &mut Vec<u64>)
-    requires { changed.old.items ≡ tickets is_changed rows.old.items }
+pub(crate) fn forget_changes(rows: &mut TicketList<JudgedRow>, changed: &mut Vec<u64>)
+    requires { changed.old.items ≡ statement_tickets is_changed rows.old.items }
     ensures rows { rows.new.items ≡ map forget_change rows.old.items }
     ensures ready { rows.new.ready ≡ rows.old.ready }
     ensures changed { changed.new.items ≡ [] }
@@ -219,7 +219,7 @@ pub(crate) fn forget_changes(rows: &mut TicketList<Row>, changed: &mut Vec<u64>)
 }
 
 // Removes the ticket of a row from those of the changed rows.
-pub(crate) fn remove_changed(changed: &mut Vec<u64>, row: &Row)
+pub(crate) fn remove_changed(changed: &mut Vec<u64>, row: &JudgedRow)
     requires { IsRising changed.old.items }
     ensures items { changed.new.items ≡ without_if (is_changed row.now) row.now.ticket changed.old.items }
     ensures capacity { vec_capacity changed.new ≡ vec_capacity changed.old }

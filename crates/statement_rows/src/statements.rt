@@ -1,15 +1,15 @@
 // The rows of statements, and their public calls.
 ghost use Rattle.std.specs.Prelude.{◌≡◌, ◌++◌, ◌∷◌, ◌+◌, ◌<◌, List, [], drop, false, find, length, map, nat_lt, position, take, IfOk, Some, option_copied, option_map, slice_get};
 ghost use Rattle.std.specs.List.{AllByRecursion, list_any};
-ghost use Rattle.cpe_inventory.specs.ticket_list.Rising.{IsRisingBy};
+ghost use Rattle.check_results.specs.ticket_list.Rising.{IsRisingBy};
 ghost use Rattle.cpe_rows.specs.Prelude.{has_id, has_key, most, number_of_facts, with_check, without_first};
 ghost use Rattle.cpe_rows.specs.declared.fault.Which.TheVariants as which;
 ghost use Rattle.cpe_rows.specs.declared.statement.Statement.{Statement};
 ghost use Rattle.cpe_rows.specs.declared.test.CheckKey.{CheckKey};
 ghost use Rattle.name_index.specs.declared.table.NameId.{NameId};
-ghost use Rattle.statement_rows.specs.Askers.{AreAsked, AreAskedBut};
+ghost use Rattle.statement_rows.specs.Askers.{AreAskers, AreAskedBut};
 ghost use Rattle.statement_rows.specs.Readings.{check_keys};
-ghost use Rattle.statement_rows.specs.State.{AreJudged, IsReadyResult, IsReadyRow, SameButResultRoom, SameRoom, SameRows, StatementAdded, StatementReady, at_tickets, checks_of, forget_row_change, is_of, judge, statements_of, use_in, use_of, without_verdict};
+ghost use Rattle.statement_rows.specs.State.{AreJudged, IsReadyTruth, IsReadyRow, SameButResultRoom, SameRoom, SameRows, StatementStored, StatementReady, at_tickets, checks_of, forget_row_change, is_of, judge, statements_of, use_in, use_of, without_verdict};
 
 use crate::askers::{add_all, askers_of, remove_all};
 use crate::count::with_facts_of;
@@ -17,10 +17,10 @@ use crate::fact_use::{FactUse, into_use};
 use crate::ids::{insert_id, place_by_id, remove_id};
 use crate::new_row::{ready_row, row_of, with_id, with_numbers};
 use crate::ready_statement::ReadyStatement;
-use crate::row::{Cause, Row};
+use crate::row::{Cause, JudgedRow};
 use crate::rows::{forget_changes, refresh_rows, remove_changed, take_row};
 use crate::truths::FactTruth;
-use cpe_inventory::{Checks, ReadyResult, TicketList};
+use check_results::{Checks, ReadyResult, TicketList};
 use cpe_rows::{CheckKey, Memory, Mode, Statement, Text, Truth};
 use name_index::NameId;
 use std::alloc::Global;
@@ -30,7 +30,7 @@ use std::marker::Model;
 /// Statements with tickets and verdicts, and the results of checks. See the crate's page.
 #[derive(Drop)]
 pub struct StatementRows {
-    pub(crate) rows: TicketList<Row>,
+    pub(crate) rows: TicketList<JudgedRow>,
     // The tickets of the rows whose verdict differs from the known one.
     pub(crate) changed: Vec<u64>,
     by_id: HashMap<Text, u64>,
@@ -46,16 +46,16 @@ impl Model for StatementRows {
     ghost use Rattle.std.specs.HashMap.{spare};
     ghost use Rattle.std.specs.Coded.{codes};
     ghost use Rattle.cpe_rows.specs.contracts.test.Test as test;
-    ghost use Rattle.statement_rows.specs.State.{State, has_room, view_of};
-    ghost use Rattle.statement_rows.specs.Invariant.{AreCounted, AreRows};
+    ghost use Rattle.statement_rows.specs.State.{State, has_statement_room, view_of};
+    ghost use Rattle.statement_rows.specs.Invariant.{AreFactsCounted, AreStatementRows};
 
     ghost Value = { State };
 
     ghost coded = { Prim.hlevel (codes, test.the_row.coded) };
 
-    ghost view = { λ b. record { rows = map view_of b.rows.items; checks = b.results.list; askers = b.askers.entries; next = b.next; ready = has_room b.rows.ready (length b.rows.items) (vec_capacity b.changed) (spare b.by_id) b.next; result_room = b.results.ready } };
+    ghost view = { λ b. record { rows = map view_of b.rows.items; checks = b.results.list; askers = b.askers.entries; next = b.next; ready = has_statement_room b.rows.ready (length b.rows.items) (vec_capacity b.changed) (spare b.by_id) b.next; result_room = b.results.ready } };
 
-    ghost invariant = { λ b. AreRows b.rows.items b.changed b.by_id.entries b.askers.entries b.next × AreCounted b.facts b.rows.items };
+    ghost invariant = { λ b. AreStatementRows b.rows.items b.changed b.by_id.entries b.askers.entries b.next × AreFactsCounted b.facts b.rows.items };
 }
 
 // ---- what changes
@@ -65,7 +65,7 @@ impl StatementRows {
     pub fn new(alloc: Global) -> StatementRows
         ensures rows { result.rows ≡ [] }
         ensures checks { result.checks ≡ [] }
-        ensures asked { AreAsked result.askers }
+        ensures asked { AreAskers result.askers }
     {
         StatementRows {
             rows: TicketList::new(alloc),
@@ -124,7 +124,7 @@ impl StatementRows {
     /// Adds the statement at the end, with its verdict. Allocates: no.
     pub fn add_statement<T: FactTruth>(&mut self, ready: ReadyStatement, facts: &T)
         requires { (s : Statement) × (ids : List NameId) × IsReadyRow self.old s ids ready }
-        ensures { (s : Statement) (ids : List NameId) → IsReadyRow self.old s ids ready → StatementAdded self.old self.new s ids (T.fact_truth facts.now) }
+        ensures { (s : Statement) (ids : List NameId) → IsReadyRow self.old s ids ready → StatementStored self.old self.new s ids (T.fact_truth facts.now) }
     {
         let ReadyStatement {
             numbered,
@@ -145,7 +145,7 @@ impl StatementRows {
         ensures rows { self.new.rows ≡ without_first (is_of id.now) self.old.rows }
         ensures checks { self.new.checks ≡ self.old.checks }
         ensures next { self.new.next ≡ self.old.next }
-        ensures asked { AreAsked self.old.askers → AreAsked self.new.askers }
+        ensures asked { AreAskers self.old.askers → AreAskers self.new.askers }
     {
         match self.place_of(id) {
             Some(place) => Some(self.remove_at(place)),
@@ -160,7 +160,7 @@ impl StatementRows {
         ensures rows { self.new.rows ≡ take place self.old.rows ++ drop (place + 1) self.old.rows }
         ensures checks { self.new.checks ≡ self.old.checks }
         ensures next { self.new.next ≡ self.old.next }
-        ensures asked { AreAsked self.old.askers → AreAsked self.new.askers }
+        ensures asked { AreAskers self.old.askers → AreAskers self.new.askers }
     {
         let row = match take_row(&mut self.rows, place) {
             Some(row) => row,
@@ -179,7 +179,7 @@ impl StatementRows {
     /// Only that memory ran out.
     pub fn ready_result(&mut self, key: CheckKey) -> Result<ReadyResult, Memory>
         ensures same { SameButResultRoom self.old self.new }
-        ensures ready { IfOk result (IsReadyResult self.new key) }
+        ensures ready { IfOk result (IsReadyTruth self.new key) }
     {
         self.results.reserve(key)
     }
@@ -187,8 +187,8 @@ impl StatementRows {
     /// Sets the result of a check whose key is ready, in the place of its earlier result or else at the end. Judges the statements that
     /// ask for the check. Allocates: no.
     pub fn set_result<T: FactTruth>(&mut self, ready: ReadyResult, truth: Truth, facts: &T)
-        requires { (k : CheckKey) × IsReadyResult self.old k ready }
-        ensures checks { (k : CheckKey) → IsReadyResult self.old k ready → self.new.checks ≡ with_check k truth self.old.checks }
+        requires { (k : CheckKey) × IsReadyTruth self.old k ready }
+        ensures checks { (k : CheckKey) → IsReadyTruth self.old k ready → self.new.checks ≡ with_check k truth self.old.checks }
         ensures same { map without_verdict self.new.rows ≡ map without_verdict self.old.rows }
         ensures room { SameRoom self.old self.new }
         ensures judged { AreJudged self.old (T.fact_truth facts.now) → AreJudged self.new (T.fact_truth facts.now) }

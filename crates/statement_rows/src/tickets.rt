@@ -1,7 +1,7 @@
 // Rising lists of tickets.
 ghost use Rattle.std.specs.Prelude.{◌≡◌, ◌≤◌, ◌<◌, length, nat_lt, vec_capacity, true, ◌||◌};
 ghost use Rattle.statement_rows.specs.Tickets.{ends_with, is_at, with_last, without};
-ghost use Rattle.cpe_inventory.specs.ticket_list.Rising.{IsRising, prefix, put_in};
+ghost use Rattle.check_results.specs.ticket_list.Rising.{IsRising, prefix, put_in};
 
 // How many tickets of a rising list are below this one.
 fn count_below(list: &[u64], ticket: u64) -> usize

@@ -3,10 +3,10 @@ ghost use Rattle.std.specs.Prelude.{◌≡◌, ℕ, [], ◌∷◌};
 ghost use Rattle.cpe_rows.specs.Evaluation.{joined, negated};
 ghost use Rattle.cpe_rows.specs.declared.statement.Mode.{Mode};
 ghost use Rattle.cpe_rows.specs.declared.truth.Truth.{Truth};
-ghost use Rattle.cpe_inventory.specs.Kept.{kept_truth};
+ghost use Rattle.check_results.specs.Kept.{kept_truth};
 ghost use Rattle.statement_rows.specs.Readings.{next_truth, reading, truths_of};
 
-use cpe_inventory::Checks;
+use check_results::Checks;
 use cpe_rows::{Mode, Operator, Test, Truth, and_of, not_of, or_of};
 use name_index::NameId;
 

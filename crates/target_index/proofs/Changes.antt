@@ -1,4 +1,4 @@
--- One number more or less among the targets.
+-- Lemmas: a target is added or removed.
 use Rattle.std.proofs.Common.{◌≡◌, ◌≢◌, ◌⊎◌, ℕ, suc, ◌+◌, ◌-◌, ◌<◌, ◌≤◌, Bool, true, false, not, cond, List, [], ◌∷◌, ◌++◌, length, get_or, Option, Some, None, count_by, refl, sym, ap, subst, ◌∙◌, inl, inr, arith, eqb-true}
 use Rattle.std.specs.Prelude.{IsSome, nat_eq, vec_capacity}
 use Rattle.std.specs.List.{sum_by, position, position_from, Contains, AllByRecursion, swap_remove}
@@ -12,15 +12,15 @@ use Rattle.std.proofs.lemmas.Iterator.Adapters.{position_from-zero}
 use Rattle.name_index.specs.product_orders.Elements.{SameElements}
 use Rattle.name_index.proofs.product_orders.Sums.{one_at_most}
 use Rattle.name_index.specs.Table.{Names, Kept, find_kept, kept_at, kept_or, IsLive}
-use Rattle.name_index.specs.Index.{Fits, times_held}
+use Rattle.name_index.specs.Index.{FitsTable, times_held}
 use Rattle.name_index.proofs.Postings.{sum_map}
 use Rattle.name_index.proofs.Fitting.{added_fits, dropped_fits}
 use Rattle.target_index.specs.declared.parts.Loose.{Loose}
-use Rattle.target_index.specs.declared.parts.Parts.{Parts}
+use Rattle.target_index.specs.declared.parts.TargetParts.{TargetParts}
 use Rattle.target_index.specs.Targets.{Targets, held, is_open, is_loose, open_count, AreNone, FitsTargets, SameTargets}
-use Rattle.target_index.specs.Parts.{ArePartsOf, pair_of, pairs_of}
+use Rattle.target_index.specs.Parts.{ArePartsOf, pair_of_loose, pairs_of}
 
--- ---- an element more in one of two lists
+-- ---- an element is added to one of two lists
 
 module _ {X : Type 0} (x : X) (a b c : List X) where
   pub put_first : SameElements (x ∷ a) b → SameElements (x ∷ (a ++ c)) (b ++ c)
@@ -35,7 +35,7 @@ module _ {X : Type 0} (x : X) (a b c : List X) where
   pub take_second : SameElements a (x ∷ b) → SameElements (c ++ a) (x ∷ (c ++ b))
   take_second same f = omega (arith, sum_by-cons f x (c ++ b), sum_by-append f c a, sum_by-append f c b, sum_by-cons f x b, same f)
 
--- ---- counts under one more and one less
+-- ---- counts after an element is added or removed
 
 module _ (q : ℕ × ℕ → Bool) (x : ℕ × ℕ) (a b : List (ℕ × ℕ)) where
   one : ℕ × ℕ → ℕ
@@ -47,7 +47,7 @@ module _ (q : ℕ × ℕ → Bool) (x : ℕ × ℕ) (a b : List (ℕ × ℕ)) wh
   pub count_less : SameElements a (x ∷ b) → sum_by (λ y. cond (q y) 1 0) a ≡ cond (q x) 1 0 + sum_by (λ y. cond (q y) 1 0) b
   count_less same = omega (arith, same (λ y. cond (q y) 1 0), sum_by-cons (λ y. cond (q y) 1 0) x b)
 
--- no number is held twice
+-- If a number that isn't held is added, no number is held twice.
 pub once_more : (x : ℕ × ℕ) (a b : List (ℕ × ℕ)) → SameElements (x ∷ a) b → times_held a x.0 ≡ 0 → ((id : ℕ) → times_held a id ≤ 1) → (id : ℕ) → times_held b id ≤ 1
 once_more x a b same fresh once id = by (cases_eq id x.0)
   where
@@ -95,7 +95,7 @@ module _ (names : Names) (id : ℕ) where
       split : count_by (λ (y : ℕ × ℕ). is_loose names y.0) (x ∷ xs) ≡ cond (is_loose names x.0) 1 0 + count_by (λ (y : ℕ × ℕ). is_loose names y.0) xs
       split = sum_by-cons (λ (y : ℕ × ℕ). cond (is_loose names y.0) 1 0) x xs
 
-  -- it is held with the product number that its name has
+  -- A number is held with the product number that the table has for it.
   abbrev pub FitsAt : ℕ × ℕ → Type 0
   FitsAt x = (k : Kept) × (find_kept names x.0 ≡ Some k) × (k.product ≡ x.1)
 
@@ -113,11 +113,11 @@ module _ (names : Names) (id : ℕ) where
       by (inl e) k = (0, omega arith, same_pair x h.0 e)
       by (inr ne) k = let m = k (later ne) in (suc m.0, omega (arith, m.1), m.2)
 
-  pub held_there : (xs : List (ℕ × ℕ)) → Fits xs names → 1 ≤ times_held xs id → Contains xs (id, (kept_at names id).product)
+  pub held_there : (xs : List (ℕ × ℕ)) → FitsTable xs names → 1 ≤ times_held xs id → Contains xs (id, (kept_at names id).product)
   held_there xs fits some = find xs (recursion_from_All FitsAt xs fits) some
 
-  -- whatever product number it is held with is that one
-  pub its_product : (xs : List (ℕ × ℕ)) (product : ℕ) → Fits xs names → Contains xs (id, product) → ◌≡◌ {A = ℕ × ℕ} (id, product) (id, (kept_at names id).product)
+  -- If a number is held with a product number, this is the product number of its name.
+  pub its_product : (xs : List (ℕ × ℕ)) (product : ℕ) → FitsTable xs names → Contains xs (id, product) → ◌≡◌ {A = ℕ × ℕ} (id, product) (id, (kept_at names id).product)
   its_product xs product fits has = same_pair (id, product) (All-contains FitsAt xs (id, product) fits has) refl
 
 -- ---- the targets fit the table
@@ -137,7 +137,7 @@ module _ (names : Names) (id : ℕ) (t u : Targets) (f : FitsTargets t names) wh
     all,
     record {
       plain = added_fits names id t.plain u.plain live same f.plain;
-      loose = subst (λ (xs : List (ℕ × ℕ)). Fits xs names) (sym same_loose) f.loose;
+      loose = subst (λ (xs : List (ℕ × ℕ)). FitsTable xs names) (sym same_loose) f.loose;
       none_loose = omega (arith, count_more (λ y. is_loose names y.0) x t.plain u.plain same, f.none_loose, ap {B = ℕ} (λ (b : Bool). cond b 1 0) plain);
       all_loose = subst (λ (xs : List (ℕ × ℕ)). count_by (λ (y : ℕ × ℕ). not (is_loose names y.0)) xs ≡ 0) (sym same_loose) f.all_loose;
       opens = opens_more all opens;
@@ -151,7 +151,7 @@ module _ (names : Names) (id : ℕ) (t u : Targets) (f : FitsTargets t names) wh
   loose_added live loose same_plain same opens = (
     all,
     record {
-      plain = subst (λ (xs : List (ℕ × ℕ)). Fits xs names) (sym same_plain) f.plain;
+      plain = subst (λ (xs : List (ℕ × ℕ)). FitsTable xs names) (sym same_plain) f.plain;
       loose = added_fits names id t.loose u.loose live same f.loose;
       none_loose = subst (λ (xs : List (ℕ × ℕ)). count_by (λ (y : ℕ × ℕ). is_loose names y.0) xs ≡ 0) (sym same_plain) f.none_loose;
       all_loose = omega (arith, count_more (λ y. not (is_loose names y.0)) x t.loose u.loose same, f.all_loose, ap {B = ℕ} (λ (b : Bool). cond (not b) 1 0) loose);
@@ -167,7 +167,7 @@ module _ (names : Names) (id : ℕ) (t u : Targets) (f : FitsTargets t names) wh
     all,
     record {
       plain = dropped_fits names id (kept_at names id).product t.plain u.plain same f.plain;
-      loose = subst (λ (xs : List (ℕ × ℕ)). Fits xs names) (sym same_loose) f.loose;
+      loose = subst (λ (xs : List (ℕ × ℕ)). FitsTable xs names) (sym same_loose) f.loose;
       none_loose = omega (arith, count_less (λ y. is_loose names y.0) x t.plain u.plain same, f.none_loose);
       all_loose = subst (λ (xs : List (ℕ × ℕ)). count_by (λ (y : ℕ × ℕ). not (is_loose names y.0)) xs ≡ 0) (sym same_loose) f.all_loose;
       opens = opens_less all opens;
@@ -181,7 +181,7 @@ module _ (names : Names) (id : ℕ) (t u : Targets) (f : FitsTargets t names) wh
   loose_dropped same_plain same opens = (
     all,
     record {
-      plain = subst (λ (xs : List (ℕ × ℕ)). Fits xs names) (sym same_plain) f.plain;
+      plain = subst (λ (xs : List (ℕ × ℕ)). FitsTable xs names) (sym same_plain) f.plain;
       loose = dropped_fits names id (kept_at names id).product t.loose u.loose same f.loose;
       none_loose = subst (λ (xs : List (ℕ × ℕ)). count_by (λ (y : ℕ × ℕ). is_loose names y.0) xs ≡ 0) (sym same_plain) f.none_loose;
       all_loose = omega (arith, count_less (λ y. not (is_loose names y.0)) x t.loose u.loose same, f.all_loose);
@@ -192,34 +192,34 @@ module _ (names : Names) (id : ℕ) (t u : Targets) (f : FitsTargets t names) wh
       all : SameElements (held t) (x ∷ held u)
       all = subst (λ (xs : List (ℕ × ℕ)). SameElements (held t) (x ∷ (xs ++ u.loose))) (sym same_plain) (take_second x t.loose u.loose t.plain same)
 
--- ---- each of a list is live
+-- ---- each number of a list is live
 
-pub loose_live : (names : Names) (xs : List Loose) → Fits (pairs_of xs) names → AllByRecursion (λ (l : Loose). IsLive names l.id) xs
+pub loose_live : (names : Names) (xs : List Loose) → FitsTable (pairs_of xs) names → AllByRecursion (λ (l : Loose). IsLive names l.id) xs
 loose_live names xs fits = go xs (recursion_from_All (FitsAt names 0) (pairs_of xs) fits)
   where
     go : (ys : List Loose) → AllByRecursion (FitsAt names 0) (pairs_of ys) → AllByRecursion (λ (l : Loose). IsLive names l.id) ys
     go [] h = tt
     go (y ∷ ys) h = (subst IsSome (sym h.0.1) refl, go ys h.1)
 
--- ---- a number put last
+-- ---- a number is appended
 
 pub pushed : (id product known : ℕ) (xs new : List Loose) → product ≡ known → new ≡ xs ++ record { id = id; product = product } ∷ [] → SameElements ((id, known) ∷ pairs_of xs) (pairs_of new)
 pushed id product known xs new is grown f =
-    omega (arith, sum_by-cons f (id, known) (pairs_of xs), sum_map f pair_of xs, sum_map f pair_of new, ap {B = ℕ} (λ (ys : List Loose). sum_by (λ (l : Loose). f (pair_of l)) ys) grown, sum_by-append (λ (l : Loose). f (pair_of l)) xs (y ∷ []), sum_by-cons (λ (l : Loose). f (pair_of l)) y [], ap {B = ℕ} (λ (p : ℕ). f (id, p)) is)
+    omega (arith, sum_by-cons f (id, known) (pairs_of xs), sum_map f pair_of_loose xs, sum_map f pair_of_loose new, ap {B = ℕ} (λ (ys : List Loose). sum_by (λ (l : Loose). f (pair_of_loose l)) ys) grown, sum_by-append (λ (l : Loose). f (pair_of_loose l)) xs (y ∷ []), sum_by-cons (λ (l : Loose). f (pair_of_loose l)) y [], ap {B = ℕ} (λ (p : ℕ). f (id, p)) is)
   where
     y : Loose
     y = record { id = id; product = product }
 
--- ---- the parts keep their rooms
+-- ---- the parts keep their room
 
-pub same_parts : (a b : Parts) → ArePartsOf a → b.plain.held ≡ a.plain.held → b.loose.items ≡ a.loose.items → b.room ≤ b.plain.spare → length b.loose.items + b.room ≤ vec_capacity b.loose → ArePartsOf b
+pub same_parts : (a b : TargetParts) → ArePartsOf a → b.plain.held ≡ a.plain.held → b.loose.items ≡ a.loose.items → b.room ≤ b.plain.spare → length b.loose.items + b.room ≤ vec_capacity b.loose → ArePartsOf b
 same_parts a b p plain loose plain_room loose_room = record {
   once = λ id. omega (arith, p.once id, ap {B = ℕ} (λ (xs : List (ℕ × ℕ)). times_held (xs ++ pairs_of b.loose.items) id) plain, ap {B = ℕ} (λ (ls : List Loose). times_held (a.plain.held ++ pairs_of ls) id) loose);
   plain_room = plain_room;
   loose_room = loose_room;
 }
 
--- ---- a number taken out at its place
+-- ---- the number at a place is removed
 
 none_from : (id n : ℕ) (xs : List Loose) → position_from (λ l. nat_eq id l.id) n xs ≡ None → times_held (pairs_of xs) id ≡ 0
 none_from id n [] e = refl
@@ -228,7 +228,7 @@ none_from id n (x ∷ xs) e = by (nat_eq id x.id) refl (none_from id (n + 1) xs)
     by : (b : Bool) → nat_eq id x.id ≡ b → (position_from (λ l. nat_eq id l.id) (n + 1) xs ≡ None → times_held (pairs_of xs) id ≡ 0) → times_held (pairs_of (x ∷ xs)) id ≡ 0
     by true t k = absurd (none-some n (sym e ∙ ap (λ (b : Bool). cond b (Some n) (position_from (λ l. nat_eq id l.id) (n + 1) xs)) t))
     by false t k =
-        omega (arith, sum_by-cons (λ (y : ℕ × ℕ). cond (nat_eq id y.0) 1 0) (pair_of x) (pairs_of xs), ap {B = ℕ} (λ (b : Bool). cond b 1 0) t, k (sym (ap (λ (b : Bool). cond b (Some n) (position_from (λ l. nat_eq id l.id) (n + 1) xs)) t) ∙ e))
+        omega (arith, sum_by-cons (λ (y : ℕ × ℕ). cond (nat_eq id y.0) 1 0) (pair_of_loose x) (pairs_of xs), ap {B = ℕ} (λ (b : Bool). cond b 1 0) t, k (sym (ap (λ (b : Bool). cond b (Some n) (position_from (λ l. nat_eq id l.id) (n + 1) xs)) t) ∙ e))
 
 pub nowhere : (id : ℕ) (xs : List Loose) → position (λ l. nat_eq id l.id) xs ≡ None → times_held (pairs_of xs) id ≡ 0
 nowhere id xs e = none_from id 0 xs (sym (position_from-zero (λ l. nat_eq id l.id) xs) ∙ e)
@@ -240,8 +240,8 @@ taken_out id k xs new y at value cut = (y.product, (k, inside, here), λ f. same
     found : (k < length xs) × (nat_eq id (get_or xs k y).id ≡ true) × ((j : ℕ) → j < k → nat_eq id (get_or xs j y).id ≡ false)
     found = position-Some (λ l. nat_eq id l.id) xs k y at
 
-    is : pair_of (get_or xs k y) ≡ (id, y.product)
-    is = ap pair_of (sym value) ∙ ap (λ (n : ℕ). (n, y.product)) (sym (eqb-true id (get_or xs k y).id found.1 ∙ ap (λ (l : Loose). l.id) (sym value)))
+    is : pair_of_loose (get_or xs k y) ≡ (id, y.product)
+    is = ap pair_of_loose (sym value) ∙ ap (λ (n : ℕ). (n, y.product)) (sym (eqb-true id (get_or xs k y).id found.1 ∙ ap (λ (l : Loose). l.id) (sym value)))
 
     inside : k < length (pairs_of xs)
     inside = omega (arith, found.0, many xs)
@@ -251,20 +251,20 @@ taken_out id k xs new y at value cut = (y.product, (k, inside, here), λ f. same
         many (z ∷ ys) = omega (arith, many ys)
 
     here : get_or (pairs_of xs) k (id, y.product) ≡ (id, y.product)
-    here = get_or-map pair_of xs k y (id, y.product) found.0 ∙ is
+    here = get_or-map pair_of_loose xs k y (id, y.product) found.0 ∙ is
 
     same : (f : ℕ × ℕ → ℕ) → sum_by f (pairs_of xs) ≡ sum_by f ((id, y.product) ∷ pairs_of new)
-    same f = omega (arith, sum_map f pair_of xs, sum_map f pair_of new, sum_by-cons f (id, y.product) (pairs_of new), sum_by-swap_remove (λ (l : Loose). f (pair_of l)) xs k y found.0, ap {B = ℕ} (λ (ys : List Loose). sum_by (λ (l : Loose). f (pair_of l)) ys) cut, ap {B = ℕ} f is)
+    same f = omega (arith, sum_map f pair_of_loose xs, sum_map f pair_of_loose new, sum_by-cons f (id, y.product) (pairs_of new), sum_by-swap_remove (λ (l : Loose). f (pair_of_loose l)) xs k y found.0, ap {B = ℕ} (λ (ys : List Loose). sum_by (λ (l : Loose). f (pair_of_loose l)) ys) cut, ap {B = ℕ} f is)
 
--- ---- the same is held, or nothing is
+-- ---- the targets are unchanged, or there are none
 
 pub same_held : (t u : Targets) → SameTargets t u → held u ≡ held t
 same_held t u s = ap (λ (xs : List (ℕ × ℕ)). xs ++ u.loose) s.plain ∙ ap (λ (xs : List (ℕ × ℕ)). t.plain ++ xs) s.loose
 
 pub same_targets : (t u : Targets) → SameTargets t u → (names : Names) → FitsTargets t names → FitsTargets u names
 same_targets t u s names f = record {
-  plain = subst (λ (xs : List (ℕ × ℕ)). Fits xs names) (sym s.plain) f.plain;
-  loose = subst (λ (xs : List (ℕ × ℕ)). Fits xs names) (sym s.loose) f.loose;
+  plain = subst (λ (xs : List (ℕ × ℕ)). FitsTable xs names) (sym s.plain) f.plain;
+  loose = subst (λ (xs : List (ℕ × ℕ)). FitsTable xs names) (sym s.loose) f.loose;
   none_loose = ap (count_by (λ (x : ℕ × ℕ). is_loose names x.0)) s.plain ∙ f.none_loose;
   all_loose = ap (count_by (λ (x : ℕ × ℕ). not (is_loose names x.0))) s.loose ∙ f.all_loose;
   opens = s.opens ∙ f.opens ∙ sym (ap (open_count names) (same_held t u s));
@@ -272,12 +272,12 @@ same_targets t u s names f = record {
 
 pub none_fit : (t : Targets) → AreNone t → (names : Names) → FitsTargets t names
 none_fit t e names = record {
-  plain = subst (λ (xs : List (ℕ × ℕ)). Fits xs names) (sym e.plain) nothing;
-  loose = subst (λ (xs : List (ℕ × ℕ)). Fits xs names) (sym e.loose) nothing;
+  plain = subst (λ (xs : List (ℕ × ℕ)). FitsTable xs names) (sym e.plain) nothing;
+  loose = subst (λ (xs : List (ℕ × ℕ)). FitsTable xs names) (sym e.loose) nothing;
   none_loose = ap (count_by (λ (x : ℕ × ℕ). is_loose names x.0)) e.plain;
   all_loose = ap (count_by (λ (x : ℕ × ℕ). not (is_loose names x.0))) e.loose;
   opens = e.opens ∙ sym (ap (open_count names) (ap (λ (xs : List (ℕ × ℕ)). xs ++ t.loose) e.plain ∙ e.loose));
 }
   where
-    nothing : Fits [] names
+    nothing : FitsTable [] names
     nothing = λ i d lt. absurd (omega (arith, lt))

@@ -1,4 +1,4 @@
--- What is found of those that a name meets.
+-- Lemmas: which targets are found among those that a name meets.
 use Rattle.std.proofs.Common.{◌≡◌, ℕ, ◌+◌, Bool, true, false, ◌||◌, cond, List, [], ◌∷◌, ◌++◌, map, count_by, refl, sym, ap, ◌∙◌, arith}
 use Rattle.std.specs.Prelude.{IsTrue, ◌↔◌}
 use Rattle.std.specs.List.{sum_by, filter, list_all, list_any}
@@ -25,10 +25,10 @@ use Rattle.name_index.specs.declared.table.NameId.{NameId}
 use Rattle.name_index.specs.Table.{Names}
 use Rattle.name_index.specs.Index.{ids, name_id, is_covered}
 use Rattle.name_index.proofs.Postings.{sum_map}
-use Rattle.target_index.specs.Targets.{Targets, FitsTargets, held, is_maybe, maybe_count}
+use Rattle.target_index.specs.Targets.{Targets, FitsTargets, held, is_maybe_target, maybe_pairs}
 use Rattle.target_index.proofs.Walks.{few_open, none_covered, on_pairs, one_if}
 
--- ---- among those of a walk stand all that pass a test, where it asks for what the walk goes over or for a special, and none has one
+-- ---- a walk has all numbers that pass a test, if no product has a special
 
 module _ (p q l : NameId → Bool) (fine : (x : NameId) → q x ≡ true → (l x || p x) ≡ true) where
   zero_either : (b : Bool) → ◌≡◌ {A = ℕ} 0 (cond b 0 0)
@@ -68,12 +68,12 @@ module _ (p q l : NameId → Bool) (fine : (x : NameId) → q x ≡ true → (l 
       ∙ sym (sum_filter f q walk)
       ∙ sym (ap (sum_by f) is)
 
--- ---- the product of what a name may cover
+-- ---- the product of a target that a name may cover
 
 may_in : Values → Values → List Attribute → Bool
 may_in a b ws = list_all may_be_above (map (λ w. relation (value_of a w) (value_of b w)) ws)
 
--- it has a special, or the name's covers it
+-- The target's product has a special, or the name's product covers it.
 pub maybe_product : ((a b : Value) → (relation a b ≡ Undefined) ↔ IsTrue (has_specials b)) → (a b : Values) → maybe a b ≡ true → (has_specials b.product || covers_product a.product b.product) ≡ true
 unfolding maybe may_in
 maybe_product law a b h =
@@ -116,8 +116,8 @@ module _ (names : Names) (name : Values) (t : Targets) (f : FitsTargets t names)
       ap (sum_by g) (apart (is_covered names name) t.plain t.loose ∙ ap (λ (xs : List NameId). filter (is_covered names name) (ids t.plain) ++ xs) (nothing_found (is_covered names name) t.loose (none_covered names name law t.loose f.all_loose)) ∙ append-nil (filter (is_covered names name) (ids t.plain)))
       ∙ same g
 
-  pub none_open : ((a b : Values) → IsTrue (maybe a b) → name_has_specials b ≡ true) → t.opens ≡ 0 → (found : List NameId) → found ≡ [] → SameElements (filter (is_maybe names name) (ids (held t))) found
-  none_open law none found is g = ap (sum_by g) (nothing_found (is_maybe names name) (held t) zero ∙ sym is)
+  pub none_open : ((a b : Values) → IsTrue (maybe a b) → name_has_specials b ≡ true) → t.opens ≡ 0 → (found : List NameId) → found ≡ [] → SameElements (filter (is_maybe_target names name) (ids (held t))) found
+  none_open law none found is g = ap (sum_by g) (nothing_found (is_maybe_target names name) (held t) zero ∙ sym is)
     where
-      zero : maybe_count names name (held t) ≡ 0
+      zero : maybe_pairs names name (held t) ≡ 0
       zero = omega (arith, few_open names name law (held t), f.opens, none)

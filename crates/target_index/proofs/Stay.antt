@@ -1,4 +1,4 @@
--- Targets fit another table where their numbers have the same names and products there.
+-- Lemmas: targets fit another table in which their numbers have the same names and products.
 use Rattle.std.proofs.Common.{◌≡◌, ◌≢◌, ◌⊎◌, ℕ, ◌+◌, ◌-◌, ◌≤◌, Bool, true, false, cond, List, [], ◌∷◌, count_by, Option, Some, None, refl, sym, ap, ◌∙◌, inl, inr, arith, eq-eqb}
 use Rattle.std.specs.Prelude.{nat_eq, nat_lt, not}
 use Rattle.std.specs.List.{AllByRecursion}
@@ -9,17 +9,17 @@ use Rattle.std.proofs.lemmas.List.Elements.{recursion_from_All, All-from_recursi
 use Rattle.name_index.specs.cpe_values.Lower.{has_specials}
 use Rattle.name_index.specs.cpe_name.Eleven.{Values}
 use Rattle.name_index.specs.cpe_name.Wildcards.{name_has_specials}
-use Rattle.name_index.specs.Table.{Names, Kept, kept, kept_or, find_kept, kept_at, Holding, Holds, Releases, released}
+use Rattle.name_index.specs.Table.{Names, Kept, kept, kept_or, find_kept, kept_at, HoldsOnce, HoldsName, Releases, released}
 use Rattle.name_index.specs.Index.{times_held}
 use Rattle.target_index.specs.Targets.{Targets, FitsTargets, StaysAt, held}
 use Rattle.target_index.proofs.Changes.{held_apart}
 
--- ---- a hold, and a release
+-- ---- a name is held, or released
 
-pub hold_stays : (old new : Names) (id : ℕ) (name : Values) → Holds old new id name → (x : ℕ) → StaysAt old new x
+pub hold_stays : (old new : Names) (id : ℕ) (name : Values) → HoldsName old new id name → (x : ℕ) → StaysAt old new x
 hold_stays old new id name h x k e = by (cases_eq x id)
   where
-    raised : (o : Option Kept) → o ≡ Some k → Holding o name (find_kept new id) → (l : Kept) × (find_kept new id ≡ Some l) × (l.name ≡ k.name) × (l.product ≡ k.product)
+    raised : (o : Option Kept) → o ≡ Some k → HoldsOnce o name (find_kept new id) → (l : Kept) × (find_kept new id ≡ Some l) × (l.name ≡ k.name) × (l.product ≡ k.product)
     raised None none held = absurd (none-some k none)
     raised (Some j) some held = (kept j.name (j.holds + 1) j.product, held.1, ap (λ (i : Kept). i.name) (same_Some j k some), ap (λ (i : Kept). i.product) (same_Some j k some))
 
@@ -41,7 +41,7 @@ release_stays old new id t r none x more k e = by (cases_eq x id)
     by (inl is) = left is (nat_lt 1 k.holds) refl
     by (inr ne) = (k, r.others x ne ∙ e, refl, refl)
 
--- ---- what is so of each held number
+-- ---- what is true of each held number
 
 abbrev FitsAt : Names → ℕ × ℕ → Type 0
 FitsAt names x = (k : Kept) × (find_kept names x.0 ≡ Some k) × (k.product ≡ x.1)
@@ -49,7 +49,7 @@ FitsAt names x = (k : Kept) × (find_kept names x.0 ≡ Some k) × (k.product �
 abbrev name_by : Names → ℕ × ℕ → Values
 name_by names x = (kept_at names x.0).name
 
--- a name of its own, so that nothing is opened
+-- The numbers have the same names in both tables. This definition has a name so that the prover doesn't unfold it.
 abbrev SameNames : Names → Names → List (ℕ × ℕ) → Type 0
 SameNames old new xs = AllByRecursion (λ (x : ℕ × ℕ). name_by new x ≡ name_by old x) xs
 
@@ -72,7 +72,7 @@ module _ (old new : Names) where
       let l = stay x.0 (itself x xs) h.0.0 h.0.1 in
       (ap (λ (o : Option Kept). (kept_or o).name) l.1 ∙ l.2 ∙ sym (ap (λ (o : Option Kept). (kept_or o).name) h.0.1), name_all xs (λ id more. stay id (further id x xs more)) h.1)
 
-  -- what is counted by names alone
+  -- A count that depends on names only is unchanged.
   same_count : (g : Values → Bool) (xs : List (ℕ × ℕ)) → SameNames old new xs → count_by (λ (x : ℕ × ℕ). g (name_by new x)) xs ≡ count_by (λ (x : ℕ × ℕ). g (name_by old x)) xs
   same_count g [] h = refl
   same_count g (x ∷ xs) h =

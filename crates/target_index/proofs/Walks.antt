@@ -1,4 +1,4 @@
--- Counts over what a name meets.
+-- Lemmas: counts over the targets that a name meets.
 use Rattle.std.proofs.Common.{◌≡◌, ℕ, ◌+◌, ◌≤◌, Bool, true, false, not, ◌&&◌, ◌||◌, cond, List, [], ◌∷◌, ◌++◌, length, count_by, refl, sym, ap, ◌∙◌, arith}
 use Rattle.std.specs.Prelude.{IsTrue, nat_lt}
 use Rattle.std.specs.List.{sum_by, filter}
@@ -20,16 +20,16 @@ use Rattle.name_index.specs.Table.{Names, kept_at}
 use Rattle.name_index.specs.Index.{ids, name_id, is_near}
 use Rattle.name_index.proofs.Postings.{sum_map}
 use Rattle.name_index.proofs.Covered.{walk_length}
-use Rattle.target_index.specs.Targets.{Targets, held, is_open, is_loose, is_met, covered_count, maybe_count, open_count, FitsTargets}
+use Rattle.target_index.specs.Targets.{Targets, held, is_open, is_loose, is_met, covered_pairs, maybe_pairs, open_count, FitsTargets}
 
--- a test of pairs by a test of numbers
+-- a test of pairs, made from a test of numbers
 abbrev pub on_pairs : (NameId → Bool) → ℕ × ℕ → Bool
 on_pairs p x = p (name_id x.0)
 
 abbrev pub one_if : Bool → ℕ
 one_if b = cond b 1 0
 
--- ---- over a walk over the near ones stand all that pass a test, where it asks for a near product or one with a special, and none has one
+-- ---- a walk over near products has all numbers that pass a test, if no product has a special
 
 module _ (p q l : NameId → Bool) (fine : (x : NameId) → p x ≡ true → (l x || q x) ≡ true) where
   zero_either : (b : Bool) → ◌≡◌ {A = ℕ} (cond b 0 0) 0
@@ -62,24 +62,24 @@ module _ (p q l : NameId → Bool) (fine : (x : NameId) → p x ≡ true → (l 
   walk_passing xs walk none same =
       sym (same (λ x. cond (p x) 1 0)) ∙ sum_filter (λ x. cond (p x) 1 0) q (ids xs) ∙ sum_map (if_passes q (λ x. cond (p x) 1 0)) (λ (x : ℕ × ℕ). name_id x.0) xs ∙ agree xs none
 
--- ---- what stands at the head of the rest of a list
+-- ---- the first element of the rest of a list
 
 pub count_step : {X : Type 0} (q : X → Bool) (x : X) (rest xs : List X) (b : Bool) → xs ≡ x ∷ rest → b ≡ q x → count_by q xs ≡ cond b 1 0 + count_by q rest
 count_step q x rest xs b e t = ap (count_by q) e ∙ sum_by-cons (λ y. cond (q y) 1 0) x rest ∙ ap {B = ℕ} (λ (c : Bool). cond c 1 0 + count_by q rest) (sym t)
 
--- a walk is no longer than what is held
+-- A walk visits at most as many numbers as are held.
 pub walk_few : (q : NameId → Bool) (xs : List (ℕ × ℕ)) (walk : List NameId) → SameElements (filter q (ids xs)) walk → length walk ≤ length xs
 walk_few q xs walk same = omega (arith, walk_length q (ids xs) walk same, count_by-le-length q (ids xs), length-map xs (λ (x : ℕ × ℕ). name_id x.0))
 
 -- ---- names with a special
 
--- a name whose product has a special is open
+-- A name whose product has a special is open.
 pub loose_open : (v : Values) → has_specials v.product ≡ true → name_has_specials v ≡ true
 loose_open v h = or_right (has_specials v.part) _ (or_right (has_specials v.vendor) _ (or_left (has_specials v.product) _ h))
 
 module _ (names : Names) (name : Values) where
-  -- none of those whose product has a special is covered
-  pub none_covered : ((a b : Values) → IsTrue (covers a b) → name_has_specials b ≡ false) → (xs : List (ℕ × ℕ)) → count_by (λ (x : ℕ × ℕ). not (is_loose names x.0)) xs ≡ 0 → covered_count names name xs ≡ 0
+  -- No name covers a target whose product has a special.
+  pub none_covered : ((a b : Values) → IsTrue (covers a b) → name_has_specials b ≡ false) → (xs : List (ℕ × ℕ)) → count_by (λ (x : ℕ × ℕ). not (is_loose names x.0)) xs ≡ 0 → covered_pairs names name xs ≡ 0
   none_covered law [] e = refl
   none_covered law (x ∷ xs) e =
       omega (arith, sum_by-cons (λ (y : ℕ × ℕ). cond (covers name (kept_at names y.0).name) 1 0) x xs, here (omega (arith, e, split)), none_covered law xs (omega (arith, e, split)))
@@ -95,8 +95,8 @@ module _ (names : Names) (name : Values) where
           by true h true k = absurd (false≢true (sym (law name (kept_at names x.0).name h) ∙ loose_open (kept_at names x.0).name k))
           by true h false k = absurd (omega (arith, z, ap {B = ℕ} (λ (d : Bool). cond (not d) 1 0) k))
 
-  -- what the name may cover is open
-  pub few_open : ((a b : Values) → IsTrue (maybe a b) → name_has_specials b ≡ true) → (xs : List (ℕ × ℕ)) → maybe_count names name xs ≤ open_count names xs
+  -- There are at most as many targets that the name may cover as open targets.
+  pub few_open : ((a b : Values) → IsTrue (maybe a b) → name_has_specials b ≡ true) → (xs : List (ℕ × ℕ)) → maybe_pairs names name xs ≤ open_count names xs
   few_open law xs = sum_by-le-sum_by (λ (y : ℕ × ℕ). cond (maybe name (kept_at names y.0).name) 1 0) (λ (y : ℕ × ℕ). cond (is_open names y.0) 1 0) xs (λ y. by (maybe name (kept_at names y.0).name) (is_open names y.0) (law name (kept_at names y.0).name))
     where
       by : (a b : Bool) → (a ≡ true → b ≡ true) → cond a 1 0 ≤ cond b 1 0
@@ -104,15 +104,15 @@ module _ (names : Names) (name : Values) where
       by true false h = absurd (false≢true (h refl))
       by false b h = omega arith
 
-  -- where none is open it need not be asked
-  pub asked_count : ((a b : Values) → IsTrue (maybe a b) → name_has_specials b ≡ true) → (opens : ℕ) (xs : List (ℕ × ℕ)) → open_count names xs ≤ opens → count_by (λ (x : ℕ × ℕ). nat_lt 0 opens && maybe name (kept_at names x.0).name) xs ≡ maybe_count names name xs
+  -- If no target is open, the name may cover none, so the question can be skipped.
+  pub asked_count : ((a b : Values) → IsTrue (maybe a b) → name_has_specials b ≡ true) → (opens : ℕ) (xs : List (ℕ × ℕ)) → open_count names xs ≤ opens → count_by (λ (x : ℕ × ℕ). nat_lt 0 opens && maybe name (kept_at names x.0).name) xs ≡ maybe_pairs names name xs
   asked_count law opens xs le = by (nat_lt 0 opens) refl
     where
       never : (ys : List (ℕ × ℕ)) → count_by (λ (x : ℕ × ℕ). false && maybe name (kept_at names x.0).name) ys ≡ 0
       never [] = refl
       never (y ∷ ys) = omega (arith, sum_by-cons (λ (x : ℕ × ℕ). cond (false && maybe name (kept_at names x.0).name) 1 0) y ys, never ys)
 
-      by : (b : Bool) → nat_lt 0 opens ≡ b → count_by (λ (x : ℕ × ℕ). nat_lt 0 opens && maybe name (kept_at names x.0).name) xs ≡ maybe_count names name xs
+      by : (b : Bool) → nat_lt 0 opens ≡ b → count_by (λ (x : ℕ × ℕ). nat_lt 0 opens && maybe name (kept_at names x.0).name) xs ≡ maybe_pairs names name xs
       by true e = ap {B = ℕ} (λ (c : Bool). count_by (λ (x : ℕ × ℕ). c && maybe name (kept_at names x.0).name) xs) e
       by false e = ap {B = ℕ} (λ (c : Bool). count_by (λ (x : ℕ × ℕ). c && maybe name (kept_at names x.0).name) xs) e ∙ never xs ∙ none (omega (arith, few_open law xs, le, zero e))
         where
@@ -122,26 +122,26 @@ module _ (names : Names) (name : Values) where
               small : (n : ℕ) → nat_lt 0 n ≡ false → n ≡ 0
               small n h = omega (arith, ltb-false 0 n h)
 
-          none : maybe_count names name xs ≡ 0 → ◌≡◌ {A = ℕ} 0 (maybe_count names name xs)
+          none : maybe_pairs names name xs ≡ 0 → ◌≡◌ {A = ℕ} 0 (maybe_pairs names name xs)
           none k = sym k
 
 module _ (names : Names) (name : Values) (t : Targets) (f : FitsTargets t names) where
-  -- what is counted in both lists is what is counted
-  pub covered_joined : ((a b : Values) → IsTrue (covers a b) → name_has_specials b ≡ false) → (plain : ℕ) → plain ≡ covered_count names name t.plain → plain ≡ covered_count names name (held t)
+  -- The covered targets of both lists are the covered targets of the first list.
+  pub covered_joined : ((a b : Values) → IsTrue (covers a b) → name_has_specials b ≡ false) → (plain : ℕ) → plain ≡ covered_pairs names name t.plain → plain ≡ covered_pairs names name (held t)
   covered_joined law plain is = omega (arith, is, sum_by-append (λ (x : ℕ × ℕ). cond (covers name (kept_at names x.0).name) 1 0) t.plain t.loose, none_covered names name law t.loose f.all_loose)
 
-  pub maybe_joined : ((a b : Values) → IsTrue (maybe a b) → name_has_specials b ≡ true) → (plain loose : ℕ) → plain ≡ count_by (λ (x : ℕ × ℕ). nat_lt 0 t.opens && maybe name (kept_at names x.0).name) t.plain → loose ≡ maybe_count names name t.loose → plain + loose ≡ maybe_count names name (held t)
+  pub maybe_joined : ((a b : Values) → IsTrue (maybe a b) → name_has_specials b ≡ true) → (plain loose : ℕ) → plain ≡ count_by (λ (x : ℕ × ℕ). nat_lt 0 t.opens && maybe name (kept_at names x.0).name) t.plain → loose ≡ maybe_pairs names name t.loose → plain + loose ≡ maybe_pairs names name (held t)
   maybe_joined law plain loose is rest = omega (arith, asked, rest, sum_by-append (λ (x : ℕ × ℕ). cond (maybe name (kept_at names x.0).name) 1 0) t.plain t.loose)
     where
       few : open_count names t.plain ≤ t.opens
       few = omega (arith, f.opens, sum_by-append (λ (x : ℕ × ℕ). cond (is_open names x.0) 1 0) t.plain t.loose)
 
-      asked : plain ≡ maybe_count names name t.plain
+      asked : plain ≡ maybe_pairs names name t.plain
       asked = is ∙ asked_count names name law t.opens t.plain few
 
 -- ---- the steps of a count
 
--- the near ones and those whose product has a special are met
+-- The near targets, and the targets whose product has a special, are met.
 pub met_count : (names : Names) (asked : Value) (plain loose : List (ℕ × ℕ)) → count_by (λ (x : ℕ × ℕ). not (is_loose names x.0)) loose ≡ 0
     → count_by (is_near names side.Source asked) (ids plain) + length loose ≤ count_by (is_met names asked) (ids (plain ++ loose))
 met_count names asked plain loose all =

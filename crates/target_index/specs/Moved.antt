@@ -1,43 +1,43 @@
--- What a number that comes or goes makes of the targets, and what may be asked of them before.
+-- Adding a number to the targets, or removing one: the conditions, and the result.
 use Rattle.std.specs.Prelude.{◌≡◌, ◌∷◌, ℕ, ◌+◌, ◌<◌, ◌≤◌, length}
 use Rattle.name_index.specs.product_orders.Elements.{SameElements}
 use Rattle.name_index.specs.Table.{Names, IsLive, kept_at}
 use Rattle.name_index.specs.Index.{times_held}
 use Rattle.target_index.specs.Targets.{FitsTargets, Targets, held}
 
--- A number may come.
-pub record MayCome (targets : Targets) (names : Names) (id : ℕ) : Type 0 where
-  -- it is live
+-- A number may be added.
+pub record MayAddTarget (targets : Targets) (names : Names) (id : ℕ) : Type 0 where
+  -- The number is live.
   pub live : IsLive names id
-  -- the targets are those of the table
+  -- The targets fit the table.
   pub fits : FitsTargets targets names
-  -- it isn't held
+  -- The number isn't held yet.
   pub fresh : times_held (held targets) id ≡ 0
-  -- there is room for it
+  -- There is room for the number.
   pub room : 1 ≤ targets.spare
-  -- and for its product
+  -- There is room for the number's product.
   pub product : (kept_at names id).product < targets.wide
-  -- there aren't too many
+  -- There are fewer targets than the limit.
   pub few : length (held targets) < 4294967295
 
--- The number came.
-pub record Comes (old new : Targets) (names : Names) (id : ℕ) : Type 0 where
-  -- it is held besides
+-- The number was added.
+pub record AddsTarget (old new : Targets) (names : Names) (id : ℕ) : Type 0 where
+  -- The new pair of number and product number is added to the held pairs.
   pub added : SameElements ((id, (kept_at names id).product) ∷ held old) (held new)
-  -- the targets are those of the table still
+  -- The targets still fit the table.
   pub fits : FitsTargets new names
-  -- the room of one is taken
+  -- There is room for one number less.
   pub spare : new.spare + 1 ≡ old.spare
-  -- and products have the room that they had
+  -- The bound of product numbers is unchanged.
   pub wide : new.wide ≡ old.wide
 
--- The number went.
-pub record Goes (old new : Targets) (names : Names) (id : ℕ) : Type 0 where
-  -- all but it is held
+-- The number was removed.
+pub record IsOneLess (old new : Targets) (names : Names) (id : ℕ) : Type 0 where
+  -- Everything is held except this number.
   pub dropped : SameElements (held old) ((id, (kept_at names id).product) ∷ held new)
-  -- the targets are those of the table still
+  -- The targets still fit the table.
   pub fits : FitsTargets new names
-  -- no room is taken
+  -- The room is unchanged.
   pub spare : new.spare ≡ old.spare
-  -- and products have the room that they had
+  -- The bound of product numbers is unchanged.
   pub wide : new.wide ≡ old.wide

@@ -1,9 +1,9 @@
-// How many targets a name covers, and how many it may cover.
+// Counting the targets that a name covers, and the targets that it may cover.
 ghost use Rattle.std.specs.Prelude.{◌≡◌, ℕ, ◌+◌, ◌<◌, ◌≤◌, ◌&&◌, cond, length, count_by, nat_lt};
 ghost use Rattle.name_index.specs.Prelude.{covers, IsLower, kept_at, maybe};
 ghost use Rattle.name_index.specs.product_orders.declared.products.Side.TheVariants as side;
-ghost use Rattle.name_index.specs.Index.{ids, Fits, is_near};
-ghost use Rattle.target_index.specs.Targets.{is_loose, covered_count, maybe_count};
+ghost use Rattle.name_index.specs.Index.{ids, FitsTable, is_near};
+ghost use Rattle.target_index.specs.Targets.{is_loose, covered_pairs, maybe_pairs};
 ghost use Rattle.target_index.specs.Parts.{pairs_of};
 
 use crate::parts::Loose;
@@ -13,10 +13,10 @@ use std::sync::ledger::Ledger;
 
 /// How many targets a name covers, and how many it may cover.
 #[derive(Clone, Copy)]
-pub struct Counts {
-    /// How many it covers.
+pub struct TargetCounts {
+    /// How many targets the name covers.
     pub covered: u32,
-    /// How many it may cover.
+    /// How many targets the name may cover.
     pub maybe: u32,
 }
 
@@ -34,7 +34,7 @@ pub fn may_cover(name: &Wfn, target: &Wfn) -> bool
     maybe(name, target)
 }
 
-// The same, where it is asked.
+// Whether a name may cover a target; false if not asked.
 fn may_cover_where(asked: bool, name: &Wfn, target: &Wfn) -> bool
     ensures { result ≡ (asked && maybe name.now target.now) }
 {
@@ -51,19 +51,20 @@ pub(crate) fn one_more(number: u32, counts: bool) -> u32
     number
 }
 
-// Among those whose product has no special. Whether the name may cover them is asked only where some are open.
+// Counts among the targets whose product has no special. Only if some targets are open, each is compared to find
+// whether the name may cover it.
 pub(crate) fn count_plain<L: Ledger>(
     index: &NameIndex,
     table: &NameTable,
     name: &Wfn,
     some_open: bool,
     steps: &mut Steps<L>,
-) -> Counts
-    requires fits { Fits index.now.held table.now }
+) -> TargetCounts
+    requires fits { FitsTable index.now.held table.now }
     requires lower { IsLower name.now }
     requires few { length index.now.held < 4294967296 }
     requires plain { count_by (λ (x : ℕ × ℕ). is_loose table.now x.0) index.now.held ≡ 0 }
-    ensures covered { result.covered ≡ covered_count table.now name.now index.now.held }
+    ensures covered { result.covered ≡ covered_pairs table.now name.now index.now.held }
     ensures maybe { result.maybe ≡ count_by (λ (x : ℕ × ℕ). some_open && maybe name.now (kept_at table.now x.0).name) index.now.held }
     ensures steps { steps.new ≡ steps.old + count_by (is_near table.now side.Source name.now.product) (ids index.now.held) }
 {
@@ -75,22 +76,22 @@ pub(crate) fn count_plain<L: Ledger>(
         covered = one_more(covered, is_covering(name, other));
         maybes = one_more(maybes, may_cover_where(some_open, name, other));
     }
-    Counts {
+    TargetCounts {
         covered,
         maybe: maybes,
     }
 }
 
-// How many of those whose product has a special the name may cover.
+// How many targets the name may cover, among those whose product has a special.
 pub(crate) fn count_loose<L: Ledger>(
     loose: &[Loose],
     table: &NameTable,
     name: &Wfn,
     steps: &mut Steps<L>,
 ) -> u32
-    requires fits { Fits (pairs_of loose.now) table.now }
+    requires fits { FitsTable (pairs_of loose.now) table.now }
     requires few { length loose.now < 4294967296 }
-    ensures maybe { result ≡ maybe_count table.now name.now (pairs_of loose.now) }
+    ensures maybe { result ≡ maybe_pairs table.now name.now (pairs_of loose.now) }
     ensures steps { steps.new ≡ steps.old + length loose.now }
 {
     let mut maybes = 0;

@@ -13,19 +13,19 @@ ghost use Rattle.std.specs.Prelude.{◌≡◌, ℕ, ◌<◌, ◌≤◌, filter, 
 ghost use Rattle.name_index.specs.Prelude.{IsLower, SameElements, StepsWithin};
 ghost use Rattle.name_index.specs.Table.{Names, Kept, find_kept, IsLive};
 ghost use Rattle.name_index.specs.Index.{ids, is_covered, times_held};
-ghost use Rattle.target_index.specs.Moved.{Comes, Goes, MayCome};
-ghost use Rattle.target_index.specs.Targets.{AreNone, FitsTargets, SameTargets, held, is_maybe, is_met, covered_count, maybe_count};
+ghost use Rattle.target_index.specs.Moved.{AddsTarget, IsOneLess, MayAddTarget};
+ghost use Rattle.target_index.specs.Targets.{AreNone, FitsTargets, SameTargets, held, is_maybe_target, is_met, covered_pairs, maybe_pairs};
 
 mod counting;
 pub mod law;
 mod meeting;
 mod parts;
 
-pub use counting::{Counts, is_covering, may_cover};
+pub use counting::{TargetCounts, is_covering, may_cover};
 pub use meeting::Met;
 use meeting::meet;
 use name_index::{Memory, NameId, NameTable, Steps, Wfn};
-use parts::Parts;
+use parts::TargetParts;
 pub use parts::at_least;
 use std::alloc::Global;
 use std::marker::Model;
@@ -34,7 +34,7 @@ use std::sync::ledger::Ledger;
 /// A set of the numbers of targets, each with the number of its product.
 #[derive(Drop)]
 pub struct TargetIndex {
-    parts: Parts,
+    parts: TargetParts,
 }
 
 impl Model for TargetIndex {
@@ -49,20 +49,20 @@ impl Model for TargetIndex {
 }
 
 impl TargetIndex {
-    /// An index that holds nothing. It takes no memory.
+    /// An index without targets. Allocates: no.
     pub fn new(alloc: Global) -> TargetIndex
         ensures none { AreNone result }
         ensures fits { (names : Names) → FitsTargets result names }
     {
         TargetIndex {
-            parts: Parts::new(alloc),
+            parts: TargetParts::new(alloc),
         }
     }
 
     /// Makes room for `n` numbers more. Afterwards `wide` is above the product number of each live name.
     ///
     /// # Errors
-    /// That memory ran out; the same is then held.
+    /// Only that memory ran out; the targets are then unchanged.
     pub fn reserve(&mut self, table: &NameTable, n: u32) -> Result<(), Memory>
         ensures same { SameTargets self.old self.new }
         ensures spare { OnOk result (n ≤ self.new.spare) }
@@ -71,46 +71,51 @@ impl TargetIndex {
         self.parts.reserve(table, n)
     }
 
-    /// Holds a number, which was not held. It takes no memory.
+    /// Adds a live number that the index doesn't hold yet. Allocates: no.
     pub fn add(&mut self, table: &NameTable, id: NameId)
-        requires { MayCome self.old table.now id.0 }
-        ensures { Comes self.old self.new table.now id.0 }
+        requires { MayAddTarget self.old table.now id.0 }
+        ensures { AddsTarget self.old self.new table.now id.0 }
     {
         self.parts.add(table, id);
     }
 
-    /// Lets a number go, which was held. It takes no memory.
+    /// Removes a number that the index holds. Allocates: no.
     pub fn drop_name(&mut self, table: &NameTable, id: NameId)
         requires held { 1 ≤ times_held (held self.old) id.0 }
         requires live { IsLive table.now id.0 }
         requires fits { FitsTargets self.old table.now }
-        ensures { Goes self.old self.new table.now id.0 }
+        ensures { IsOneLess self.old self.new table.now id.0 }
     {
         self.parts.drop_name(table, id);
     }
 
-    /// What is so of every index: no number is held twice. It does nothing, and tells a proof so.
+    /// Law: no number is held twice.
     pub fn lawful(&self)
         ensures { (id : ℕ) → times_held (held self.now) id ≤ 1 }
     {
         let _parts = &self.parts;
     }
 
-    /// How many targets a name covers, and how many it may cover. It looks once at each whose product the name's meets, and at no
-    /// other, and takes no memory.
-    pub fn count<L: Ledger>(&self, table: &NameTable, name: &Wfn, steps: &mut Steps<L>) -> Counts
+    /// How many targets a name covers, and how many it may cover. Looks once at each target whose product the name's
+    /// product meets, and at no other target. Allocates: no.
+    pub fn count<L: Ledger>(
+        &self,
+        table: &NameTable,
+        name: &Wfn,
+        steps: &mut Steps<L>,
+    ) -> TargetCounts
         requires fits { FitsTargets self.now table.now }
         requires lower { IsLower name.now }
         requires few { length (held self.now) < 4294967296 }
-        ensures covered { result.covered ≡ covered_count table.now name.now (held self.now) }
-        ensures maybe { result.maybe ≡ maybe_count table.now name.now (held self.now) }
+        ensures covered { result.covered ≡ covered_pairs table.now name.now (held self.now) }
+        ensures maybe { result.maybe ≡ maybe_pairs table.now name.now (held self.now) }
         ensures steps { StepsWithin steps.old steps.new (count_by (is_met table.now name.now.product) (ids (held self.now))) }
     {
         self.parts.count(table, name, steps)
     }
 
-    /// The targets that a name covers, and those that it may cover, each in any order. It looks at none twice, and only at such
-    /// whose product the name's meets.
+    /// The targets that a name covers, and the targets that it may cover, both in any order. Looks at no target twice,
+    /// and only at targets whose product the name's product meets.
     ///
     /// # Errors
     /// Only that memory ran out. The bound on steps holds then, too.
@@ -124,7 +129,7 @@ impl TargetIndex {
         requires fits { FitsTargets self.now table.now }
         requires lower { IsLower name.now }
         ensures covered { IfOk result (λ m. SameElements (filter (is_covered table.now name.now) (ids (held self.now))) m.covered.items) }
-        ensures maybe { IfOk result (λ m. SameElements (filter (is_maybe table.now name.now) (ids (held self.now))) m.maybe.items) }
+        ensures maybe { IfOk result (λ m. SameElements (filter (is_maybe_target table.now name.now) (ids (held self.now))) m.maybe.items) }
         ensures steps { StepsWithin steps.old steps.new (count_by (is_met table.now name.now.product) (ids (held self.now))) }
     {
         meet(&self.parts, alloc, table, name, steps)

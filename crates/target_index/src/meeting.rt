@@ -1,28 +1,28 @@
-// The targets that a name covers, and those that it may cover.
+// Listing the targets that a name covers, and the targets that it may cover.
 ghost use Rattle.std.specs.Prelude.{◌≡◌, ℕ, ◌+◌, ◌++◌, ◌∷◌, [], IfOk, OnOk, cond, count_by, filter, length};
 ghost use Rattle.name_index.specs.Prelude.{covers, IsLive, IsLower, IsOrder, maybe, SameElements, StepsWithin};
 ghost use Rattle.name_index.specs.product_orders.declared.products.Side.TheVariants as side;
-ghost use Rattle.name_index.specs.Index.{Fits, ids, is_covered, is_near};
-ghost use Rattle.target_index.specs.Targets.{FitsTargets, held, is_loose, is_maybe, is_met};
+ghost use Rattle.name_index.specs.Index.{FitsTable, ids, is_covered, is_near};
+ghost use Rattle.target_index.specs.Targets.{FitsTargets, held, is_loose, is_maybe_target, is_met};
 ghost use Rattle.target_index.specs.Parts.{ArePartsOf, pairs_of, targets_of};
 
 use crate::counting::may_cover;
-use crate::parts::{Loose, Parts};
+use crate::parts::{Loose, TargetParts};
 use cpe_relation::{covers_in_order, deciding_order};
 use name_index::{Attribute, Memory, NameId, NameIndex, NameTable, Steps, Wfn};
 use std::alloc::Global;
 use std::sync::ledger::Ledger;
 
-/// The targets that a name covers, and those that it may cover, each in any order.
+/// The targets that a name covers, and the targets that it may cover, both in any order.
 #[derive(Drop)]
 pub struct Met {
-    /// Those that it covers.
+    /// The targets that the name covers.
     pub covered: Vec<NameId>,
-    /// Those that it may cover.
+    /// The targets that the name may cover.
     pub maybe: Vec<NameId>,
 }
 
-// Whether a name covers a target, by an order of the attributes.
+// Whether a name covers a target. The attributes are compared in the given order.
 fn is_covering(order: &[Attribute], name: &Wfn, target: &Wfn) -> bool
     requires { IsOrder order.now }
     ensures { result ≡ covers name.now target.now }
@@ -30,7 +30,7 @@ fn is_covering(order: &[Attribute], name: &Wfn, target: &Wfn) -> bool
     covers_in_order(order, name, target)
 }
 
-// Puts a number last where it passes.
+// Appends a number, if `passes`.
 fn push_where(passes: bool, ids: &mut Vec<NameId>, id: NameId) -> Result<(), Memory>
     ensures { OnOk result (ids.new.items ≡ cond passes (ids.old.items ++ id ∷ []) ids.old.items) }
 {
@@ -40,7 +40,8 @@ fn push_where(passes: bool, ids: &mut Vec<NameId>, id: NameId) -> Result<(), Mem
     Ok(())
 }
 
-// Looks at a target, and puts it last where it belongs.
+// Looks at a target, and appends it to the list of covered targets, to the list of targets that may be covered, or to
+// neither.
 fn push_met<L: Ledger>(
     order: &[Attribute],
     table: &NameTable,
@@ -53,7 +54,7 @@ fn push_met<L: Ledger>(
     requires order { IsOrder order.now }
     requires live { IsLive table.now target.0 }
     ensures covered { OnOk result (covered.new.items ≡ cond (is_covered table.now name.now target) (covered.old.items ++ target ∷ []) covered.old.items) }
-    ensures maybe { OnOk result (maybes.new.items ≡ cond (is_maybe table.now name.now target) (maybes.old.items ++ target ∷ []) maybes.old.items) }
+    ensures maybe { OnOk result (maybes.new.items ≡ cond (is_maybe_target table.now name.now target) (maybes.old.items ++ target ∷ []) maybes.old.items) }
     ensures step { steps.new ≡ steps.old + 1 }
 {
     let other = table.look(target, steps);
@@ -61,7 +62,8 @@ fn push_met<L: Ledger>(
     push_where(may_cover(name, other), maybes, target)
 }
 
-// Among those whose product has no special: the name's product covers that of each target that the name covers or may cover.
+// Lists the targets among those whose product has no special. If the name covers a target or may cover it, the name's
+// product covers the target's product.
 fn meet_plain<L: Ledger>(
     order: &[Attribute],
     index: &NameIndex,
@@ -72,13 +74,13 @@ fn meet_plain<L: Ledger>(
     steps: &mut Steps<L>,
 ) -> Result<(), Memory>
     requires order { IsOrder order.now }
-    requires fits { Fits index.now.held table.now }
+    requires fits { FitsTable index.now.held table.now }
     requires lower { IsLower name.now }
     requires plain { count_by (λ (x : ℕ × ℕ). is_loose table.now x.0) index.now.held ≡ 0 }
     requires none { covered.old.items ≡ [] }
     requires none_maybe { maybes.old.items ≡ [] }
     ensures covered { OnOk result (SameElements (filter (is_covered table.now name.now) (ids index.now.held)) covered.new.items) }
-    ensures maybe { OnOk result (SameElements (filter (is_maybe table.now name.now) (ids index.now.held)) maybes.new.items) }
+    ensures maybe { OnOk result (SameElements (filter (is_maybe_target table.now name.now) (ids index.now.held)) maybes.new.items) }
     ensures steps { StepsWithin steps.old steps.new (count_by (is_near table.now side.Source name.now.product) (ids index.now.held)) }
 {
     cpe_relation::law::relation_laws();
@@ -88,7 +90,7 @@ fn meet_plain<L: Ledger>(
     Ok(())
 }
 
-// Among those whose product has a special, none of which is covered.
+// Lists the targets among those whose product has a special; the name covers none of these.
 fn meet_loose<L: Ledger>(
     loose: &[Loose],
     table: &NameTable,
@@ -96,8 +98,8 @@ fn meet_loose<L: Ledger>(
     maybes: &mut Vec<NameId>,
     steps: &mut Steps<L>,
 ) -> Result<(), Memory>
-    requires { Fits (pairs_of loose.now) table.now }
-    ensures maybe { OnOk result (maybes.new.items ≡ maybes.old.items ++ filter (is_maybe table.now name.now) (ids (pairs_of loose.now))) }
+    requires { FitsTable (pairs_of loose.now) table.now }
+    ensures maybe { OnOk result (maybes.new.items ≡ maybes.old.items ++ filter (is_maybe_target table.now name.now) (ids (pairs_of loose.now))) }
     ensures steps { StepsWithin steps.old steps.new (length loose.now) }
 {
     for one in loose {
@@ -107,7 +109,7 @@ fn meet_loose<L: Ledger>(
     Ok(())
 }
 
-// Where none is open.
+// Lists the targets if none is open.
 fn meet_whole<L: Ledger>(
     alloc: Global,
     index: &NameIndex,
@@ -115,7 +117,7 @@ fn meet_whole<L: Ledger>(
     name: &Wfn,
     steps: &mut Steps<L>,
 ) -> Result<Met, Memory>
-    requires fits { Fits index.now.held table.now }
+    requires fits { FitsTable index.now.held table.now }
     requires lower { IsLower name.now }
     ensures covered { IfOk result (λ m. SameElements (filter (is_covered table.now name.now) (ids index.now.held)) m.covered.items) }
     ensures maybe { IfOk result (λ m. m.maybe.items ≡ []) }
@@ -128,7 +130,7 @@ fn meet_whole<L: Ledger>(
     })
 }
 
-// Where some are open.
+// Lists the targets if some are open.
 fn meet_each<L: Ledger>(
     alloc: Global,
     index: &NameIndex,
@@ -137,12 +139,12 @@ fn meet_each<L: Ledger>(
     name: &Wfn,
     steps: &mut Steps<L>,
 ) -> Result<Met, Memory>
-    requires fits { Fits index.now.held table.now }
-    requires loose { Fits (pairs_of loose.now) table.now }
+    requires fits { FitsTable index.now.held table.now }
+    requires loose { FitsTable (pairs_of loose.now) table.now }
     requires lower { IsLower name.now }
     requires plain { count_by (λ (x : ℕ × ℕ). is_loose table.now x.0) index.now.held ≡ 0 }
     ensures covered { IfOk result (λ m. SameElements (filter (is_covered table.now name.now) (ids index.now.held)) m.covered.items) }
-    ensures maybe { IfOk result (λ m. SameElements (filter (is_maybe table.now name.now) (ids (index.now.held ++ pairs_of loose.now))) m.maybe.items) }
+    ensures maybe { IfOk result (λ m. SameElements (filter (is_maybe_target table.now name.now) (ids (index.now.held ++ pairs_of loose.now))) m.maybe.items) }
     ensures steps { StepsWithin steps.old steps.new (count_by (is_near table.now side.Source name.now.product) (ids index.now.held) + length loose.now) }
 {
     let order = deciding_order(alloc, name)?;
@@ -156,9 +158,9 @@ fn meet_each<L: Ledger>(
     })
 }
 
-// The targets that a name covers, and those that it may cover.
+// The targets that a name covers, and the targets that it may cover.
 pub(crate) fn meet<L: Ledger>(
-    parts: &Parts,
+    parts: &TargetParts,
     alloc: Global,
     table: &NameTable,
     name: &Wfn,
@@ -168,7 +170,7 @@ pub(crate) fn meet<L: Ledger>(
     requires fits { FitsTargets (targets_of parts.now) table.now }
     requires lower { IsLower name.now }
     ensures covered { IfOk result (λ m. SameElements (filter (is_covered table.now name.now) (ids (held (targets_of parts.now)))) m.covered.items) }
-    ensures maybe { IfOk result (λ m. SameElements (filter (is_maybe table.now name.now) (ids (held (targets_of parts.now)))) m.maybe.items) }
+    ensures maybe { IfOk result (λ m. SameElements (filter (is_maybe_target table.now name.now) (ids (held (targets_of parts.now)))) m.maybe.items) }
     ensures steps { StepsWithin steps.old steps.new (count_by (is_met table.now name.now.product) (ids (held (targets_of parts.now)))) }
 {
     cpe_relation::law::maybe_laws();

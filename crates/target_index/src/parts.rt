@@ -1,26 +1,27 @@
-// The parts of an index of targets, and its changes.
+// The parts of an index of targets, and how they are changed.
 ghost use Rattle.std.specs.Prelude.{◌≡◌, ℕ, ◌+◌, ◌-◌, ◌<◌, ◌≤◌, ◌∷◌, [], ◌++◌, cond, length, nat_eq, Some, OnOk, count_by, vec_capacity, Contains, position, swap_remove};
 ghost use Rattle.name_index.specs.Prelude.{IsLower, SameElements, StepsWithin};
 ghost use Rattle.name_index.specs.Table.{Names, Kept, find_kept, IsLive, kept_at};
 ghost use Rattle.name_index.specs.Index.{ids, times_held};
-ghost use Rattle.target_index.specs.Targets.{AreNone, FitsTargets, SameTargets, held, is_loose, is_met, is_open, covered_count, maybe_count};
-ghost use Rattle.target_index.specs.Parts.{ArePartsOf, pair_of, pairs_of, targets_of};
+ghost use Rattle.target_index.specs.Targets.{AreNone, FitsTargets, SameTargets, held, is_loose, is_met, is_open, covered_pairs, maybe_pairs};
+ghost use Rattle.target_index.specs.Parts.{ArePartsOf, pair_of_loose, pairs_of, targets_of};
 
-use crate::counting::{Counts, count_loose, count_plain, one_more};
+use crate::counting::{TargetCounts, count_loose, count_plain, one_more};
 use name_index::{Attribute, Memory, NameId, NameIndex, NameTable, Steps, Wfn};
 use std::alloc::Global;
 use std::sync::ledger::Ledger;
 
-// The number of a name whose product has a special, and that of the product.
+// The number of a name whose product has a special, and the number of this product.
 #[derive(Clone, Copy)]
 pub(crate) struct Loose {
     pub(crate) id: u32,
     pub(crate) product: u32,
 }
 
-// Those whose product has no special, by product, and the others; how many are open; and how many there is room for.
+// `plain`: the targets whose product has no special, by product. `loose`: the targets whose product has a special.
+// `opens`: how many targets are open. `room`: how many targets more there is room for.
 #[derive(Drop)]
-pub(crate) struct Parts {
+pub(crate) struct TargetParts {
     pub(crate) plain: NameIndex,
     pub(crate) loose: Vec<Loose>,
     pub(crate) opens: u32,
@@ -68,7 +69,7 @@ fn place_of(loose: &[Loose], id: u32) -> Option<usize>
     loose.iter().position(|one| id == one.id)
 }
 
-// Takes a number out of those whose product has a special. The last one takes its place.
+// Removes a number from the targets whose product has a special. The last target moves to its place.
 fn take_out(loose: &mut Vec<Loose>, id: u32)
     requires { 1 ≤ times_held (pairs_of loose.old.items) id }
     ensures taken { (product : ℕ) × Contains (pairs_of loose.old.items) (id, product) × SameElements (pairs_of loose.old.items) ((id, product) ∷ pairs_of loose.new.items) }
@@ -83,13 +84,13 @@ fn take_out(loose: &mut Vec<Loose>, id: u32)
     }
 }
 
-impl Parts {
-    pub(crate) fn new(alloc: Global) -> Parts
+impl TargetParts {
+    pub(crate) fn new(alloc: Global) -> TargetParts
         ensures parts { ArePartsOf result }
         ensures none { AreNone (targets_of result) }
         ensures fits { (names : Names) → FitsTargets (targets_of result) names }
     {
-        Parts {
+        TargetParts {
             plain: NameIndex::new(alloc),
             loose: Vec::new(alloc),
             opens: 0,
@@ -97,7 +98,7 @@ impl Parts {
         }
     }
 
-    // Makes room for so many numbers more.
+    // Makes room for `n` numbers more.
     pub(crate) fn reserve(&mut self, table: &NameTable, n: u32) -> Result<(), Memory>
         requires parts { ArePartsOf self.old }
         ensures parts { ArePartsOf self.new }
@@ -161,19 +162,19 @@ impl Parts {
         table: &NameTable,
         name: &Wfn,
         steps: &mut Steps<L>,
-    ) -> Counts
+    ) -> TargetCounts
         requires parts { ArePartsOf self.now }
         requires fits { FitsTargets (targets_of self.now) table.now }
         requires lower { IsLower name.now }
         requires few { length (held (targets_of self.now)) < 4294967296 }
-        ensures covered { result.covered ≡ covered_count table.now name.now (held (targets_of self.now)) }
-        ensures maybe { result.maybe ≡ maybe_count table.now name.now (held (targets_of self.now)) }
+        ensures covered { result.covered ≡ covered_pairs table.now name.now (held (targets_of self.now)) }
+        ensures maybe { result.maybe ≡ maybe_pairs table.now name.now (held (targets_of self.now)) }
         ensures steps { StepsWithin steps.old steps.new (count_by (is_met table.now name.now.product) (ids (held (targets_of self.now)))) }
     {
         cpe_relation::law::maybe_laws();
         let plain = count_plain(&self.plain, table, name, self.opens > 0, steps);
         let loose = count_loose(&self.loose, table, name, steps);
-        Counts {
+        TargetCounts {
             covered: plain.covered,
             maybe: plain.maybe + loose,
         }

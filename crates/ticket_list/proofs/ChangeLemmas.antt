@@ -1,4 +1,4 @@
--- What a change of the element of a ticket, or a mark in its place, makes of the slots.
+-- Lemmas: the slots after a change of an element, or after a mark replaces the element.
 use Rattle.std.proofs.Common.{◌≡◌, ℕ, zero, suc, ◌+◌, ◌<◌, Bool, true, false, not, cond, List, [], ◌∷◌, ◌++◌, length, map, refl, sym, ap, ◌∙◌, arith, subst}
 use Rattle.std.specs.Prelude.{nat_eq, nat_lt, set, get_or}
 use Rattle.std.specs.List.{AllByRecursion, filter}
@@ -7,7 +7,7 @@ use Rattle.ticket_list.specs.declared.slots.Slot.{Slot}
 use Rattle.ticket_list.specs.declared.slots.Slot.TheVariants.{Element, Mark}
 use Rattle.ticket_list.specs.Rising.{IsRisingBy, put_in}
 use Rattle.ticket_list.specs.TicketList.{with_change, without_ticket}
-use Rattle.ticket_list.specs.Slots.{AreSlots, changed_slot, elements, ends_with_element, is_element, marks_from, slot_for, slot_ticket, stands_at, with_element}
+use Rattle.ticket_list.specs.Slots.{AreSlots, changed_slot, elements, ends_with_element, is_element, marks_from, slot_for, slot_ticket, occurs_at, with_element}
 use Rattle.ticket_list.proofs.SlotLemmas.{at_or_above, below, ends_with_last, last_marks}
 use Rattle.ticket_list.proofs.RisingLemmas.{rising_last}
 use Rattle.ticket_list.proofs.FoundLemmas.{differs_below, others_behind, others_change, others_without}
@@ -24,13 +24,13 @@ module _ {X : Type 0} (f : X → X) where
   kept_read (suc k) t (slot ∷ slots) d lt h = ap (λ (u : List (Slot X)). slot ∷ u) (kept_read k t slots d (omega (arith, lt)) h)
 
 module _ {X : Type 0} (ticket_of : X → ℕ) (t : ℕ) where
-  pub changed_elements : (f : X → X) (slots : List (Slot X)) → IsRisingBy (slot_ticket ticket_of) slots → stands_at ticket_of slots (slot_for ticket_of t slots) t ≡ true
+  pub changed_elements : (f : X → X) (slots : List (Slot X)) → IsRisingBy (slot_ticket ticket_of) slots → occurs_at ticket_of slots (slot_for ticket_of t slots) t ≡ true
       → elements (changed_slot (slot_for ticket_of t slots) f slots) ≡ with_change ticket_of t f (elements slots)
   changed_elements f [] rising h = refl
   changed_elements f (Element x ∷ slots) rising h = go (nat_lt (ticket_of x) t) refl h (changed_elements f slots rising.1) where
     go : (b : Bool) → nat_lt (ticket_of x) t ≡ b
-        → stands_at ticket_of (Element x ∷ slots) (cond b (suc (slot_for ticket_of t slots)) 0) t ≡ true
-        → (stands_at ticket_of slots (slot_for ticket_of t slots) t ≡ true → elements (changed_slot (slot_for ticket_of t slots) f slots) ≡ with_change ticket_of t f (elements slots))
+        → occurs_at ticket_of (Element x ∷ slots) (cond b (suc (slot_for ticket_of t slots)) 0) t ≡ true
+        → (occurs_at ticket_of slots (slot_for ticket_of t slots) t ≡ true → elements (changed_slot (slot_for ticket_of t slots) f slots) ≡ with_change ticket_of t f (elements slots))
         → elements (changed_slot (cond b (suc (slot_for ticket_of t slots)) 0) f (Element x ∷ slots)) ≡ with_change ticket_of t f (x ∷ elements slots)
     go true e h more = ap (λ (u : List X). x ∷ u) (more h) ∙ ap (λ (b : Bool). cond b (f x) x ∷ with_change ticket_of t f (elements slots)) (sym (differs_below (ticket_of x) t e))
     go false e h more =
@@ -38,20 +38,20 @@ module _ {X : Type 0} (ticket_of : X → ℕ) (t : ℕ) where
         ∙ ap (λ (b : Bool). cond b (f x) x ∷ with_change ticket_of t f (elements slots)) (sym h)
   changed_elements f (Mark u ∷ slots) rising h = go (nat_lt u t) h (changed_elements f slots rising.1) where
     go : (b : Bool)
-        → stands_at ticket_of (Mark u ∷ slots) (cond b (suc (slot_for ticket_of t slots)) 0) t ≡ true
-        → (stands_at ticket_of slots (slot_for ticket_of t slots) t ≡ true → elements (changed_slot (slot_for ticket_of t slots) f slots) ≡ with_change ticket_of t f (elements slots))
+        → occurs_at ticket_of (Mark u ∷ slots) (cond b (suc (slot_for ticket_of t slots)) 0) t ≡ true
+        → (occurs_at ticket_of slots (slot_for ticket_of t slots) t ≡ true → elements (changed_slot (slot_for ticket_of t slots) f slots) ≡ with_change ticket_of t f (elements slots))
         → elements (changed_slot (cond b (suc (slot_for ticket_of t slots)) 0) f (Mark u ∷ slots)) ≡ with_change ticket_of t f (elements slots)
     go true h more = more h
     go false h more = let wrong : false ≡ true = h in absurd (cc)
 
-  -- a mark in place of the element
-  pub marked_elements : (slots : List (Slot X)) → IsRisingBy (slot_ticket ticket_of) slots → stands_at ticket_of slots (slot_for ticket_of t slots) t ≡ true
+  -- a mark replaces the element with the ticket
+  pub marked_elements : (slots : List (Slot X)) → IsRisingBy (slot_ticket ticket_of) slots → occurs_at ticket_of slots (slot_for ticket_of t slots) t ≡ true
       → elements (set slots (slot_for ticket_of t slots) (Mark t)) ≡ without_ticket ticket_of t (elements slots)
   marked_elements [] rising h = refl
   marked_elements (Element x ∷ slots) rising h = go (nat_lt (ticket_of x) t) refl h (marked_elements slots rising.1) where
     go : (b : Bool) → nat_lt (ticket_of x) t ≡ b
-        → stands_at ticket_of (Element x ∷ slots) (cond b (suc (slot_for ticket_of t slots)) 0) t ≡ true
-        → (stands_at ticket_of slots (slot_for ticket_of t slots) t ≡ true → elements (set slots (slot_for ticket_of t slots) (Mark t)) ≡ without_ticket ticket_of t (elements slots))
+        → occurs_at ticket_of (Element x ∷ slots) (cond b (suc (slot_for ticket_of t slots)) 0) t ≡ true
+        → (occurs_at ticket_of slots (slot_for ticket_of t slots) t ≡ true → elements (set slots (slot_for ticket_of t slots) (Mark t)) ≡ without_ticket ticket_of t (elements slots))
         → elements (set (Element x ∷ slots) (cond b (suc (slot_for ticket_of t slots)) 0) (Mark t)) ≡ without_ticket ticket_of t (x ∷ elements slots)
     go true e h more = ap (λ (u : List X). x ∷ u) (more h) ∙ ap (λ (b : Bool). cond (not b) (x ∷ without_ticket ticket_of t (elements slots)) (without_ticket ticket_of t (elements slots))) (sym (differs_below (ticket_of x) t e))
     go false e h more =
@@ -59,8 +59,8 @@ module _ {X : Type 0} (ticket_of : X → ℕ) (t : ℕ) where
         ∙ ap (λ (b : Bool). cond (not b) (x ∷ without_ticket ticket_of t (elements slots)) (without_ticket ticket_of t (elements slots))) (sym h)
   marked_elements (Mark u ∷ slots) rising h = go (nat_lt u t) h (marked_elements slots rising.1) where
     go : (b : Bool)
-        → stands_at ticket_of (Mark u ∷ slots) (cond b (suc (slot_for ticket_of t slots)) 0) t ≡ true
-        → (stands_at ticket_of slots (slot_for ticket_of t slots) t ≡ true → elements (set slots (slot_for ticket_of t slots) (Mark t)) ≡ without_ticket ticket_of t (elements slots))
+        → occurs_at ticket_of (Mark u ∷ slots) (cond b (suc (slot_for ticket_of t slots)) 0) t ≡ true
+        → (occurs_at ticket_of slots (slot_for ticket_of t slots) t ≡ true → elements (set slots (slot_for ticket_of t slots) (Mark t)) ≡ without_ticket ticket_of t (elements slots))
         → elements (set (Mark u ∷ slots) (cond b (suc (slot_for ticket_of t slots)) 0) (Mark t)) ≡ without_ticket ticket_of t (elements slots)
     go true h more = more h
     go false h more = let wrong : false ≡ true = h in absurd (cc)
@@ -85,7 +85,7 @@ module _ {X : Type 0} (k : X → ℕ) where
   of_tickets [] h = tt
   of_tickets (x ∷ xs) h = (of_tickets_all (k x) xs h.0, of_tickets xs h.1)
 
-  -- only tickets tell whether they rise
+  -- if two lists have the same tickets and those of the first rise, those of the second rise
   pub rising_same : (xs ys : List X) → map k xs ≡ map k ys → IsRisingBy k xs → IsRisingBy k ys
   rising_same xs ys e h = of_tickets ys (subst (λ u. IsRisingBy (λ m. m) u) e (to_tickets xs h))
 
@@ -127,14 +127,14 @@ module _ {X : Type 0} (ticket_of : X → ℕ) where
     last = change_ends f k slots ∙ h.last;
   }
 
-  mark_tickets : (t k : ℕ) (slots : List (Slot X)) → stands_at ticket_of slots k t ≡ true
+  mark_tickets : (t k : ℕ) (slots : List (Slot X)) → occurs_at ticket_of slots k t ≡ true
       → map (slot_ticket ticket_of) slots ≡ map (slot_ticket ticket_of) (set slots k (Mark t))
   mark_tickets t k [] h = refl
   mark_tickets t zero (Element x ∷ slots) h = let same : ticket_of x ≡ t = same_number (ticket_of x) t h in ap (λ (n : ℕ). n ∷ map (slot_ticket ticket_of) slots) same
   mark_tickets t zero (Mark u ∷ slots) h = let wrong : false ≡ true = h in absurd (cc)
   mark_tickets t (suc k) (slot ∷ slots) h = ap (λ (u : List ℕ). slot_ticket ticket_of slot ∷ u) (mark_tickets t k slots h)
 
-  pub rising_marked : (t k : ℕ) (slots : List (Slot X)) → stands_at ticket_of slots k t ≡ true → IsRisingBy (slot_ticket ticket_of) slots
+  pub rising_marked : (t k : ℕ) (slots : List (Slot X)) → occurs_at ticket_of slots k t ≡ true → IsRisingBy (slot_ticket ticket_of) slots
       → IsRisingBy (slot_ticket ticket_of) (set slots k (Mark t))
   rising_marked t k slots h rising = rising_same (slot_ticket ticket_of) slots (set slots k (Mark t)) (mark_tickets t k slots h) rising
 
@@ -144,7 +144,7 @@ module _ {X : Type 0} (ticket_of : X → ℕ) where
   put_first j n (Mark t ∷ slots) lt =
       ap (λ (b : Bool). cond b (n ∷ put_in j (marks_from (suc n) slots)) (j ∷ (n ∷ marks_from (suc n) slots))) (sym (at_or_above j n (omega (arith, lt))))
 
-  marked_from : (t k n j : ℕ) (slots : List (Slot X)) → j ≡ n + k → stands_at ticket_of slots k t ≡ true
+  marked_from : (t k n j : ℕ) (slots : List (Slot X)) → j ≡ n + k → occurs_at ticket_of slots k t ≡ true
       → put_in j (marks_from n slots) ≡ marks_from n (set slots k (Mark t))
   marked_from t k n j [] e h = let wrong : false ≡ true = h in absurd (cc)
   marked_from t zero n j (Element x ∷ slots) e h =
@@ -156,10 +156,10 @@ module _ {X : Type 0} (ticket_of : X → ℕ) where
       ap (λ (b : Bool). cond b (n ∷ put_in j (marks_from (suc n) slots)) (j ∷ (n ∷ marks_from (suc n) slots))) (below j n (omega (arith, e)))
       ∙ ap (λ (u : List ℕ). n ∷ u) (marked_from t k (suc n) j slots (omega (arith, e)) h)
 
-  pub marks_put : (t k : ℕ) (slots : List (Slot X)) → stands_at ticket_of slots k t ≡ true → put_in k (marks_from 0 slots) ≡ marks_from 0 (set slots k (Mark t))
+  pub marks_put : (t k : ℕ) (slots : List (Slot X)) → occurs_at ticket_of slots k t ≡ true → put_in k (marks_from 0 slots) ≡ marks_from 0 (set slots k (Mark t))
   marks_put t k slots h = marked_from t k 0 k slots (omega arith) h
 
-  -- without marks
+  -- the slots without the marks
   filter_above : (n : ℕ) (slots : List (Slot X)) → AllByRecursion (λ s. n < slot_ticket ticket_of s) slots → AllByRecursion (λ s. n < slot_ticket ticket_of s) (filter is_element slots)
   filter_above n [] h = tt
   filter_above n (Element x ∷ slots) h = (h.0, filter_above n slots h.1)
@@ -202,12 +202,12 @@ module _ {X : Type 0} (ticket_of : X → ℕ) where
   }
 
 module _ {X : Type 0} (ticket_of : X → ℕ) (t : ℕ) where
-  pub changed_here : (f : X → X) (slots : List (Slot X)) (k : ℕ) → IsRisingBy (slot_ticket ticket_of) slots → k ≡ slot_for ticket_of t slots → stands_at ticket_of slots k t ≡ true
+  pub changed_here : (f : X → X) (slots : List (Slot X)) (k : ℕ) → IsRisingBy (slot_ticket ticket_of) slots → k ≡ slot_for ticket_of t slots → occurs_at ticket_of slots k t ≡ true
       → elements (changed_slot k f slots) ≡ with_change ticket_of t f (elements slots)
   changed_here f slots k rising e h =
-      ap (λ (n : ℕ). elements (changed_slot n f slots)) e ∙ changed_elements ticket_of t f slots rising (ap (λ (n : ℕ). stands_at ticket_of slots n t) (sym e) ∙ h)
+      ap (λ (n : ℕ). elements (changed_slot n f slots)) e ∙ changed_elements ticket_of t f slots rising (ap (λ (n : ℕ). occurs_at ticket_of slots n t) (sym e) ∙ h)
 
-  pub marked_here : (slots : List (Slot X)) (k : ℕ) → IsRisingBy (slot_ticket ticket_of) slots → k ≡ slot_for ticket_of t slots → stands_at ticket_of slots k t ≡ true
+  pub marked_here : (slots : List (Slot X)) (k : ℕ) → IsRisingBy (slot_ticket ticket_of) slots → k ≡ slot_for ticket_of t slots → occurs_at ticket_of slots k t ≡ true
       → elements (set slots k (Mark t)) ≡ without_ticket ticket_of t (elements slots)
   marked_here slots k rising e h =
-      ap (λ (n : ℕ). elements (set slots n (Mark t))) e ∙ marked_elements ticket_of t slots rising (ap (λ (n : ℕ). stands_at ticket_of slots n t) (sym e) ∙ h)
+      ap (λ (n : ℕ). elements (set slots n (Mark t))) e ∙ marked_elements ticket_of t slots rising (ap (λ (n : ℕ). occurs_at ticket_of slots n t) (sym e) ∙ h)

@@ -1,4 +1,4 @@
--- Going on for each mark up to a slot, by halves.
+-- Lemmas: the search for the slot of a place, by halves of the list of marks.
 use Rattle.std.proofs.Common.{◌≡◌, ℕ, zero, suc, ◌+◌, ◌^◌, ◌<◌, ◌≤◌, Bool, true, false, cond, List, [], ◌∷◌, length, take, drop, refl, sym, ap, ◌∙◌, arith}
 use Rattle.std.specs.Prelude.{get_or, nat_le, slice_get, Option, Some, None}
 use Rattle.std.specs.List.{AllByRecursion}
@@ -18,7 +18,7 @@ is_there (Some m) = true
 absent : {A : Type 0} (m : ℕ) → None ≡ Some m → A
 absent m h = let wrong : false ≡ true = ap is_there h in absurd (cc)
 
--- a mark stands as far above another as there are marks between them
+-- a mark exceeds an earlier one by more than the number of marks between them
 far_above : (n : ℕ) (marks : List ℕ) (j m : ℕ) → AllByRecursion (λ x. n < x) marks → IsRising marks → slice_get marks j ≡ Some m → n + j < m
 far_above n [] j m above rising h = absent m h
 far_above n (x ∷ xs) zero m above rising h = let same : x ≡ m = ap or_zero h in let lt : n < x = above.0 in omega (arith, same, lt)
@@ -73,15 +73,15 @@ length_before zero marks = omega arith
 length_before (suc j) [] = omega arith
 length_before (suc j) (x ∷ xs) = let more = length_before j xs in omega (arith, more)
 
--- where a search goes on
+-- the state of the search: the slot found so far, and the marks that are left
 pub record IsLeft (slot : ℕ) (rest : List ℕ) (found : ℕ) : Type 0 where
   pub rising : IsRising rest
   pub few : slot + length rest < 2 ^ 64
   pub same : skipped slot rest ≡ found
 
-pub goes_behind : (slot : ℕ) (rest : List ℕ) (found j m : ℕ) → IsLeft slot rest found → j < length rest → m ≡ get_or rest j m → m ≤ slot + j
+pub removed_behind : (slot : ℕ) (rest : List ℕ) (found j m : ℕ) → IsLeft slot rest found → j < length rest → m ≡ get_or rest j m → m ≤ slot + j
     → IsLeft (slot + (j + 1)) (drop (j + 1) rest) found
-goes_behind slot rest found j m h lt e le =
+removed_behind slot rest found j m h lt e le =
     let long = length_behind j rest lt in
     let few : slot + length rest < 2 ^ 64 = h.few in
     let here : slot + j + 1 ≡ slot + (j + 1) = omega arith in
@@ -93,9 +93,9 @@ goes_behind slot rest found j m h lt e le =
           ∙ h.same;
     }
 
-pub goes_before : (slot : ℕ) (rest : List ℕ) (found j m : ℕ) → IsLeft slot rest found → j < length rest → m ≡ get_or rest j m → slot + j < m
+pub removed_before : (slot : ℕ) (rest : List ℕ) (found j m : ℕ) → IsLeft slot rest found → j < length rest → m ≡ get_or rest j m → slot + j < m
     → IsLeft slot (take j rest) found
-goes_before slot rest found j m h lt e more =
+removed_before slot rest found j m h lt e more =
     let short = length_before j rest in
     let few : slot + length rest < 2 ^ 64 = h.few in
     record {

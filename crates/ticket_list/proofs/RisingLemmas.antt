@@ -1,4 +1,4 @@
--- Rising lists: where a test of numbers ends, parts of them, and the numbers of those that pass a test.
+-- Lemmas: rising lists. The test "less than t" passes for a beginning of the list, and fails after it.
 use Rattle.std.proofs.Common.{◌≡◌, ℕ, zero, suc, ◌<◌, ◌≤◌, Bool, true, false, cond, List, [], ◌∷◌, ◌++◌, length, map, take, drop, refl, sym, ap, ◌∙◌, inl, inr, arith}
 use Rattle.std.specs.Prelude.{nat_lt}
 use Rattle.std.specs.List.{AllByRecursion, filter, insert}
@@ -8,7 +8,7 @@ use Rattle.std.proofs.lemmas.Bool.Decides.{nat_tests}
 use Rattle.std.proofs.lemmas.List.Elements.{All-from_recursion}
 use Rattle.ticket_list.specs.Rising.{IsRising, IsRisingBy, prefix, put_in}
 
--- after an element that fails all others fail
+-- if an element fails the test, all elements after it fail
 abbrev IsParted : {X : Type 0} → (X → Bool) → List X → Type 0
 IsParted p [] = Unit {0}
 IsParted p (x ∷ xs) = (p x ≡ false → AllByRecursion (λ y. p y ≡ false) xs) × IsParted p xs
@@ -41,7 +41,7 @@ module _ {X : Type 0} (k : X → ℕ) (t : ℕ) where
   pub rising_partitioned : (xs : List X) → IsRisingBy k xs → IsPartitionedBy below xs
   rising_partitioned xs h = parted_by below xs (rising_parted xs h)
 
--- where the test ends
+-- the place where the test changes
 pub prefix_is : {X : Type 0} (p : X → Bool) (xs : List X) (i : ℕ) → i ≤ length xs
     → IsPartitionPoint (λ x. p x ≡ true) (λ x. p x ≡ false) xs i → i ≡ prefix p xs
 prefix_is p [] i le h = omega (arith, le)
@@ -89,7 +89,7 @@ module _ {X : Type 0} (k : X → ℕ) where
     go true more = (h.0, more)
     go false more = more
 
-  -- the numbers of those that pass rise
+  -- the numbers of the elements that pass the test rise
   pub rising_passing : (p : X → Bool) (xs : List X) → IsRisingBy k xs → IsRising (map k (filter p xs))
   rising_passing p [] h = tt
   rising_passing p (x ∷ xs) h = go (p x) (rising_passing p xs h.1) where
@@ -97,7 +97,7 @@ module _ {X : Type 0} (k : X → ℕ) where
     go true more = (all_passing (k x) p xs h.0, more)
     go false more = more
 
-  -- one that is above all goes last
+  -- a number below all elements is below them still if one larger element is appended
   all_last : (n : ℕ) (x : X) (xs : List X) → AllByRecursion (λ y. n < k y) xs → n < k x → AllByRecursion (λ y. n < k y) (xs ++ x ∷ [])
   all_last n x [] h lt = (lt, tt)
   all_last n x (y ∷ ys) h lt = (h.0, all_last n x ys h.1 lt)

@@ -1,4 +1,4 @@
--- Slots and their marks: how many stand before a slot, and where the element of a place stands.
+-- Lemmas: slots and their marks: the number of marks before a slot, and the slot of a place.
 use Rattle.std.proofs.Common.{◌≡◌, ℕ, zero, suc, ◌+◌, ◌-◌, ◌<◌, ◌≤◌, Bool, true, false, cond, List, [], ◌∷◌, ◌++◌, length, take, refl, sym, ap, ◌∙◌, arith}
 use Rattle.std.specs.Prelude.{nat_le, nat_lt, slice_get}
 use Rattle.std.specs.List.{AllByRecursion, filter, slice_index_or}
@@ -6,7 +6,7 @@ use Rattle.std.proofs.lemmas.Bool.Decides.{nat_tests}
 use Rattle.ticket_list.specs.declared.slots.Slot.{Slot}
 use Rattle.ticket_list.specs.declared.slots.Slot.TheVariants.{Element, Mark}
 use Rattle.ticket_list.specs.Rising.{IsRising, prefix}
-use Rattle.ticket_list.specs.Slots.{element_at, elements, ends_with_element, is_element, marks_from, rank, skipped}
+use Rattle.ticket_list.specs.Slots.{element_at, elements, ends_with_element, is_element, marks_from, slot_rank, skipped}
 use Rattle.ticket_list.proofs.MarkLemmas.{beyond, up_to}
 
 pub at_or_above : (j n : ℕ) → j ≤ n → nat_lt n j ≡ false
@@ -50,8 +50,8 @@ module _ {X : Type 0} where
   none_before j n (Element x ∷ slots) le = none_before j (suc n) slots (omega (arith, le))
   none_before j n (Mark t ∷ slots) le = ap (λ (b : Bool). cond b (suc (prefix (λ m. nat_lt m j) (marks_from (suc n) slots))) 0) (at_or_above j n le)
 
-  -- each slot before a place is a mark or an element
-  ranked_from : (n j k : ℕ) (slots : List (Slot X)) → j ≡ n + k → k ≤ length slots → prefix (λ m. nat_lt m j) (marks_from n slots) + rank k slots ≡ k
+  -- the marks and the elements in the first `k` slots are `k` in all
+  ranked_from : (n j k : ℕ) (slots : List (Slot X)) → j ≡ n + k → k ≤ length slots → prefix (λ m. nat_lt m j) (marks_from n slots) + slot_rank k slots ≡ k
   ranked_from n j zero slots e le = let none = none_before j n slots (omega (arith, e)) in omega (arith, none)
   ranked_from n j (suc k) [] e le = absurd (omega (arith, le))
   ranked_from n j (suc k) (Element x ∷ slots) e le =
@@ -61,7 +61,7 @@ module _ {X : Type 0} where
       let here = ap (λ (b : Bool). cond b (suc (prefix (λ m. nat_lt m j) (marks_from (suc n) slots))) 0) (below j n (omega (arith, e))) in
       omega (arith, more, here)
 
-  pub ranked : (k : ℕ) (slots : List (Slot X)) → k ≤ length slots → prefix (λ m. nat_lt m k) (marks_from 0 slots) + rank k slots ≡ k
+  pub ranked : (k : ℕ) (slots : List (Slot X)) → k ≤ length slots → prefix (λ m. nat_lt m k) (marks_from 0 slots) + slot_rank k slots ≡ k
   ranked k slots le = ranked_from 0 k k slots (omega arith) le
 
   no_skip : (k n : ℕ) (slots : List (Slot X)) → k < n → skipped k (marks_from n slots) ≡ k
@@ -77,7 +77,7 @@ module _ {X : Type 0} where
     go true h = omega (arith, h)
     go false h = omega arith
 
-  -- the element of a place stands as many slots after it as there are marks up to there
+  -- the element at a place is in the slot that is the place plus the number of marks before it
   reached : (n p q : ℕ) (slots : List (Slot X)) (j : ℕ) → q ≡ n + p → skipped q (marks_from n slots) ≡ n + j → element_at slots j ≡ slice_get (elements slots) p
   reached n p q [] j e h = refl
   reached n zero q (Element x ∷ slots) zero e h = refl
@@ -95,7 +95,7 @@ module _ {X : Type 0} where
   pub element_of_place : (p : ℕ) (slots : List (Slot X)) → element_at slots (skipped p (marks_from 0 slots)) ≡ slice_get (elements slots) p
   element_of_place p slots = reached 0 p p slots (skipped p (marks_from 0 slots)) (omega arith) (omega arith)
 
-  -- without marks
+  -- the slots without the marks have the same elements
   pub closed_elements : (slots : List (Slot X)) → elements (filter is_element slots) ≡ elements slots
   closed_elements [] = refl
   closed_elements (Element x ∷ slots) = ap (λ (u : List X). x ∷ u) (closed_elements slots)
@@ -115,7 +115,7 @@ module _ {X : Type 0} where
   closed_ends (Element x ∷ slots) = ends_behind x (filter is_element slots) (closed_ends slots)
   closed_ends (Mark t ∷ slots) = closed_ends slots
 
-  -- one slot more, or less, at the end
+  -- the elements, if one slot is added or removed at the end
   pub last_elements : (x : X) (slots : List (Slot X)) → elements (slots ++ Element x ∷ []) ≡ elements slots ++ x ∷ []
   last_elements x [] = refl
   last_elements x (Element y ∷ slots) = ap (λ (u : List X). y ∷ u) (last_elements x slots)
@@ -150,7 +150,7 @@ module _ {X : Type 0} where
       let same : length (slot ∷ next ∷ slots) - 1 ≡ suc (length (next ∷ slots) - 1) = omega arith in
       ends_is d (next ∷ slots) (omega arith) ∙ ap (λ (n : ℕ). is_element (slice_index_or (slot ∷ next ∷ slots) n d)) (sym same)
 
-  -- the slots without the last, which is a mark
+  -- the last slot is a mark, and the other slots are before it
   pub last_mark : (slots : List (Slot X)) → ends_with_element slots ≡ false → (t : ℕ) × (slots ≡ take (length slots - 1) slots ++ Mark t ∷ [])
   last_mark [] h = let wrong : true ≡ false = h in absurd (cc)
   last_mark (Element x ∷ []) h = let wrong : true ≡ false = h in absurd (cc)

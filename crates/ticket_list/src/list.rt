@@ -1,8 +1,8 @@
-// The list.
+// A list of elements with tickets.
 ghost use Rattle.std.specs.Prelude.{◌≡◌, ◌≤◌, ◌<◌, ◌+◌, ◌-◌, ◌^◌, ℕ, take, vec_capacity, false, [], ◌∷◌, ◌++◌, true, find, length, position, set, slice_get, OnOk, option_copied};
 ghost use Rattle.std.specs.List.{AllByRecursion};
 ghost use Rattle.ticket_list.specs.Rising.{IsRisingBy};
-ghost use Rattle.ticket_list.specs.Slots.{AreSlots, element_at, elements, ends_with_element, marks_from, slot_for, slot_ticket, stands_at};
+ghost use Rattle.ticket_list.specs.Slots.{AreSlots, element_at, elements, ends_with_element, marks_from, slot_for, slot_ticket, occurs_at};
 ghost use Rattle.ticket_list.specs.declared.slots.Slot.TheVariants.{Mark};
 ghost use Rattle.ticket_list.specs.TicketList.{has_ticket, with_change, without_ticket};
 
@@ -12,27 +12,28 @@ use crate::ticketed::{Change, Ticketed};
 use std::alloc::{AllocError, Global};
 use std::marker::Model;
 
-// No more marks than this stand at a time.
+// The largest number of marks at a time.
 const MOST_MARKS: usize = 1024;
 
-/// A list whose elements have rising tickets. Contracts see it, and whether there is memory for one more element.
+/// A list whose elements have rising tickets. Contracts see the elements, and whether there is room for one more.
 ///
-/// An element that goes leaves a mark in its slot. Where there is no room for one more mark, the list closes up: at the latest when 1,024
-/// slots are marks, or a quarter of them in a short list. So one that goes moves four others in the mean, and a
-/// thousandth of all.
+/// A removed element leaves a mark in its slot. If there is no room for a further mark, all marks are removed and the
+/// elements move up. This happens when 1,024 slots are marks. In a short list it happens earlier, but not before about
+/// a quarter of the slots are marks. So on average a removal moves at most about four elements of a short list, and a
+/// thousandth of a long one.
 #[derive(Drop)]
 pub struct TicketList<T: Ticketed> {
     slots: Vec<Slot<T>>,
-    // The slots that are marks, rising.
+    // The slots that are marks, in rising order.
     marks: Vec<usize>,
 }
 
 impl<T: Ticketed> Model for TicketList<T> {
     ghost use Rattle.std.specs.Prelude.{length, nat_lt, vec_capacity};
     ghost use Rattle.ticket_list.specs.Slots.{AreSlots, elements};
-    ghost use Rattle.ticket_list.specs.TicketList.{Listed, listed_code};
+    ghost use Rattle.ticket_list.specs.TicketList.{TicketRows, listed_code};
 
-    ghost Value = { Listed T };
+    ghost Value = { TicketRows T };
 
     ghost coded = { listed_code T.code };
 
@@ -42,7 +43,7 @@ impl<T: Ticketed> Model for TicketList<T> {
 }
 
 impl<T: Ticketed + Drop> TicketList<T> {
-    /// An empty list. It takes no memory.
+    /// An empty list. Allocates: no.
     pub fn new(alloc: Global) -> TicketList<T>
         ensures { result.items ≡ [] }
     {
@@ -52,7 +53,7 @@ impl<T: Ticketed + Drop> TicketList<T> {
         }
     }
 
-    /// How many elements there are.
+    /// The number of elements.
     pub fn len(&self) -> usize
         ensures count { result ≡ length self.now.items }
         ensures few { result < 2 ^ 63 }
@@ -60,31 +61,31 @@ impl<T: Ticketed + Drop> TicketList<T> {
         count_elements(&self.slots, &self.marks)
     }
 
-    /// The element at a place from 0. There is none exactly where the place is the number of elements or more.
+    /// The element at a place, from 0. None exactly if the place is the number of elements or more.
     pub fn at(&self, place: usize) -> Option<&T>
         ensures { option_copied result ≡ slice_get self.now.items place }
     {
         element_of_place(&self.slots, &self.marks, place)
     }
 
-    /// The element of a ticket.
+    /// The element with this ticket, if there is one.
     pub fn find(&self, ticket: u64) -> Option<&T>
         ensures { option_copied result ≡ find (has_ticket T.ticket_of ticket) self.now.items }
     {
         find_element(&self.slots, ticket)
     }
 
-    /// The place of the element of a ticket, from 0.
+    /// The place, from 0, of the element with this ticket, if there is one.
     pub fn place_of(&self, ticket: u64) -> Option<usize>
         ensures { result ≡ position (has_ticket T.ticket_of ticket) self.now.items }
     {
         find_place(&self.slots, &self.marks, ticket)
     }
 
-    /// Takes the memory for one more element.
+    /// Makes room for one more element.
     ///
     /// # Errors
-    /// Only that memory ran out.
+    /// Only if memory runs out.
     pub fn reserve(&mut self) -> Result<(), AllocError>
         ensures items { self.new.items ≡ self.old.items }
         ensures ready { OnOk result (self.new.ready ≡ true) }
@@ -94,7 +95,7 @@ impl<T: Ticketed + Drop> TicketList<T> {
         self.slots.reserve(1)
     }
 
-    /// Puts an element last, whose ticket is above all others. It takes no memory.
+    /// Appends an element whose ticket is above all other tickets. Allocates: no.
     pub fn push(&mut self, element: T)
         requires ready { self.old.ready ≡ true }
         requires last { AllByRecursion (λ x. T.ticket_of x < T.ticket_of element) self.old.items }
@@ -103,7 +104,7 @@ impl<T: Ticketed + Drop> TicketList<T> {
         push_element(&mut self.slots, &self.marks, element);
     }
 
-    /// Changes the element of a ticket, if there is one. It takes no memory.
+    /// Changes the element with this ticket, if there is one. Allocates: no.
     pub fn change<C: Change<T>>(&mut self, ticket: u64, change: &C)
         requires { (x : T) → T.ticket_of (C.changed change.now x) ≡ T.ticket_of x }
         ensures items { self.new.items ≡ with_change T.ticket_of ticket (C.changed change.now) self.old.items }
@@ -112,7 +113,7 @@ impl<T: Ticketed + Drop> TicketList<T> {
         change_element(&mut self.slots, &self.marks, ticket, change);
     }
 
-    /// Takes the element of a ticket out, if there is one. It takes no memory.
+    /// Removes the element with this ticket and returns it, if there is one. Allocates: no.
     pub fn remove(&mut self, ticket: u64) -> Option<T>
         ensures element { result ≡ find (has_ticket T.ticket_of ticket) self.old.items }
         ensures items { self.new.items ≡ without_ticket T.ticket_of ticket self.old.items }
@@ -120,7 +121,7 @@ impl<T: Ticketed + Drop> TicketList<T> {
         take_element(&mut self.slots, &mut self.marks, ticket)
     }
 
-    /// Tickets rise. It does nothing, and tells a proof so.
+    /// Law: the tickets rise.
     pub fn lawful(&self)
         ensures { IsRisingBy T.ticket_of self.now.items }
     {
@@ -128,7 +129,7 @@ impl<T: Ticketed + Drop> TicketList<T> {
     }
 }
 
-// How many slots are no marks.
+// The number of slots that aren't marks.
 fn count_elements<T: Ticketed>(slots: &[Slot<T>], marks: &[usize]) -> usize
     requires { AreSlots T.ticket_of slots.now marks.now }
     ensures count { result ≡ length (elements slots.now) }
@@ -215,7 +216,7 @@ fn take_element<T: Ticketed + Drop>(
     }
 }
 
-// Takes out the element in a slot, which has this ticket.
+// Removes the element in a slot. The element has this ticket.
 fn take_out<T: Ticketed + Drop>(
     slots: &mut Vec<Slot<T>>,
     marks: &mut Vec<usize>,
@@ -224,7 +225,7 @@ fn take_out<T: Ticketed + Drop>(
 ) -> Option<T>
     requires kept { AreSlots T.ticket_of slots.old.items marks.old.items }
     requires slot { slot ≡ slot_for T.ticket_of ticket slots.old.items }
-    requires stands { stands_at T.ticket_of slots.old.items slot ticket ≡ true }
+    requires present { occurs_at T.ticket_of slots.old.items slot ticket ≡ true }
     ensures kept { AreSlots T.ticket_of slots.new.items marks.new.items }
     ensures element { result ≡ find (has_ticket T.ticket_of ticket) (elements slots.old.items) }
     ensures items { elements slots.new.items ≡ without_ticket T.ticket_of ticket (elements slots.old.items) }
@@ -240,7 +241,7 @@ fn take_out<T: Ticketed + Drop>(
     element
 }
 
-// Takes away the marks that stand last.
+// Removes the marks at the end of the slots.
 fn trim<T: Ticketed + Drop>(slots: &mut Vec<Slot<T>>, marks: &mut Vec<usize>)
     requires rising { IsRisingBy (slot_ticket T.ticket_of) slots.old.items }
     requires marked { marks.old.items ≡ marks_from 0 slots.old.items }
@@ -252,7 +253,7 @@ fn trim<T: Ticketed + Drop>(slots: &mut Vec<Slot<T>>, marks: &mut Vec<usize>)
     }
 }
 
-// Takes away the mark that stands last.
+// Removes the last slot, which is a mark.
 fn drop_last<T: Ticketed + Drop>(slots: &mut Vec<Slot<T>>, marks: &mut Vec<usize>)
     requires rising { IsRisingBy (slot_ticket T.ticket_of) slots.old.items }
     requires marked { marks.old.items ≡ marks_from 0 slots.old.items }
@@ -266,7 +267,7 @@ fn drop_last<T: Ticketed + Drop>(slots: &mut Vec<Slot<T>>, marks: &mut Vec<usize
     shorten(marks);
 }
 
-// Lets the last one go.
+// Removes the last element of a list.
 fn shorten<T: Drop>(list: &mut Vec<T>)
     ensures { list.new.items ≡ take (length list.old.items - 1) list.old.items }
 {

@@ -1,9 +1,9 @@
-// Where the marks stand, rising: how many stand before a slot, and where the element of a place stands.
+// The slots that are marks, in rising order: the number of marks before a slot, and the slot of a place.
 ghost use Rattle.std.specs.Prelude.{◌≡◌, ◌≤◌, ◌<◌, ◌+◌, ◌^◌, ℕ, drop, get_or, length, nat_lt, take, vec_capacity};
 ghost use Rattle.ticket_list.specs.Rising.{IsRising, prefix, put_in};
 ghost use Rattle.ticket_list.specs.Slots.{skipped};
 
-// How many marks stand before a slot.
+// The number of marks before a slot.
 pub(crate) fn count_before(marks: &[usize], slot: usize) -> usize
     requires { IsRising marks.now }
     ensures count { result ≡ prefix (λ m. nat_lt m slot) marks.now }
@@ -12,7 +12,7 @@ pub(crate) fn count_before(marks: &[usize], slot: usize) -> usize
     marks.partition_point(|mark| *mark < slot)
 }
 
-// Enters a mark.
+// Inserts a slot into the marks.
 pub(crate) fn enter(marks: &mut Vec<usize>, slot: usize)
     requires rising { IsRising marks.old.items }
     requires room { length marks.old.items < vec_capacity marks.old }
@@ -46,7 +46,7 @@ fn marks_before(marks: &[usize], place: usize) -> &[usize]
     &marks[..place]
 }
 
-// The slot that is reached from a place by going on for each mark up to it, by a binary search.
+// The slot of the element at a place: the place plus the number of marks before this slot. Found by a binary search.
 pub(crate) fn skip(place: usize, marks: &[usize]) -> usize
     requires rising { IsRising marks.now }
     requires few { place + length marks.now < 2 ^ 64 }

@@ -1,21 +1,21 @@
-// Elements in the order of their tickets, with marks where others stood.
+// Slots: elements in the order of their tickets, and marks of removed elements.
 ghost use Rattle.std.specs.Prelude.{◌≡◌, ◌≤◌, ◌<◌, ℕ, cond, length, nat_eq, nat_lt, set, slice_get, vec_capacity, None, Some, filter, option_copied};
 ghost use Rattle.std.specs.Prelude.{false, not, true, IfNone, IfSome};
 ghost use Rattle.ticket_list.specs.Rising.{IsRisingBy, prefix};
-ghost use Rattle.ticket_list.specs.Slots.{changed_slot, element_at, ends_with_element, is_element, slot_for, slot_ticket, stands_at};
+ghost use Rattle.ticket_list.specs.Slots.{changed_slot, element_at, ends_with_element, is_element, slot_for, slot_ticket, occurs_at};
 ghost use Rattle.ticket_list.specs.declared.slots.Slot.TheVariants.{Mark};
 
 use crate::ticketed::{Change, Ticketed};
 use std::mem;
 
-// An element, or a mark where the one of a ticket stood.
+// An element, or the mark of a removed element, with this element's ticket.
 #[derive(Drop)]
 pub(crate) enum Slot<T> {
     Element(T),
     Mark(u64),
 }
 
-// The ticket of what stands or stood here.
+// The ticket of the element in a slot, or of the removed element.
 fn slot_ticket<T: Ticketed>(slot: &Slot<T>) -> u64
     ensures { result ≡ slot_ticket T.ticket_of slot.now }
 {
@@ -34,7 +34,7 @@ fn is_element<T>(slot: &Slot<T>) -> bool
     }
 }
 
-// How many slots have a lower ticket.
+// The number of slots with a lower ticket.
 fn count_below<T: Ticketed>(slots: &[Slot<T>], ticket: u64) -> usize
     requires { IsRisingBy (slot_ticket T.ticket_of) slots.now }
     ensures count { result ≡ prefix (λ s. nat_lt (slot_ticket T.ticket_of s) ticket) slots.now }
@@ -43,7 +43,7 @@ fn count_below<T: Ticketed>(slots: &[Slot<T>], ticket: u64) -> usize
     slots.partition_point(|slot| slot_ticket(slot) < ticket)
 }
 
-// The element in a slot.
+// The element in a slot, if there is one.
 pub(crate) fn element_at<T>(slots: &[Slot<T>], slot: usize) -> Option<&T>
     ensures { option_copied result ≡ element_at slots.now slot }
 {
@@ -54,9 +54,9 @@ pub(crate) fn element_at<T>(slots: &[Slot<T>], slot: usize) -> Option<&T>
     }
 }
 
-// Whether an element of this ticket stands in the slot.
-fn stands_at<T: Ticketed>(slots: &[Slot<T>], slot: usize, ticket: u64) -> bool
-    ensures { result ≡ stands_at T.ticket_of slots.now slot ticket }
+// Whether the slot has an element with this ticket.
+fn occurs_at<T: Ticketed>(slots: &[Slot<T>], slot: usize, ticket: u64) -> bool
+    ensures { result ≡ occurs_at T.ticket_of slots.now slot ticket }
 {
     match element_at(slots, slot) {
         Some(element) => element.ticket() == ticket,
@@ -64,7 +64,7 @@ fn stands_at<T: Ticketed>(slots: &[Slot<T>], slot: usize, ticket: u64) -> bool
     }
 }
 
-// The slot of a ticket where none is missing between the first one and it.
+// The slot of a ticket, if no ticket is missing between the first slot's ticket and this ticket.
 fn unbroken_slot<T: Ticketed>(slots: &[Slot<T>], ticket: u64) -> usize {
     match slots {
         [] => 0,
@@ -72,19 +72,19 @@ fn unbroken_slot<T: Ticketed>(slots: &[Slot<T>], ticket: u64) -> usize {
     }
 }
 
-// The slot of the element of a ticket. Where no ticket is missing before it, that takes no search.
+// The slot of the element with this ticket. No search is needed if no ticket before it is missing.
 pub(crate) fn slot_of<T: Ticketed>(slots: &[Slot<T>], ticket: u64) -> Option<usize>
     requires { IsRisingBy (slot_ticket T.ticket_of) slots.now }
     ensures slot { IfSome result (λ k. k ≡ slot_for T.ticket_of ticket slots.now) }
-    ensures stands { IfSome result (λ k. stands_at T.ticket_of slots.now k ticket ≡ true) }
-    ensures absent { IfNone result (stands_at T.ticket_of slots.now (slot_for T.ticket_of ticket slots.now) ticket ≡ false) }
+    ensures present { IfSome result (λ k. occurs_at T.ticket_of slots.now k ticket ≡ true) }
+    ensures absent { IfNone result (occurs_at T.ticket_of slots.now (slot_for T.ticket_of ticket slots.now) ticket ≡ false) }
 {
     let unbroken = unbroken_slot(slots, ticket);
-    if stands_at(slots, unbroken, ticket) {
+    if occurs_at(slots, unbroken, ticket) {
         return Some(unbroken);
     }
     let slot = count_below(slots, ticket);
-    if stands_at(slots, slot, ticket) {
+    if occurs_at(slots, slot, ticket) {
         Some(slot)
     } else {
         None
@@ -121,7 +121,7 @@ fn mark_slot<T>(slots: &mut [Slot<T>], slot: usize, ticket: u64) -> Option<T>
     }
 }
 
-// Leaves a mark in a slot, and gives what stood there.
+// Replaces the element in a slot by a mark, and returns the element.
 pub(crate) fn mark<T>(slots: &mut Vec<Slot<T>>, slot: usize, ticket: u64) -> Option<T>
     requires { slot < length slots.old.items }
     ensures element { result ≡ element_at slots.old.items slot }
@@ -130,7 +130,7 @@ pub(crate) fn mark<T>(slots: &mut Vec<Slot<T>>, slot: usize, ticket: u64) -> Opt
     mark_slot(slots, slot, ticket)
 }
 
-// Takes the marks out.
+// Removes the marks from the slots.
 pub(crate) fn close_up<T: Drop>(slots: &mut Vec<Slot<T>>)
     ensures { slots.new.items ≡ filter is_element slots.old.items }
 {

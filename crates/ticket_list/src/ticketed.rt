@@ -1,12 +1,12 @@
-// What has a ticket, and how it may change.
+// Elements with tickets, and their changes.
 ghost use Rattle.std.specs.Prelude.{◌≡◌, ℕ};
 
-/// What has a ticket.
+/// An element that has a ticket.
 pub trait Ticketed {
-    /// The number by which it is found.
+    /// The number by which the element is found.
     ghost ticket_of: { Self → ℕ };
 
-    /// Its ticket.
+    /// The element's ticket.
     fn ticket(&self) -> u64
         ensures { result ≡ ticket_of self.now };
 }
@@ -21,7 +21,7 @@ impl Ticketed for u64 {
 
 /// A change of an element.
 pub trait Change<T> {
-    /// What becomes of an element.
+    /// The element after the change.
     ghost changed: { Self → T → T };
 
     /// Changes an element.

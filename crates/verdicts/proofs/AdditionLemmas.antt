@@ -24,10 +24,10 @@ use Rattle.cpe_rows.specs.declared.statement.Statement.{Statement}
 use Rattle.cpe_rows.specs.declared.test.CheckKey.{CheckKey}
 use Rattle.cpe_rows.specs.declared.truth.Truth.{Truth}
 use Rattle.facts.specs.fact_laws.Shown.{names_at}
-use Rattle.kept_facts.specs.Kept.{AreLive, AreSound}
+use Rattle.fact_boards.specs.Kept.{AreFactNames, AreSound}
 use Rattle.facts.specs.Facts.{AreUsed, FactsNow, HasFacts}
 use Rattle.statement_rows.specs.Readings.{has_fact}
-use Rattle.statement_rows.specs.State.{AreJudged, is_of, judge, new_statement_row, SameRows, StatementAdded, StatementRow, statements_of}
+use Rattle.statement_rows.specs.State.{AreJudged, is_of, judge, new_statement_row, SameRows, StatementStored, StatementRow, statements_of}
 use Rattle.statement_rows.proofs.FaultLemmas.{any_statement}
 use Rattle.verdicts.specs.Addition.{HasVerdictsBeside}
 use Rattle.verdicts.specs.Verdicts.{HasVerdicts, HasVerdictsBy, IsNumbered, known_in, tickets_in, truths_in, VerdictsNow}
@@ -110,7 +110,7 @@ same_facts rows s Follow n = refl
 
 module _ (law : SameTruths) (names : Names) (v new : VerdictsNow) (rows : Rows) (s : Statement) (ids : List NameId) (a : Addition) (h : HasVerdictsBeside names v rows s a)
     (now : HasFacts names new.facts (after rows (edit.PutStatement s)) (tickets_in v.statements.rows ++ a.statement.ticket ∷ [])) (ticket : a.statement.ticket ≡ v.statements.next)
-    (live : AreLive names ids) (named : names_at names ids ≡ fact_names s.test) (added : StatementAdded v.statements new.statements s ids (truths_in new.facts)) (used : AreUsed new.facts) (sound : AreSound new.facts.boards) where
+    (live : AreFactNames names ids) (named : names_at names ids ≡ fact_names s.test) (added : StatementStored v.statements new.statements s ids (truths_in new.facts)) (used : AreUsed new.facts) (sound : AreSound new.facts.boards) where
   abbrev next : Rows
   next = after rows (edit.PutStatement s)
 

@@ -11,7 +11,7 @@ use Rattle.cpe_rows.specs.declared.entry.Entry.{Entry}
 use Rattle.cpe_rows.specs.declared.statement.Mode.{Mode}
 use Rattle.cpe_rows.specs.declared.statement.Mode.TheVariants.{Plain, Follow}
 use Rattle.facts.specs.fact_laws.Asked.{leads}
-use Rattle.kept_facts.specs.Kept.{ShowRows, ShowsRows}
+use Rattle.fact_boards.specs.Kept.{ShowRows, ShowsRows}
 use Rattle.facts.specs.fact_rows.Facts.{FactTable}
 use Rattle.facts.specs.fact_rows.Tickets.{is_empty}
 use Rattle.facts.specs.Facts.{FactsOf, is_used}

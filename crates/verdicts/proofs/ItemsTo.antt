@@ -21,7 +21,7 @@ use Rattle.cpe_rows.specs.declared.statement.Mode.{Mode}
 use Rattle.cpe_rows.specs.declared.statement.Mode.TheVariants.{Plain, Follow}
 use Rattle.cpe_rows.proofs.NameTests.{same_is}
 use Rattle.name_index.specs.Index.{ids, name_id, times_held}
-use Rattle.name_index.specs.Table.{AreNames, find_kept, Kept, Names, kept_at}
+use Rattle.name_index.specs.Table.{IsNameTable, find_kept, Kept, Names, kept_at}
 use Rattle.name_index.specs.declared.table.NameId.{NameId}
 use Rattle.name_index.specs.product_orders.declared.products.Side.TheVariants as side
 use Rattle.facts.specs.target_index.Targets.{is_met}
@@ -29,13 +29,13 @@ use Rattle.cpe_rows.specs.cpe_values.declared.value.Value.{Value}
 use Rattle.facts.specs.fact_laws.Shown.{different, meets_on, names_at, names_in, near_names, one_if_some, Shows, times_named}
 use Rattle.facts.proofs.fact_laws.Different.{counts_same, held_different, near_different, one_once, one_some}
 use Rattle.facts.proofs.fact_laws.Sources.{apart_once}
-use Rattle.facts.specs.level_board.Board.{Board, IsOn, target_ids, target_times}
-use Rattle.facts.specs.fact_laws.Asked.{entry_names, leads, source_names, there}
+use Rattle.facts.specs.level_board.Board.{Board, AreHeldIds, target_ids, target_times}
+use Rattle.facts.specs.fact_laws.Asked.{entry_names, leads, source_names, target_names}
 use Rattle.facts.proofs.fact_laws.Counted.{same_test}
 use Rattle.facts.proofs.fact_laws.Facts.{any_same}
-use Rattle.cpe_registry.specs.Registered.{items_leading, PutsItemsInOrder, Registered}
-use Rattle.kept_facts.specs.Kept.{AreLive, board_of, Boards}
-use Rattle.verdicts.specs.Items.{AreItemsTo, ArePassing, items_at}
+use Rattle.name_registry.specs.Registered.{items_leading, PutsItemsInOrder, Registered}
+use Rattle.fact_boards.specs.Kept.{AreFactNames, board_of_mode, Boards}
+use Rattle.verdicts.specs.Items.{AreItemsTo, ArePassing, items_of_fact}
 use Rattle.verdicts.proofs.UnledLemmas.{AreActive, none_active, own_end}
 
 -- ---- lists that have a name
@@ -246,9 +246,9 @@ plain_there es [] = refl
 plain_there es (n ∷ items) = ap (λ (ns : List Values). n ∷ ns) (plain_there es items)
 
 -- each item is there once
-each_once : (rows : Rows) → are_different is_same rows.items ≡ true → SameElements (different (there rows Plain)) rows.items
-each_once rows differ = counts_same (different (there rows Plain)) rows.items
-    (λ n. one_once n (there rows Plain) ∙ ap (λ (ns : List Values). one_if_some (times_named n ns)) (plain_there rows.entries rows.items) ∙ exact (times_named n rows.items) (apart_once n rows.items differ))
+each_once : (rows : Rows) → are_different is_same rows.items ≡ true → SameElements (different (target_names rows Plain)) rows.items
+each_once rows differ = counts_same (different (target_names rows Plain)) rows.items
+    (λ n. one_once n (target_names rows Plain) ∙ ap (λ (ns : List Values). one_if_some (times_named n ns)) (plain_there rows.entries rows.items) ∙ exact (times_named n rows.items) (apart_once n rows.items differ))
   where
     exact : (t : ℕ) → t ≤ 1 → one_if_some t ≡ t
     exact zero h = refl
@@ -269,8 +269,8 @@ led_plain items p found same n item =
     there_is h = elim (or_cases (p n) false h) [ inl here ↦ passes (λ x. p x && is_same n x) n items (both_true here ((same_is n n).1 refl)) item | inr never ↦ absurd cc ]
 
 -- so the items that lead in either mode to names that pass
-pub led_in : (rows : Rows) (mode : Mode) (p : Values → Bool) (found : List Values) → IsLawful rows → SameElements (filter p (different (there rows mode))) found → AreItemsTo rows mode p (items_at rows.entries rows.items mode found)
-led_in rows Plain p found lawful same = led_plain rows.items p found (λ f. sym (filter_same p (different (there rows Plain)) rows.items (each_once rows lawful.items_differ) f) ∙ same f)
+pub led_in : (rows : Rows) (mode : Mode) (p : Values → Bool) (found : List Values) → IsLawful rows → SameElements (filter p (different (target_names rows mode))) found → AreItemsTo rows mode p (items_of_fact rows.entries rows.items mode found)
+led_in rows Plain p found lawful same = led_plain rows.items p found (λ f. sym (filter_same p (different (target_names rows Plain)) rows.items (each_once rows lawful.items_differ) f) ∙ same f)
 led_in rows Follow p found lawful same = led rows.entries lawful.dictionary.names_differ rows.items p found same
 
 -- ---- names by their numbers
@@ -286,11 +286,11 @@ names_of_those names p (x ∷ held) = by (p (kept_at names x.0).name) (names_of_
     by false later = later
 
 -- numbers found of a lent board are those of the board
-pub passing_there : (shown table : Names) (lent boards : Boards) (mode : Mode) (p : Values → Bool) (found : List NameId) → shown ≡ table → lent ≡ boards → ArePassing shown (board_of lent mode) p found → ArePassing table (board_of boards mode) p found
-passing_there shown table lent boards mode p found same same_boards met = subst (λ (t : Names). ArePassing t (board_of boards mode) p found) same (subst (λ (b : Boards). ArePassing shown (board_of b mode) p found) same_boards met)
+pub passing_there : (shown table : Names) (lent boards : Boards) (mode : Mode) (p : Values → Bool) (found : List NameId) → shown ≡ table → lent ≡ boards → ArePassing shown (board_of_mode lent mode) p found → ArePassing table (board_of_mode boards mode) p found
+passing_there shown table lent boards mode p found same same_boards met = subst (λ (t : Names). ArePassing t (board_of_mode boards mode) p found) same (subst (λ (b : Boards). ArePassing shown (board_of_mode b mode) p found) same_boards met)
 
 -- the numbers found of a board's targets have those names of the list that pass
-pub found_names : (names : Names) (board : Board) (list : List Values) (p : Values → Bool) (found : List NameId) → AreNames names → IsOn board → Shows names (target_times board) list → ArePassing names board p found
+pub found_names : (names : Names) (board : Board) (list : List Values) (p : Values → Bool) (found : List NameId) → IsNameTable names → AreHeldIds board → Shows names (target_times board) list → ArePassing names board p found
     → SameElements (filter p (different list)) (names_at names found)
 found_names names board list p found are on shows same f =
     sym (filter_same p (names_in names (target_ids board)) (different list) (held_different names (target_times board) list (target_ids board) are on.targets shows) f)
@@ -300,14 +300,14 @@ found_names names board list p found are on shows same f =
     ∙ sym (sum_map f (λ (id : NameId). (kept_at names id.0).name) found)
 
 -- so numbers found of the plain board are those of the items that pass
-module _ (names : Names) (board : Board) (rows : Rows) (are : AreNames names) (on : IsOn board) (shows : Shows names (target_times board) (there rows Plain)) (differ : are_different is_same rows.items ≡ true) where
+module _ (names : Names) (board : Board) (rows : Rows) (are : IsNameTable names) (on : AreHeldIds board) (shows : Shows names (target_times board) (target_names rows Plain)) (differ : are_different is_same rows.items ≡ true) where
   pub items_passing : (p : Values → Bool) (found : List NameId) → ArePassing names board p found → SameElements (filter p rows.items) (names_at names found)
-  items_passing p found met f = sym (filter_same p (different (there rows Plain)) rows.items (each_once rows differ) f) ∙ found_names names board (there rows Plain) p found are on shows met f
+  items_passing p found met f = sym (filter_same p (different (target_names rows Plain)) rows.items (each_once rows differ) f) ∙ found_names names board (target_names rows Plain) p found are on shows met f
 
   -- and as many targets are met as items
   pub items_near : (asked : Value) → count_by (is_met names asked) (ids (target_ids board)) ≡ near_names side.Source asked rows.items
   items_near asked =
-      near_different names (target_times board) (there rows Plain) (target_ids board) are on.targets shows side.Source asked
+      near_different names (target_times board) (target_names rows Plain) (target_ids board) are on.targets shows side.Source asked
       ∙ each_once rows differ (λ (n : Values). cond (meets_on side.Source asked n.product) 1 0)
 
 -- a registry puts them in order
@@ -345,7 +345,7 @@ module _ (names : Names) where
       ]
       by false h step = later (step h)
 
-  all_live : (found : List NameId) → list_any dead found ≡ false → AreLive names found
+  all_live : (found : List NameId) → list_any dead found ≡ false → AreFactNames names found
   all_live [] h = tt
   all_live (x ∷ found) h = (is (find_kept names x.0) refl parts.0, all_live found parts.1)
     where
@@ -360,7 +360,7 @@ module _ (names : Names) where
       is None e f = absurd (true≢false f)
       is (Some k) e f = refl
 
-  pub found_live : (board : Board) (list : List Values) (q : NameId → Bool) (found : List NameId) → IsOn board → Shows names (target_times board) list → SameElements (filter q (ids (target_ids board))) found → AreLive names found
+  pub found_live : (board : Board) (list : List Values) (q : NameId → Bool) (found : List NameId) → AreHeldIds board → Shows names (target_times board) list → SameElements (filter q (ids (target_ids board))) found → AreFactNames names found
   found_live board list q found on shows same = all_live found (sym (any_same dead (filter q (ids (target_ids board))) found same) ∙ by (list_any dead (filter q (ids (target_ids board)))) refl)
     where
       by : (b : Bool) → list_any dead (filter q (ids (target_ids board))) ≡ b → b ≡ false

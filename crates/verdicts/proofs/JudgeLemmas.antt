@@ -11,12 +11,12 @@ use Rattle.cpe_rows.specs.declared.statement.Mode.{Mode}
 use Rattle.cpe_rows.specs.declared.statement.Mode.TheVariants.{Plain, Follow}
 use Rattle.cpe_rows.specs.declared.test.CheckKey.{CheckKey}
 use Rattle.cpe_rows.specs.declared.truth.Truth.{Truth}
-use Rattle.kept_facts.specs.Kept.{AreSound}
-use Rattle.facts.specs.fact_rows.Facts.{differs, FactTable, is_fact, truth_of}
+use Rattle.fact_boards.specs.Kept.{AreSound}
+use Rattle.facts.specs.fact_rows.Facts.{truth_differs, FactTable, is_fact, truth_of_fact}
 use Rattle.facts.specs.Facts.{AreChanges, AreUsed, FactsNow, HasFacts, is_used, table_of}
 use Rattle.facts.specs.Room.{KeepsFacts}
 use Rattle.facts.proofs.ChangeLemmas.{differs_is}
-use Rattle.statement_rows.specs.Askers.{AreAsked}
+use Rattle.statement_rows.specs.Askers.{AreAskers}
 use Rattle.statement_rows.specs.Readings.{FactTruths, has_fact}
 use Rattle.statement_rows.specs.State.{AreJudged, at_tickets, judge, SameRoom, State, StatementRow, statements_of}
 use Rattle.statement_rows.specs.Tickets.{among}
@@ -59,9 +59,9 @@ module _ (truth : FactTruths) (checks : List (CheckKey × Truth)) (ts : List ℕ
 module _ (same : SameTruths) (names : Names) (old new : FactsNow) (rows : Rows) (all : List StatementRow) (facts : HasFacts names new rows (tickets_in all)) (statements : statements_of all ≡ rows.statements)
     (changes : (m : Mode) → AreChanges (table_of old m) (table_of new m)) (checks : List (CheckKey × Truth)) where
   one_same : (j : StatementRow) → IsListed all j → IsNumbered names j → among (users_of_all new) j.ticket ≡ false → judge (truths_in old) checks j ≡ judge (truths_in new) checks j
-  one_same j listed numbered apart = same (truths_in old) (truths_in new) checks j (λ q has. by q has (differs (truths_in old j.statement.mode q) (truths_in new j.statement.mode q)) refl)
+  one_same j listed numbered apart = same (truths_in old) (truths_in new) checks j (λ q has. by q has (truth_differs (truths_in old j.statement.mode q) (truths_in new j.statement.mode q)) refl)
     where
-      by : (q : ℕ) → has_fact j.ids q ≡ true → (b : Bool) → differs (truths_in old j.statement.mode q) (truths_in new j.statement.mode q) ≡ b → truths_in old j.statement.mode q ≡ truths_in new j.statement.mode q
+      by : (q : ℕ) → has_fact j.ids q ≡ true → (b : Bool) → truth_differs (truths_in old j.statement.mode q) (truths_in new j.statement.mode q) ≡ b → truths_in old j.statement.mode q ≡ truths_in new j.statement.mode q
       by q has false e = differs_is (truths_in old j.statement.mode q) (truths_in new j.statement.mode q) e
       by q has true e =
           let changed = changes j.statement.mode q ∙ e in
@@ -89,7 +89,7 @@ refreshed same judged names v new after rows next h facts used sound askers stat
       checks = kept ∙ h.checks ∙ sym checks;
       numbered = subst (AllByRecursion (IsNumbered names)) (sym is) (at_numbered truth cs ts names old_rows h.numbered);
       facts = subst (HasFacts names new next) (sym (ap tickets_in is ∙ at_map truth cs ts (λ (j : StatementRow). j.ticket) (λ j. refl) old_rows)) facts;
-      needed = record { facts = used; askers = subst AreAsked (sym askers) h.needed.askers };
+      needed = record { facts = used; askers = subst AreAskers (sym askers) h.needed.askers };
       sound = sound;
       judged = judged (truths_in v.facts) truth ts v.statements after is kept h.judged (rows_same same names v.facts new next old_rows facts (h.statements ∙ sym statements) changes cs h.numbered);
     }
@@ -132,5 +132,5 @@ roomier names v new rows keeps plain follow sound h =
       facts = keeps names rows (tickets_in v.statements.rows) h.facts;
       needed = record { facts = λ mode id. subst (λ (t : FactTable). is_fact t id ≡ true → is_used t id ≡ true) (sym (same mode)) (h.needed.facts mode id); askers = h.needed.askers };
       sound = sound;
-      judged = subst (λ (truth : FactTruths). AreJudged v.statements truth) (λ i mode q. truth_of (sym (same mode) i) q) h.judged;
+      judged = subst (λ (truth : FactTruths). AreJudged v.statements truth) (λ i mode q. truth_of_fact (sym (same mode) i) q) h.judged;
     }

@@ -6,21 +6,21 @@ use Rattle.std.proofs.lemmas.Bool.{or_left, or_right, true≢false}
 use Rattle.std.proofs.lemmas.List.{map-append}
 use Rattle.cpe_rows.specs.cpe_name.Eleven.{Values}
 use Rattle.cpe_rows.specs.cpe_name.Equal.{same_name, same_name-Decides}
-use Rattle.kept_facts.specs.Prelude.{SameElements}
+use Rattle.fact_boards.specs.Prelude.{SameElements}
 use Rattle.name_index.specs.declared.table.NameId.{NameId}
-use Rattle.name_index.specs.Table.{AreNames, Names}
+use Rattle.name_index.specs.Table.{IsNameTable, Names}
 use Rattle.cpe_rows.specs.FactNames.{fact_names}
 use Rattle.cpe_rows.specs.declared.entry.Entry.{Entry}
 use Rattle.cpe_rows.specs.declared.statement.Mode.{Mode}
 use Rattle.cpe_rows.specs.declared.statement.Mode.TheVariants.{Plain, Follow}
 use Rattle.cpe_rows.specs.declared.statement.Statement.{Statement}
-use Rattle.facts.specs.fact_laws.Asked.{facts_of, fresh_facts, is_referred, leads, refers_to, same_mode}
-use Rattle.facts.specs.fact_laws.Shown.{different, name_at, names_at, one_if_some, times_in}
+use Rattle.facts.specs.fact_laws.Asked.{names_of_facts, fresh_facts, is_referred, leads, refers_to, same_mode}
+use Rattle.facts.specs.fact_laws.Shown.{different, name_at, names_at, one_if_some, times_in_list}
 use Rattle.facts.proofs.fact_laws.Different.{once_different, one_some}
 use Rattle.facts.proofs.fact_laws.Names.{sum_flat}
 use Rattle.facts.proofs.fact_laws.Shown.{number_first}
-use Rattle.kept_facts.specs.Kept.{AreLive}
-use Rattle.facts.specs.fact_rows.Facts.{FactTable, has_end, leads_of}
+use Rattle.fact_boards.specs.Kept.{AreFactNames}
+use Rattle.facts.specs.fact_rows.Facts.{FactTable, has_end_of_fact, leads_of}
 use Rattle.facts.specs.fact_rows.Tickets.{is_empty}
 use Rattle.facts.specs.Facts.{LeadsTo}
 use Rattle.facts.specs.Users.{users_in}
@@ -40,12 +40,12 @@ turned_eq a b = by (nat_eq a b) refl (nat_eq b a) refl
     by true e false f = e ∙ sym (eq-eqb b a (sym (eqb-true a b e)))
     by false e true f = eq-eqb a b (sym (eqb-true b a f)) ∙ sym f
 
-pub ends_counted : (q : ℕ) (xs : List NameId) → one_if_some (times_in q xs) ≡ bit (has_end xs q)
+pub ends_counted : (q : ℕ) (xs : List NameId) → one_if_some (times_in_list q xs) ≡ bit (has_end_of_fact xs q)
 ends_counted q [] = refl
 ends_counted q (x ∷ xs) = by (nat_eq x.0 q) refl (ends_counted q xs)
   where
-    by : (b : Bool) → nat_eq x.0 q ≡ b → one_if_some (times_in q xs) ≡ bit (has_end xs q) → one_if_some (times_in q (x ∷ xs)) ≡ bit (b || has_end xs q)
-    by true e later = one_some (times_in q (x ∷ xs)) (omega (arith, number_first q x xs, ap bit (turned_eq q x.0 ∙ e)))
+    by : (b : Bool) → nat_eq x.0 q ≡ b → one_if_some (times_in_list q xs) ≡ bit (has_end_of_fact xs q) → one_if_some (times_in_list q (x ∷ xs)) ≡ bit (b || has_end_of_fact xs q)
+    by true e later = one_some (times_in_list q (x ∷ xs)) (omega (arith, number_first q x xs, ap bit (turned_eq q x.0 ∙ e)))
     by false e later = ap one_if_some (omega (arith, number_first q x xs, ap bit (turned_eq q x.0 ∙ e))) ∙ later
 
 same_bit : (a b : Bool) → bit a ≡ bit b → a ≡ b
@@ -63,26 +63,26 @@ once_or_none zero h = refl
 once_or_none (suc n) h = omega (arith, h, one_some (suc n) (omega arith))
 
 -- numbers that are there once for each of some numbers are the same numbers
-pub same_ends : (once all : List NameId) (q : ℕ) → times_in q once ≡ one_if_some (times_in q all) → has_end once q ≡ has_end all q
+pub same_ends : (once all : List NameId) (q : ℕ) → times_in_list q once ≡ one_if_some (times_in_list q all) → has_end_of_fact once q ≡ has_end_of_fact all q
 same_ends once all q e =
-    same_bit (has_end once q) (has_end all q)
-    (sym (ends_counted q once) ∙ sym (once_or_none (times_in q once) (omega (arith, e, one_at_most (times_in q all)))) ∙ e ∙ ends_counted q all)
+    same_bit (has_end_of_fact once q) (has_end_of_fact all q)
+    (sym (ends_counted q once) ∙ sym (once_or_none (times_in_list q once) (omega (arith, e, one_at_most (times_in_list q all)))) ∙ e ∙ ends_counted q all)
 
-pub filtered_ends : (t : ℕ → Bool) (ids : List NameId) (q : ℕ) → has_end (filter (λ (x : NameId). t x.0) ids) q ≡ (has_end ids q && t q)
+pub filtered_ends : (t : ℕ → Bool) (ids : List NameId) (q : ℕ) → has_end_of_fact (filter (λ (x : NameId). t x.0) ids) q ≡ (has_end_of_fact ids q && t q)
 filtered_ends t [] q = refl
 filtered_ends t (x ∷ ids) q = by (t x.0) refl (nat_eq x.0 q) refl (filtered_ends t ids q)
   where
     rest : Bool
-    rest = has_end (filter (λ (y : NameId). t y.0) ids) q
+    rest = has_end_of_fact (filter (λ (y : NameId). t y.0) ids) q
 
     or_self : (a : Bool) → a ≡ true → (a || rest) ≡ true
     or_self a e = or_left a rest e
 
-    by : (a : Bool) → t x.0 ≡ a → (b : Bool) → nat_eq x.0 q ≡ b → rest ≡ (has_end ids q && t q)
-        → has_end (cond a (x ∷ filter (λ (y : NameId). t y.0) ids) (filter (λ (y : NameId). t y.0) ids)) q ≡ ((b || has_end ids q) && t q)
+    by : (a : Bool) → t x.0 ≡ a → (b : Bool) → nat_eq x.0 q ≡ b → rest ≡ (has_end_of_fact ids q && t q)
+        → has_end_of_fact (cond a (x ∷ filter (λ (y : NameId). t y.0) ids) (filter (λ (y : NameId). t y.0) ids)) q ≡ ((b || has_end_of_fact ids q) && t q)
     by true e true f later = or_self (nat_eq x.0 q) f ∙ sym (sym (ap t (eqb-true x.0 q f)) ∙ e)
     by true e false f later = ap (λ (c : Bool). c || rest) f ∙ later
-    by false e true f later = later ∙ ap (λ (c : Bool). has_end ids q && c) is ∙ none (has_end ids q) ∙ sym is
+    by false e true f later = later ∙ ap (λ (c : Bool). has_end_of_fact ids q && c) is ∙ none (has_end_of_fact ids q) ∙ sym is
       where
         is : t q ≡ false
         is = sym (ap t (eqb-true x.0 q f)) ∙ e
@@ -92,20 +92,20 @@ filtered_ends t (x ∷ ids) q = by (t x.0) refl (nat_eq x.0 q) refl (filtered_en
         none false = refl
     by false e false f later = later
 
-module _ (t : ℕ → Bool) (ids last : List NameId) (alone : (q : ℕ) → has_end last q ≡ (has_end ids q && t q)) (once : (q : ℕ) → times_in q last ≤ 1) where
-  pub once_each : (q : ℕ) → times_in q last ≡ one_if_some (times_in q (filter (λ (x : NameId). t x.0) ids))
+module _ (t : ℕ → Bool) (ids last : List NameId) (alone : (q : ℕ) → has_end_of_fact last q ≡ (has_end_of_fact ids q && t q)) (once : (q : ℕ) → times_in_list q last ≤ 1) where
+  pub once_each : (q : ℕ) → times_in_list q last ≡ one_if_some (times_in_list q (filter (λ (x : NameId). t x.0) ids))
   once_each q =
-      once_or_none (times_in q last) (once q)
+      once_or_none (times_in_list q last) (once q)
       ∙ ends_counted q last
       ∙ ap bit (alone q ∙ sym (filtered_ends t ids q))
       ∙ sym (ends_counted q (filter (λ (x : NameId). t x.0) ids))
 
 -- what holds of each number that is there
-pub all_ends : (P : ℕ → Type 0) (ids : List NameId) → ((q : ℕ) → has_end ids q ≡ true → P q) → AllByRecursion (λ (x : NameId). P x.0) ids
+pub all_ends : (P : ℕ → Type 0) (ids : List NameId) → ((q : ℕ) → has_end_of_fact ids q ≡ true → P q) → AllByRecursion (λ (x : NameId). P x.0) ids
 all_ends P [] h = tt
 all_ends P (x ∷ ids) h = (
-  h x.0 (or_left (nat_eq x.0 x.0) (has_end ids x.0) (eq-eqb x.0 x.0 refl)),
-  all_ends P ids (λ q is. h q (or_right (nat_eq x.0 q) (has_end ids q) is)),
+  h x.0 (or_left (nat_eq x.0 x.0) (has_end_of_fact ids x.0) (eq-eqb x.0 x.0 refl)),
+  all_ends P ids (λ q is. h q (or_right (nat_eq x.0 q) (has_end_of_fact ids q) is)),
 )
 
 -- ---- the facts of a statement to which no other refers
@@ -145,7 +145,7 @@ names_filtered names t p (x ∷ ids) all = ap (λ (a : Bool). names_at names (co
     by true later = ap (λ (ns : List Values). name_at names x ∷ ns) later
     by false later = later
 
-own_facts : (mode : Mode) (s : Statement) → s.mode ≡ mode → facts_of mode s ≡ different (fact_names s.test)
+own_facts : (mode : Mode) (s : Statement) → s.mode ≡ mode → names_of_facts mode s ≡ different (fact_names s.test)
 own_facts mode s e = ap (λ (m : Mode). cond (same_mode mode m) (different (fact_names s.test)) []) e ∙ by mode
   where
     by : (m : Mode) → cond (same_mode m m) (different (fact_names s.test)) [] ≡ different (fact_names s.test)
@@ -153,10 +153,10 @@ own_facts mode s e = ap (λ (m : Mode). cond (same_mode mode m) (different (fact
     by Follow = refl
 
 -- numbers that are there once for each of those that pass have the names to which no other statement refers
-pub fresh_named : (names : Names) → AreNames names → (mode : Mode) (others : List Statement) (s : Statement) (t : NameId → Bool) (ids once : List NameId)
-    → s.mode ≡ mode → AreLive names ids → AreLive names once → names_at names ids ≡ fact_names s.test
+pub fresh_named : (names : Names) → IsNameTable names → (mode : Mode) (others : List Statement) (s : Statement) (t : NameId → Bool) (ids once : List NameId)
+    → s.mode ≡ mode → AreFactNames names ids → AreFactNames names once → names_at names ids ≡ fact_names s.test
     → AllByRecursion (λ (x : NameId). t x ≡ not (is_referred mode others (name_at names x))) ids
-    → ((q : ℕ) → times_in q once ≡ one_if_some (times_in q (filter t ids)))
+    → ((q : ℕ) → times_in_list q once ≡ one_if_some (times_in_list q (filter t ids)))
     → SameElements (names_at names once) (fresh_facts mode others s)
 fresh_named names are mode others s t ids once own live live_once named passes each f =
     let p : Values → Bool = λ fact. not (is_referred mode others fact) in
@@ -177,12 +177,12 @@ users_empty mode n (t ∷ tickets) (s ∷ statements) e = by (refers_to mode n s
 
 -- ---- the names to which facts lead
 
-live_both : (names : Names) (xs ys : List NameId) → AreLive names xs → AreLive names ys → AreLive names (xs ++ ys)
+live_both : (names : Names) (xs ys : List NameId) → AreFactNames names xs → AreFactNames names ys → AreFactNames names (xs ++ ys)
 live_both names [] ys a b = b
 live_both names (x ∷ xs) ys a b = (a.0, live_both names xs ys a.1 b)
 
 pub leads_named : (names : Names) (entries : List Entry) (mode : Mode) (t : FactTable) (facts : List NameId) → AllByRecursion (λ (x : NameId). LeadsTo names entries mode x.0 (leads_of mode t x.0)) facts
-    → AreLive names (flat_map (λ (x : NameId). leads_of mode t x.0) facts) × (names_at names (flat_map (λ (x : NameId). leads_of mode t x.0) facts) ≡ flat_map (leads entries mode) (names_at names facts))
+    → AreFactNames names (flat_map (λ (x : NameId). leads_of mode t x.0) facts) × (names_at names (flat_map (λ (x : NameId). leads_of mode t x.0) facts) ≡ flat_map (leads entries mode) (names_at names facts))
 leads_named names entries mode t [] all = (tt, refl)
 leads_named names entries mode t (x ∷ facts) all =
     let later = leads_named names entries mode t facts all.1 in

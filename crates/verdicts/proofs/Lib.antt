@@ -15,5 +15,5 @@ pub mod LeadLemmas
 pub mod ItemsTo
 pub mod LastLemmas
 pub mod RemovalLemmas
-pub use Rattle.cpe_registry.proofs as cpe_registry
+pub use Rattle.name_registry.proofs as name_registry
 pub use Rattle.cpe_dictionary.proofs as cpe_dictionary

@@ -6,7 +6,7 @@ use Rattle.cpe_rows.specs.cpe_name.Eleven.{Values}
 use Rattle.name_index.specs.declared.table.NameId.{NameId}
 use Rattle.name_index.specs.Table.{IsLive, Names}
 use Rattle.facts.specs.fact_laws.Shown.{name_at, names_at}
-use Rattle.kept_facts.specs.Kept.{AreLive}
+use Rattle.fact_boards.specs.Kept.{AreFactNames}
 
 -- ---- lists that grow
 
@@ -42,16 +42,16 @@ all_passing p (x ∷ xs) = by (p x) refl (all_passing p xs)
     by true e later = (e, later)
     by false e later = later
 
-pub live_filtered : (names : Names) (t : NameId → Bool) (ids : List NameId) → AreLive names ids → AreLive names (filter t ids)
+pub live_filtered : (names : Names) (t : NameId → Bool) (ids : List NameId) → AreFactNames names ids → AreFactNames names (filter t ids)
 live_filtered names t [] live = tt
 live_filtered names t (x ∷ ids) live = by (t x) (live_filtered names t ids live.1)
   where
-    by : (a : Bool) → AreLive names (filter t ids) → AreLive names (cond a (x ∷ filter t ids) (filter t ids))
+    by : (a : Bool) → AreFactNames names (filter t ids) → AreFactNames names (cond a (x ∷ filter t ids) (filter t ids))
     by true later = (live.0, later)
     by false later = later
 
 -- numbers that pass have the names that pass
-pub names_passing : (names : Names) (t : NameId → Bool) (p : Values → Bool) → ((x : NameId) → IsLive names x.0 → t x ≡ p (name_at names x)) → (ids : List NameId) → AreLive names ids → names_at names (filter t ids) ≡ filter p (names_at names ids)
+pub names_passing : (names : Names) (t : NameId → Bool) (p : Values → Bool) → ((x : NameId) → IsLive names x.0 → t x ≡ p (name_at names x)) → (ids : List NameId) → AreFactNames names ids → names_at names (filter t ids) ≡ filter p (names_at names ids)
 names_passing names t p same [] live = refl
 names_passing names t p same (x ∷ ids) live = ap (λ (a : Bool). names_at names (cond a (x ∷ filter t ids) (filter t ids))) (same x live.0) ∙ by (p (name_at names x)) (names_passing names t p same ids live.1)
   where

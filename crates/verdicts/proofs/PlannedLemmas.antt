@@ -9,7 +9,7 @@ use Rattle.cpe_rows.specs.cpe_name.Equal.{same_name}
 use Rattle.name_index.specs.product_orders.Elements.{SameElements}
 use Rattle.name_index.proofs.product_orders.Sums.{if_passes, sum_filter}
 use Rattle.name_index.specs.declared.table.NameId.{NameId}
-use Rattle.name_index.specs.Table.{AreNames, IsLive, Names, kept_at}
+use Rattle.name_index.specs.Table.{IsNameTable, IsLive, Names, kept_at}
 use Rattle.cpe_rows.specs.Chains.{ends, leads_to}
 use Rattle.cpe_rows.specs.Lawful.{are_different}
 use Rattle.cpe_rows.specs.Names.{is_same}
@@ -21,21 +21,21 @@ use Rattle.cpe_rows.specs.declared.statement.Statement.{Statement}
 use Rattle.cpe_rows.proofs.Added.{no_chain}
 use Rattle.cpe_dictionary.specs.Plans.{ends_by}
 use Rattle.cpe_dictionary.specs.declared.plans.Plan.{Plan}
-use Rattle.facts.specs.fact_laws.Shown.{name_at, names_at, one_if_some, times_in, times_named}
+use Rattle.facts.specs.fact_laws.Shown.{name_at, names_at, one_if_some, times_in_list, times_named}
 use Rattle.facts.proofs.fact_laws.Shown.{live_is, number_first, same_names, times_agree}
-use Rattle.facts.specs.fact_laws.Asked.{facts_in, is_referred, refers_to, source_names}
-use Rattle.facts.proofs.fact_laws.Counted.{counted, first_removed, some_stands}
+use Rattle.facts.specs.fact_laws.Asked.{statement_facts, is_referred, refers_to, source_names}
+use Rattle.facts.proofs.fact_laws.Counted.{counted, first_removed, some_present}
 use Rattle.facts.proofs.fact_laws.Names.{sum_flat}
 use Rattle.facts.proofs.fact_laws.Sources.{led_by_those_there}
-use Rattle.kept_facts.specs.Kept.{AreLive}
-use Rattle.facts.specs.fact_rows.Facts.{ends_of, Fact, fact_at, FactTable, users_or_none}
+use Rattle.fact_boards.specs.Kept.{AreFactNames}
+use Rattle.facts.specs.fact_rows.Facts.{ends_of_fact, Fact, fact_at, FactTable, users_or_none}
 use Rattle.facts.specs.fact_rows.Tickets.{is_empty}
 use Rattle.facts.specs.Facts.{FactsNow, HasFacts, is_used}
 use Rattle.facts.specs.Leads.{is_led, IsLed}
 use Rattle.facts.specs.Users.{users_in}
 use Rattle.facts.specs.declared.lead.Led.{Led}
 use Rattle.facts.proofs.UserLemmas.{used_fact}
-use Rattle.verdicts.specs.Leads.{IsPlanned}
+use Rattle.verdicts.specs.Leads.{IsLinkedAhead}
 use Rattle.verdicts.proofs.NumberLemmas.{all_both, all_passing, names_passing}
 
 -- ---- facts in use
@@ -52,8 +52,8 @@ users_referred mode n (t ∷ tickets) (s ∷ statements) e = by (refers_to mode 
     by true later = refl
     by false later = later
 
-pub in_facts : (mode : Mode) (statements : List Statement) (n : Values) → list_any (is_same n) (facts_in mode statements) ≡ is_referred mode statements n
-in_facts mode statements n = by (list_any (is_same n) (facts_in mode statements)) (is_referred mode statements n) (sym (some_stands n (facts_in mode statements)) ∙ ap one_if_some (counted mode statements n))
+pub in_facts : (mode : Mode) (statements : List Statement) (n : Values) → list_any (is_same n) (statement_facts mode statements) ≡ is_referred mode statements n
+in_facts mode statements n = by (list_any (is_same n) (statement_facts mode statements)) (is_referred mode statements n) (sym (some_present n (statement_facts mode statements)) ∙ ap one_if_some (counted mode statements n))
   where
     by : (a b : Bool) → cond a 1 0 ≡ one_if_some (cond b 1 0) → a ≡ b
     by true true e = refl
@@ -69,20 +69,20 @@ module _ (names : Names) (f : FactsNow) (rows : Rows) (tickets : List ℕ) (s : 
   used_referred q live = ap (λ (us : List ℕ). not (is_empty us)) (s.follow.users q live) ∙ users_referred Follow (kept_at names q).name tickets rows.statements s.numbered.each
 
   -- the numbers in use have the names of the facts in mode follow
-  pub used_names : (ids : List NameId) → AreLive names ids → names_at names (filter (λ (x : NameId). is_used f.follow x.0) ids) ≡ filter (λ m. list_any (is_same m) (facts_in Follow rows.statements)) (names_at names ids)
+  pub used_names : (ids : List NameId) → AreFactNames names ids → names_at names (filter (λ (x : NameId). is_used f.follow x.0) ids) ≡ filter (λ m. list_any (is_same m) (statement_facts Follow rows.statements)) (names_at names ids)
   used_names ids live =
-      names_passing names (λ (x : NameId). is_used f.follow x.0) (λ m. list_any (is_same m) (facts_in Follow rows.statements))
+      names_passing names (λ (x : NameId). is_used f.follow x.0) (λ m. list_any (is_same m) (statement_facts Follow rows.statements))
       (λ x live. used_referred x.0 live ∙ sym (in_facts Follow rows.statements (name_at names x))) ids live
 
   -- the ends of facts in use are those of their names
   pub ends_named : (facts : List NameId) → AllByRecursion (λ (x : NameId). is_used f.follow x.0 ≡ true) facts
-      → (names_at names (flat_map (λ (x : NameId). ends_of f.follow x.0) facts) ≡ flat_map (ends rows.entries) (names_at names facts)) × AreLive names (flat_map (λ (x : NameId). ends_of f.follow x.0) facts)
+      → (names_at names (flat_map (λ (x : NameId). ends_of_fact f.follow x.0) facts) ≡ flat_map (ends rows.entries) (names_at names facts)) × AreFactNames names (flat_map (λ (x : NameId). ends_of_fact f.follow x.0) facts)
   ends_named [] used = (refl, tt)
   ends_named (x ∷ facts) used =
       let l = s.follow.leads_there x.0 used.0 in
       let later = ends_named facts used.1 in (
-        map-append (name_at names) (ends_of f.follow x.0) (flat_map (λ (y : NameId). ends_of f.follow y.0) facts) ∙ (λ i. l.names i ++ later.0 i),
-        all_both (λ (y : NameId). IsLive names y.0) (ends_of f.follow x.0) (flat_map (λ (y : NameId). ends_of f.follow y.0) facts) l.live later.1,
+        map-append (name_at names) (ends_of_fact f.follow x.0) (flat_map (λ (y : NameId). ends_of_fact f.follow y.0) facts) ∙ (λ i. l.names i ++ later.0 i),
+        all_both (λ (y : NameId). IsLive names y.0) (ends_of_fact f.follow x.0) (flat_map (λ (y : NameId). ends_of_fact f.follow y.0) facts) l.live later.1,
       )
 
 -- ---- what leads to an entry
@@ -104,12 +104,12 @@ ends_of_sources names entries n g by list sources found all differ few are is ea
 
 -- ---- planned facts
 
-pub planned_names : (names : Names) (entries : List Entry) (plan : Plan) (t : FactTable) (all : List Led) → AllByRecursion (IsPlanned names entries plan t) all
+pub planned_names : (names : Names) (entries : List Entry) (plan : Plan) (t : FactTable) (all : List Led) → AllByRecursion (IsLinkedAhead names entries plan t) all
     → names_at names (flat_map (λ (x : Led). x.ends.items) all) ≡ flat_map (ends_by entries (Some plan)) (names_at names (map (λ (x : Led). x.fact) all))
 planned_names names entries plan t [] p = refl
 planned_names names entries plan t (x ∷ all) p = map-append (name_at names) x.ends.items (flat_map (λ (y : Led). y.ends.items) all) ∙ (λ i. p.0.names i ++ planned_names names entries plan t all p.1 i)
 
-pub planned_live : (names : Names) (entries : List Entry) (plan : Plan) (t : FactTable) (all : List Led) → AllByRecursion (IsPlanned names entries plan t) all → AreLive names (flat_map (λ (x : Led). x.ends.items) all)
+pub planned_live : (names : Names) (entries : List Entry) (plan : Plan) (t : FactTable) (all : List Led) → AllByRecursion (IsLinkedAhead names entries plan t) all → AreFactNames names (flat_map (λ (x : Led). x.ends.items) all)
 planned_live names entries plan t [] p = tt
 planned_live names entries plan t (x ∷ all) p = all_both (λ (y : NameId). IsLive names y.0) x.ends.items (flat_map (λ (y : Led). y.ends.items) all) p.0.live (planned_live names entries plan t all p.1)
 
@@ -120,13 +120,14 @@ all_led P (x ∷ all) h = (h.0, all_led P all h.1)
 pub used_same : (old new : FactTable) → ((q : ℕ) → fact_at new q ≡ fact_at old q) → (q : ℕ) → is_used new q ≡ is_used old q
 used_same old new stay q = ap (λ (o : Option Fact). not (is_empty (users_or_none o))) (stay q)
 
--- facts that are in use and planned will be led
-pub planned_led : (names : Names) (entries left : List Entry) (plan : Plan) (old new : FactTable) (sources : List NameId) (all : List Led) → AllByRecursion (IsPlanned names entries plan new) all
+-- if the planned facts are the sources in use, and are linked to their ends after the plan, then `IsLed` is true of each
+-- by the entries that the plan leaves
+pub planned_led : (names : Names) (entries left : List Entry) (plan : Plan) (old new : FactTable) (sources : List NameId) (all : List Led) → AllByRecursion (IsLinkedAhead names entries plan new) all
     → map (λ (x : Led). x.fact) all ≡ filter (λ (x : NameId). is_used old x.0) sources → ((q : ℕ) → fact_at new q ≡ fact_at old q) → ((m : Values) → ends_by entries (Some plan) m ≡ ends left m) → AllByRecursion (IsLed names new left) all
 planned_led names entries left plan old new sources all planned is stay lead =
     go all planned (all_led (λ (x : NameId). is_used old x.0 ≡ true) all (subst (AllByRecursion (λ (x : NameId). is_used old x.0 ≡ true)) (sym is) (all_passing (λ (x : NameId). is_used old x.0) sources)))
   where
-    go : (some : List Led) → AllByRecursion (IsPlanned names entries plan new) some → AllByRecursion (λ (x : Led). is_used old x.fact.0 ≡ true) some → AllByRecursion (IsLed names new left) some
+    go : (some : List Led) → AllByRecursion (IsLinkedAhead names entries plan new) some → AllByRecursion (λ (x : Led). is_used old x.fact.0 ≡ true) some → AllByRecursion (IsLed names new left) some
     go [] p used = tt
     go (x ∷ some) p used = (
       record {
@@ -137,19 +138,19 @@ planned_led names entries left plan old new sources all planned is stay lead =
       go some p.1 used.1,
     )
 
-led_has : (id : ℕ) (all : List Led) → 1 ≤ times_in id (map (λ (x : Led). x.fact) all) → is_led all id ≡ true
+led_has : (id : ℕ) (all : List Led) → 1 ≤ times_in_list id (map (λ (x : Led). x.fact) all) → is_led all id ≡ true
 led_has id [] h = absurd (omega (arith, h))
 led_has id (x ∷ all) h = by (cases_Bool (nat_eq x.fact.0 id)) (led_has id all)
   where
-    by : (nat_eq x.fact.0 id ≡ true) ⊎ (nat_eq x.fact.0 id ≡ false) → (1 ≤ times_in id (map (λ (y : Led). y.fact) all) → is_led all id ≡ true) → is_led (x ∷ all) id ≡ true
+    by : (nat_eq x.fact.0 id ≡ true) ⊎ (nat_eq x.fact.0 id ≡ false) → (1 ≤ times_in_list id (map (λ (y : Led). y.fact) all) → is_led all id ≡ true) → is_led (x ∷ all) id ≡ true
     by (inl t) later = or_left (nat_eq x.fact.0 id) (is_led all id) t
     by (inr f) later =
         or_right (nat_eq x.fact.0 id) (is_led all id)
         (later (omega (arith, h, number_first id x.fact (map (λ (y : Led). y.fact) all), ap {B = ℕ} (λ (b : Bool). cond b 1 0) (ne_eqb id x.fact.0 (λ e. both_ways (nat_eq x.fact.0 id) f (eq-eqb x.fact.0 id (sym e)))))))
 
 -- each fact in use that leads to the entry is among them
-pub whole_led : (names : Names) → AreNames names → (f : FactsNow) (rows : Rows) (tickets : List ℕ) → HasFacts names f rows tickets → (entries : List Entry) (n : Values) (all : List Led)
-    → AreLive names (map (λ (x : Led). x.fact) all) → SameElements (names_at names (map (λ (x : Led). x.fact) all)) (filter (λ x. leads_to entries x n) (facts_in Follow rows.statements))
+pub whole_led : (names : Names) → IsNameTable names → (f : FactsNow) (rows : Rows) (tickets : List ℕ) → HasFacts names f rows tickets → (entries : List Entry) (n : Values) (all : List Led)
+    → AreFactNames names (map (λ (x : Led). x.fact) all) → SameElements (names_at names (map (λ (x : Led). x.fact) all)) (filter (λ x. leads_to entries x n) (statement_facts Follow rows.statements))
     → (id : ℕ) → is_used f.follow id ≡ true → leads_to entries (kept_at names id).name n ≡ true → is_led all id ≡ true
 whole_led names are f rows tickets s entries n all live same id used leads =
     let m = (kept_at names id).name in
@@ -157,13 +158,13 @@ whole_led names are f rows tickets s entries n all live same id used leads =
     let leading : Values → Bool = λ x. leads_to entries x n in
     let once : Values → ℕ = λ y. cond (same_name m y) 1 0 in
     let referred : is_referred Follow rows.statements m ≡ true = sym (used_referred names f rows tickets s id alive) ∙ used in
-    let there : 1 ≤ times_named m (facts_in Follow rows.statements) = omega (arith, counted Follow rows.statements m, ap {B = ℕ} (λ (b : Bool). cond b 1 0) referred) in
+    let there : 1 ≤ times_named m (statement_facts Follow rows.statements) = omega (arith, counted Follow rows.statements m, ap {B = ℕ} (λ (b : Bool). cond b 1 0) referred) in
     let itself : if_passes leading once m ≡ 1 = ap {B = ℕ} (λ (b : Bool). cond b (once m) 0) leads ∙ ap {B = ℕ} (λ (b : Bool). cond b 1 0) (same_names m m refl) in
     led_has id all (omega (
       arith,
       times_agree names are id (kept_at names id) (live_is names id alive) (map (λ (x : Led). x.fact) all) live,
       same once,
-      sum_filter once leading (facts_in Follow rows.statements),
-      first_removed (if_passes leading once) m (facts_in Follow rows.statements) there,
+      sum_filter once leading (statement_facts Follow rows.statements),
+      first_removed (if_passes leading once) m (statement_facts Follow rows.statements) there,
       itself,
     ))

@@ -5,7 +5,7 @@ use Rattle.std.proofs.lemmas.Bool.{or_left, true≢false}
 use Rattle.std.proofs.lemmas.List.{append-nil}
 use Rattle.name_index.specs.product_orders.Elements.{SameElements}
 use Rattle.name_index.specs.declared.table.NameId.{NameId}
-use Rattle.name_index.specs.Table.{AreNames, kept_at, Names}
+use Rattle.name_index.specs.Table.{IsNameTable, kept_at, Names}
 use Rattle.cpe_rows.specs.FactNames.{fact_names}
 use Rattle.cpe_rows.specs.Rows.{Rows}
 use Rattle.cpe_rows.specs.declared.entry.Entry.{Entry}
@@ -13,8 +13,8 @@ use Rattle.cpe_rows.specs.declared.statement.Mode.{Mode}
 use Rattle.cpe_rows.specs.declared.statement.Statement.{Statement}
 use Rattle.facts.specs.fact_laws.Shown.{names_at}
 use Rattle.facts.specs.fact_laws.Asked.{fresh_facts, is_referred, leads, same_mode}
-use Rattle.kept_facts.specs.Kept.{AreLive}
-use Rattle.facts.specs.fact_rows.Facts.{has_end, has_room, is_fact, leads_of, users_of}
+use Rattle.fact_boards.specs.Kept.{AreFactNames}
+use Rattle.facts.specs.fact_rows.Facts.{has_end_of_fact, has_fact_room, is_fact, leads_of, users_of}
 use Rattle.facts.specs.fact_rows.Tickets.{ends_with, is_empty}
 use Rattle.facts.specs.Facts.{AreUsed, AreUsedBut, FactsNow, is_used, LeadsTo, table_of}
 use Rattle.facts.specs.Users.{AreBelow}
@@ -31,17 +31,17 @@ use Rattle.verdicts.proofs.UserLemmas.{facts_users, live_of}
 -- ---- fresh facts
 
 module _ (f new : FactsNow) (table : Names) (mode : Mode) (ids fresh : List NameId) (each : AreFresh (table_of f mode) ids fresh) (beside : FreshBeside f new table mode fresh) where
-  pub no_users : (q : ℕ) → has_end fresh q ≡ true → users_of (table_of new mode) q ≡ []
+  pub no_users : (q : ℕ) → has_end_of_fact fresh q ≡ true → users_of (table_of new mode) q ≡ []
   no_users q at = beside.users q ∙ empty_is (users_of (table_of f mode) q) (empty (is_empty (users_of (table_of f mode) q)) (fresh_unused (table_of f mode) ids fresh each q at))
     where
       empty : (b : Bool) → not b ≡ false → b ≡ true
       empty true e = refl
       empty false e = absurd (true≢false e)
 
-  pub not_changed : AreUsed f → ((q : ℕ) → has_end (table_of f mode).changed q ≡ true → is_fact (table_of f mode) q ≡ true) → (q : ℕ) → has_end fresh q ≡ true → has_end (table_of new mode).changed q ≡ false
-  not_changed used listed q at = ap (λ (ns : List NameId). has_end ns q) beside.changed ∙ by (has_end (table_of f mode).changed q) refl
+  pub not_changed : AreUsed f → ((q : ℕ) → has_end_of_fact (table_of f mode).changed q ≡ true → is_fact (table_of f mode) q ≡ true) → (q : ℕ) → has_end_of_fact fresh q ≡ true → has_end_of_fact (table_of new mode).changed q ≡ false
+  not_changed used listed q at = ap (λ (ns : List NameId). has_end_of_fact ns q) beside.changed ∙ by (has_end_of_fact (table_of f mode).changed q) refl
     where
-      by : (b : Bool) → has_end (table_of f mode).changed q ≡ b → has_end (table_of f mode).changed q ≡ false
+      by : (b : Bool) → has_end_of_fact (table_of f mode).changed q ≡ b → has_end_of_fact (table_of f mode).changed q ≡ false
       by false e = e
       by true e = absurd (true≢false (sym (used mode q (listed q e)) ∙ fresh_unused (table_of f mode) ids fresh each q at))
 
@@ -51,8 +51,8 @@ module _ (f new : FactsNow) (table : Names) (mode : Mode) (ids fresh : List Name
       none : AreUsedBut f mode []
       none m q is = or_left (is_used (table_of f m) q) (same_mode mode m && false) (used m q is)
 
-      first : (xs : List NameId) (q : ℕ) → has_end (xs ++ []) q ≡ true → has_end xs q ≡ true
-      first xs q h = ap (λ (ys : List NameId). has_end ys q) (sym (append-nil xs)) ∙ h
+      first : (xs : List NameId) (q : ℕ) → has_end_of_fact (xs ++ []) q ≡ true → has_end_of_fact xs q ≡ true
+      first xs q h = ap (λ (ys : List NameId). has_end_of_fact ys q) (sym (append-nil xs)) ∙ h
 
 -- ---- an addition
 
@@ -60,19 +60,19 @@ below_all : (n : ℕ) (js : List StatementRow) → AllByRecursion (λ j. j.ticke
 below_all n [] all = tt
 below_all n (j ∷ js) all = (all.0, below_all n js all.1)
 
-module _ (table : Names) (are : AreNames table) (v new : VerdictsNow) (rows : Rows) (h : HasVerdicts table v rows) (entries : List Entry) (s : Statement) (ids : List NameId) (a : Addition)
-    (live : AreLive table ids) (named : names_at table ids ≡ fact_names s.test) (each : AreFresh (table_of v.facts s.mode) ids a.fresh.items) (live_fresh : AreLive table a.fresh.items)
+module _ (table : Names) (are : IsNameTable table) (v new : VerdictsNow) (rows : Rows) (h : HasVerdicts table v rows) (entries : List Entry) (s : Statement) (ids : List NameId) (a : Addition)
+    (live : AreFactNames table ids) (named : names_at table ids ≡ fact_names s.test) (each : AreFresh (table_of v.facts s.mode) ids a.fresh.items) (live_fresh : AreFactNames table a.fresh.items)
     (beside : FreshBeside v.facts new.facts table s.mode a.fresh.items) (ready : AreReady new.facts table entries s.mode ids a.fresh.items a.asked.items)
     (same : SameRows v.statements new.statements) (row : IsReadyRow new.statements s ids a.statement) (below : AllByRecursion (λ j. j.ticket < v.statements.next) v.statements.rows)
-    (listed : (q : ℕ) → has_end (table_of v.facts s.mode).changed q ≡ true → is_fact (table_of v.facts s.mode) q ≡ true) where
+    (listed : (q : ℕ) → has_end_of_fact (table_of v.facts s.mode).changed q ≡ true → is_fact (table_of v.facts s.mode) q ≡ true) where
   abbrev fresh : List NameId
   fresh = a.fresh.items
 
-  led : AreLive table (flat_map (λ (x : NameId). leads_of s.mode (table_of new.facts s.mode) x.0) fresh) × (names_at table (flat_map (λ (x : NameId). leads_of s.mode (table_of new.facts s.mode) x.0) fresh) ≡ flat_map (leads entries s.mode) (names_at table fresh))
+  led : AreFactNames table (flat_map (λ (x : NameId). leads_of s.mode (table_of new.facts s.mode) x.0) fresh) × (names_at table (flat_map (λ (x : NameId). leads_of s.mode (table_of new.facts s.mode) x.0) fresh) ≡ flat_map (leads entries s.mode) (names_at table fresh))
   led = all_led table entries s.mode (table_of new.facts s.mode) fresh ready.leads_there
 
   -- a statement refers to the name of a number exactly if a statement uses the fact
-  referred : (q : ℕ) → has_end ids q ≡ true → not (is_used (table_of v.facts s.mode) q) ≡ not (is_referred s.mode rows.statements (kept_at table q).name)
+  referred : (q : ℕ) → has_end_of_fact ids q ≡ true → not (is_used (table_of v.facts s.mode) q) ≡ not (is_referred s.mode rows.statements (kept_at table q).name)
   referred q at =
       ap (λ (us : List ℕ). not (not (is_empty us))) (facts_users table v.facts rows (tickets_in v.statements.rows) h.facts s.mode q (live_of table ids q live at))
       ∙ ap (λ (b : Bool). not (not b)) (users_empty s.mode (kept_at table q).name (tickets_in v.statements.rows) rows.statements h.facts.numbered.each)
@@ -97,12 +97,12 @@ module _ (table : Names) (are : AreNames table) (v new : VerdictsNow) (rows : Ro
   is_addition = record {
     row = row;
     room = record {
-      live_asked = subst (AreLive table) (sym ready.asked_there) led.0;
+      live_asked = subst (AreFactNames table) (sym ready.asked_there) led.0;
       wide = ready.room.wide;
       room = ready.room.room;
       few = ready.room.few;
       own = fresh_own (table_of v.facts s.mode) ids fresh each;
-      room_users = λ q at. or_left (has_room (table_of new.facts s.mode) q) (ends_with a.statement.ticket (users_of (table_of new.facts s.mode) q)) (ready.room_users q at);
+      room_users = λ q at. or_left (has_fact_room (table_of new.facts s.mode) q) (ends_with a.statement.ticket (users_of (table_of new.facts s.mode) q)) (ready.room_users q at);
     };
     new = λ next are_entries are_statements.
         let statements : rows.statements ≡ next.statements = sym h.statements ∙ sym (ap statements_of same.rows) ∙ sym are_statements in

@@ -5,9 +5,9 @@ use Rattle.std.specs.List.{AllByRecursion, flat_map, list_any, sum_by}
 use Rattle.std.specs.Option.{option_map}
 use Rattle.std.proofs.lemmas.Bool.{and_parts}
 use Rattle.std.proofs.lemmas.Option.{none-some, same_Some}
-use Rattle.kept_facts.specs.Prelude.{SameElements}
+use Rattle.fact_boards.specs.Prelude.{SameElements}
 use Rattle.name_index.specs.declared.table.NameId.{NameId}
-use Rattle.name_index.specs.Table.{AreNames, IsLive, kept_at, Names}
+use Rattle.name_index.specs.Table.{IsNameTable, IsLive, kept_at, Names}
 use Rattle.facts.specs.level_board.Board.{probe_times}
 use Rattle.facts.specs.ticket_list.Rising.{IsRising}
 use Rattle.cpe_rows.specs.After.{after, without_first}
@@ -18,20 +18,20 @@ use Rattle.cpe_rows.specs.declared.statement.Statement.{Statement}
 use Rattle.cpe_rows.specs.declared.test.CheckKey.{CheckKey}
 use Rattle.cpe_rows.specs.declared.truth.Truth.{Truth}
 use Rattle.facts.specs.fact_laws.Asked.{asked, fresh_facts, is_referred, leads}
-use Rattle.facts.specs.fact_laws.Shown.{names_at, times_in}
+use Rattle.facts.specs.fact_laws.Shown.{names_at, times_in_list}
 use Rattle.facts.proofs.fact_laws.Names.{found_if_any}
 use Rattle.facts.proofs.fact_laws.Shown.{other_number, shows_order, shows_part}
-use Rattle.kept_facts.specs.Kept.{AreLive, AreSound, board_of}
-use Rattle.kept_facts.proofs.Boards.{statement_less}
-use Rattle.facts.specs.fact_rows.Facts.{has_end, is_fact, leads_of, truth_of, users_of}
+use Rattle.fact_boards.specs.Kept.{AreFactNames, AreSound, board_of_mode}
+use Rattle.fact_boards.proofs.Boards.{statement_less}
+use Rattle.facts.specs.fact_rows.Facts.{has_end_of_fact, is_fact, leads_of, truth_of_fact, users_of}
 use Rattle.facts.specs.fact_rows.Tickets.{is_empty, without}
 use Rattle.facts.specs.Calls.{IsOldStatement, MayRemoveStatement}
 use Rattle.facts.specs.Facts.{AreUsed, FactsNow, FactsOf, HasFacts, is_used, LeadsTo, table_of}
-use Rattle.facts.specs.Users.{AreTickets, ticket_of}
+use Rattle.facts.specs.Users.{AreTickets, statement_ticket}
 use Rattle.facts.proofs.LessLemmas.{tickets_less, users_less}
 use Rattle.facts.proofs.TakeLemmas.{by_modes}
 use Rattle.facts.proofs.UserLemmas.{used_fact}
-use Rattle.statement_rows.specs.Askers.{AreAsked}
+use Rattle.statement_rows.specs.Askers.{AreAskers}
 use Rattle.statement_rows.specs.State.{is_of, judge, State, StatementRow, statements_of, use_of}
 use Rattle.statement_rows.proofs.PlaceLemmas.{find-map}
 use Rattle.verdicts.specs.Removal.{IsRemovalOf}
@@ -86,12 +86,12 @@ statements_without id (j ∷ js) = by (has_id id j.statement) (statements_withou
     by true later = refl
     by false later = ap (λ (ss : List Statement). j.statement ∷ ss) later
 
-found_ticket : (id : List ℕ) (js : List StatementRow) (j : StatementRow) → find (is_of id) js ≡ Some j → ticket_of id (tickets_in js) (statements_of js) ≡ Some j.ticket
+found_ticket : (id : List ℕ) (js : List StatementRow) (j : StatementRow) → find (is_of id) js ≡ Some j → statement_ticket id (tickets_in js) (statements_of js) ≡ Some j.ticket
 found_ticket id [] j found = absurd (none-some j found)
 found_ticket id (k ∷ js) j found = by (has_id id k.statement) found (found_ticket id js j)
   where
-    by : (b : Bool) → cond b (Some k) (find (is_of id) js) ≡ Some j → (find (is_of id) js ≡ Some j → ticket_of id (tickets_in js) (statements_of js) ≡ Some j.ticket)
-        → cond b (Some k.ticket) (ticket_of id (tickets_in js) (statements_of js)) ≡ Some j.ticket
+    by : (b : Bool) → cond b (Some k) (find (is_of id) js) ≡ Some j → (find (is_of id) js ≡ Some j → statement_ticket id (tickets_in js) (statements_of js) ≡ Some j.ticket)
+        → cond b (Some k.ticket) (statement_ticket id (tickets_in js) (statements_of js)) ≡ Some j.ticket
     by true e later = ap (λ (r : StatementRow). Some r.ticket) (same_Some k j e)
     by false e later = later e
 
@@ -140,10 +140,10 @@ module _ (names : Names) (v : VerdictsNow) (rows : Rows) (h : HasVerdicts names 
   pub statement_there : find (has_id id) rows.statements ≡ Some j.statement
   statement_there = ap (find (has_id id)) (sym h.statements) ∙ found_statement id v.statements.rows j found
 
-  ticket_there : ticket_of id (tickets_in v.statements.rows) rows.statements ≡ Some j.ticket
-  ticket_there = ap (ticket_of id (tickets_in v.statements.rows)) (sym h.statements) ∙ found_ticket id v.statements.rows j found
+  ticket_there : statement_ticket id (tickets_in v.statements.rows) rows.statements ≡ Some j.ticket
+  ticket_there = ap (statement_ticket id (tickets_in v.statements.rows)) (sym h.statements) ∙ found_ticket id v.statements.rows j found
 
-  module _ (are : AreNames names) (r : Removal) (last : IsRemovalOf v.facts j.statement.mode j.ids j.ticket r) where
+  module _ (are : IsNameTable names) (r : Removal) (last : IsRemovalOf v.facts j.statement.mode j.ids j.ticket r) where
     abbrev mode : Mode
     mode = j.statement.mode
 
@@ -156,35 +156,35 @@ module _ (names : Names) (v : VerdictsNow) (rows : Rows) (h : HasVerdicts names 
     abbrev no_other : ℕ → Bool
     no_other q = is_empty (without j.ticket (users_of (table_of v.facts mode) q))
 
-    facts : FactsOf names (board_of v.facts.boards mode) (table_of v.facts mode) rows tickets mode
-    facts = by_modes (λ (m : Mode). FactsOf names (board_of v.facts.boards m) (table_of v.facts m) rows tickets m) h.facts.plain h.facts.follow mode
+    facts : FactsOf names (board_of_mode v.facts.boards mode) (table_of v.facts mode) rows tickets mode
+    facts = by_modes (λ (m : Mode). FactsOf names (board_of_mode v.facts.boards m) (table_of v.facts m) rows tickets m) h.facts.plain h.facts.follow mode
 
-    own : (q : ℕ) → has_end r.last.items q ≡ true → has_end j.ids q ≡ true
-    own q is = (and_parts (has_end j.ids q) (no_other q) (sym (last.alone q) ∙ is)).0
+    own : (q : ℕ) → has_end_of_fact r.last.items q ≡ true → has_end_of_fact j.ids q ≡ true
+    own q is = (and_parts (has_end_of_fact j.ids q) (no_other q) (sym (last.alone q) ∙ is)).0
 
-    own_live : (q : ℕ) → has_end j.ids q ≡ true → IsLive names q
+    own_live : (q : ℕ) → has_end_of_fact j.ids q ≡ true → IsLive names q
     own_live q is = live_of names j.ids q row_numbered.live is
 
-    used : (q : ℕ) → has_end r.last.items q ≡ true → is_used (table_of v.facts mode) q ≡ true
+    used : (q : ℕ) → has_end_of_fact r.last.items q ≡ true → is_used (table_of v.facts mode) q ≡ true
     used q is = in_use names v.facts rows v.statements.rows h.facts h.statements j row_listed row_numbered q (own q is)
 
-    live_last : AreLive names r.last.items
+    live_last : AreFactNames names r.last.items
     live_last = all_ends (IsLive names) r.last.items (λ q is. own_live q (own q is))
 
-    led : AreLive names (flat_map (λ (x : NameId). leads_of mode (table_of v.facts mode) x.0) r.last.items)
+    led : AreFactNames names (flat_map (λ (x : NameId). leads_of mode (table_of v.facts mode) x.0) r.last.items)
         × (names_at names (flat_map (λ (x : NameId). leads_of mode (table_of v.facts mode) x.0) r.last.items) ≡ flat_map (leads rows.entries mode) (names_at names r.last.items))
     led =
         leads_named names rows.entries mode (table_of v.facts mode) r.last.items
         (all_ends (λ q. LeadsTo names rows.entries mode q (leads_of mode (table_of v.facts mode) q)) r.last.items (λ q is. facts.leads_there q (used q is)))
 
-    live_asked : AreLive names r.asked.items
-    live_asked = subst (AreLive names) (sym last.asked) led.0
+    live_asked : AreFactNames names r.asked.items
+    live_asked = subst (AreFactNames names) (sym last.asked) led.0
 
     fewer : AreTickets (without j.ticket tickets) left.statements
     fewer = tickets_less id j.ticket tickets rows.statements h.facts.numbered ticket_there
 
     -- no other ticket uses a fact of it exactly if no other statement refers to the name
-    passes : (q : ℕ) → has_end j.ids q ≡ true → no_other q ≡ not (is_referred mode left.statements (kept_at names q).name)
+    passes : (q : ℕ) → has_end_of_fact j.ids q ≡ true → no_other q ≡ not (is_referred mode left.statements (kept_at names q).name)
     passes q is =
         let n = (kept_at names q).name in
         ap (λ (us : List ℕ). is_empty (without j.ticket us)) (facts.users q (own_live q is))
@@ -202,9 +202,9 @@ module _ (names : Names) (v : VerdictsNow) (rows : Rows) (h : HasVerdicts names 
         ∙ flat_same (leads rows.entries mode) (names_at names r.last.items) (fresh_facts mode left.statements j.statement) last_named f
 
     -- the board counts them at least as often as they are asked here
-    asked_there : (p : ℕ) → times_in p r.asked.items ≤ probe_times (board_of v.facts.boards mode) p
+    asked_there : (p : ℕ) → times_in_list p r.asked.items ≤ probe_times (board_of_mode v.facts.boards mode) p
     asked_there p =
-        let board = board_of v.facts.boards mode in
+        let board = board_of_mode v.facts.boards mode in
         let ns = names_at names r.asked.items in
         shows_part names (probe_times board) r.asked.items (asked left mode) p are live_asked
         (shows_order names (probe_times board) (asked rows mode) (ns ++ asked left mode) (statement_less rows mode id j.statement ns statement_there asked_for) facts.shows.asked)
@@ -216,7 +216,7 @@ module _ (names : Names) (v : VerdictsNow) (rows : Rows) (h : HasVerdicts names 
 
       pub may_remove : MayRemoveStatement v.facts names u.0 ids its_last its_asked u.2
       may_remove =
-          let core : MayRemoveStatement v.facts names mode j.ids r.last.items r.asked.items j.ticket = record { alone = last.alone; live_asked = live_asked; asked_there = asked_there; stood = (rows, tickets, h.facts) } in
+          let core : MayRemoveStatement v.facts names mode j.ids r.last.items r.asked.items j.ticket = record { alone = last.alone; live_asked = live_asked; asked_there = asked_there; rows_before = (rows, tickets, h.facts) } in
           subst (λ (ls : List NameId). MayRemoveStatement v.facts names u.0 ids ls its_asked u.2) (sym are_last)
           (subst (λ (ls : List NameId). MayRemoveStatement v.facts names u.0 ids r.last.items ls u.2) (sym are_asked)
           (subst (λ (ls : List NameId). MayRemoveStatement v.facts names u.0 ls r.last.items r.asked.items u.2) (sym ids_are)
@@ -241,7 +241,7 @@ module _ (same : SameTruths) (names : Names) (v : VerdictsNow) (new : FactsNow) 
   statements_left : statements_of rest ≡ next.statements
   statements_left = statements_without id v.statements.rows ∙ ap (without_first (has_id id)) h.statements
 
-  module _ (facts : HasFacts names new next (tickets_in rest)) (truths : (m : Mode) (q : ℕ) → is_fact (table_of new m) q ≡ true → truth_of (table_of new m) q ≡ truth_of (table_of v.facts m) q) where
+  module _ (facts : HasFacts names new next (tickets_in rest)) (truths : (m : Mode) (q : ℕ) → is_fact (table_of new m) q ≡ true → truth_of_fact (table_of new m) q ≡ truth_of_fact (table_of v.facts m) q) where
     one_judged : (j : StatementRow) → IsListed rest j → IsNumbered names j → judge (truths_in v.facts) v.statements.checks j ≡ j → judge (truths_in new) v.statements.checks j ≡ j
     one_judged j listed numbered judged =
         let mode = j.statement.mode in
@@ -251,7 +251,7 @@ module _ (same : SameTruths) (names : Names) (v : VerdictsNow) (new : FactsNow) 
     all_judged [] l n g = tt
     all_judged (j ∷ js) l n g = (one_judged j l.0 n.0 g.0, all_judged js l.1 n.1 g.1)
 
-    pub left_verdicts : (now : State) → AreUsed new → AreAsked now.askers → AreSound new.boards → now.rows ≡ rest → now.checks ≡ v.statements.checks → HasVerdicts names (record { facts = new; statements = now }) next
+    pub left_verdicts : (now : State) → AreUsed new → AreAskers now.askers → AreSound new.boards → now.rows ≡ rest → now.checks ≡ v.statements.checks → HasVerdicts names (record { facts = new; statements = now }) next
     left_verdicts now used asked sound are kept =
         let numbered = all_without (is_of id) (IsNumbered names) v.statements.rows h.numbered in
         let judged = all_without (is_of id) (λ j. judge (truths_in v.facts) v.statements.checks j ≡ j) v.statements.rows h.judged in

@@ -13,9 +13,9 @@ use Rattle.facts.specs.level_board.Board.{Board}
 use Rattle.facts.specs.fact_rows.Facts.{FactTable}
 use Rattle.cpe_rows.specs.FactNames.{fact_names}
 use Rattle.facts.specs.fact_laws.Shown.{names_at}
-use Rattle.kept_facts.specs.Kept.{AreLive, AreSound}
+use Rattle.fact_boards.specs.Kept.{AreFactNames, AreSound}
 use Rattle.facts.specs.Facts.{AreUsed, FactsNow, FactsOf, HasFacts}
-use Rattle.statement_rows.specs.Askers.{AreAsked}
+use Rattle.statement_rows.specs.Askers.{AreAskers}
 use Rattle.statement_rows.specs.State.{AreJudged, State, StatementRow, without_verdict}
 use Rattle.verdicts.specs.Verdicts.{HasVerdicts, IsNumbered, statements_in, tickets_in, truths_in, VerdictsNow}
 
@@ -46,7 +46,7 @@ numbered_still names [] (k ∷ ks) e all = absurd (omega (arith, ap length e))
 numbered_still names (j ∷ js) [] e all = absurd (omega (arith, ap length e))
 numbered_still names (j ∷ js) (k ∷ ks) e all =
     let head : without_verdict j ≡ without_verdict k = sym (ap (λ (rs : List Rest). get_or rs 0 (without_verdict j)) e) in (
-      record { live = subst (λ (r : Rest). AreLive names r.1) head all.0.live; named = subst (λ (r : Rest). names_at names r.1 ≡ fact_names r.0.test) head all.0.named },
+      record { live = subst (λ (r : Rest). AreFactNames names r.1) head all.0.live; named = subst (λ (r : Rest). names_at names r.1 ≡ fact_names r.0.test) head all.0.named },
       numbered_still names js ks (ap (drop 1) e) all.1,
     )
 
@@ -75,7 +75,7 @@ facts_over names f rows checks tickets s = record {
 }
 
 -- verdicts once a result changed, by which they were judged
-pub with_results : (names : Names) (v : VerdictsNow) (new : State) (next : Rows) → AllByRecursion (IsNumbered names) v.statements.rows → HasFacts names v.facts next (tickets_in v.statements.rows) → AreUsed v.facts → AreAsked new.askers → AreSound v.facts.boards → statements_in v ≡ next.statements
+pub with_results : (names : Names) (v : VerdictsNow) (new : State) (next : Rows) → AllByRecursion (IsNumbered names) v.statements.rows → HasFacts names v.facts next (tickets_in v.statements.rows) → AreUsed v.facts → AreAskers new.askers → AreSound v.facts.boards → statements_in v ≡ next.statements
     → map without_verdict new.rows ≡ map without_verdict v.statements.rows → new.checks ≡ next.checks → AreJudged new (truths_in v.facts) → HasVerdicts names (record { facts = v.facts; statements = new }) next
 with_results names v new next numbered facts used askers sound statements same checks judged = record {
   statements = same_statements new.rows v.statements.rows same ∙ statements;

@@ -9,7 +9,7 @@ use Rattle.std.proofs.lemmas.Option.{none-some}
 use Rattle.cpe_rows.specs.cpe_name.Eleven.{Values}
 use Rattle.cpe_rows.specs.cpe_name.Equal.{same_name}
 use Rattle.name_index.specs.declared.table.NameId.{NameId}
-use Rattle.name_index.specs.Table.{AreNames, find_kept, Holding, Holds, IsLive, Kept, kept_at, kept_or, Names, Releases}
+use Rattle.name_index.specs.Table.{IsNameTable, find_kept, HoldsOnce, HoldsName, IsLive, Kept, kept_at, kept_or, Names, Releases}
 use Rattle.facts.specs.level_board.Board.{Board, FitsBoard, probe_times}
 use Rattle.cpe_rows.specs.FactNames.{fact_names}
 use Rattle.cpe_rows.specs.Names.{is_same}
@@ -18,14 +18,14 @@ use Rattle.cpe_rows.specs.Verdict.{fact_truth}
 use Rattle.cpe_rows.specs.declared.statement.Mode.{Mode}
 use Rattle.cpe_rows.specs.declared.statement.Mode.TheVariants.{Plain, Follow}
 use Rattle.cpe_rows.specs.declared.statement.Statement.{Statement}
-use Rattle.facts.specs.fact_laws.Asked.{entry_names, is_referred, leads, names_kept, refers_to, same_mode}
+use Rattle.facts.specs.fact_laws.Asked.{entry_names, is_referred, leads, names_of_rows, refers_to, same_mode}
 use Rattle.facts.specs.fact_laws.Shown.{names_at, times_named}
 use Rattle.facts.proofs.fact_laws.Counted.{same_test}
 use Rattle.facts.proofs.fact_laws.Shown.{live_is, other_names}
 use Rattle.facts.proofs.fact_laws.Different.{some_named}
 use Rattle.facts.proofs.fact_laws.Tables.{keeps, was_live}
-use Rattle.kept_facts.specs.Kept.{AreKnown, AreLive, board_of, FitBoards, ShowRows, ShowsRows}
-use Rattle.facts.specs.fact_rows.Facts.{Fact, fact_at, FactTable, has_end, is_fact, leads_of, users_of, users_or_none}
+use Rattle.fact_boards.specs.Kept.{AreKnown, AreFactNames, board_of_mode, FitBoards, ShowRows, ShowsRows}
+use Rattle.facts.specs.fact_rows.Facts.{Fact, fact_at, FactTable, has_end_of_fact, is_fact, leads_of, users_of, users_or_none}
 use Rattle.facts.specs.Facts.{FactsNow, FactsOf, HasFacts, is_used, LeadsTo, table_of}
 use Rattle.facts.specs.Users.{users_in}
 use Rattle.facts.specs.fact_rows.Tickets.{is_empty}
@@ -37,7 +37,7 @@ use Rattle.verdicts.proofs.UserLemmas.{refers_by}
 
 -- ---- no statement refers to a name without a number
 
-not_named : (old : Names) (n : Values) → ((q : ℕ) → IsLive old q → (kept_at old q).name ≡ n → ⊥) → (ids : List NameId) → AreLive old ids → list_any (is_same n) (names_at old ids) ≡ false
+not_named : (old : Names) (n : Values) → ((q : ℕ) → IsLive old q → (kept_at old q).name ≡ n → ⊥) → (ids : List NameId) → AreFactNames old ids → list_any (is_same n) (names_at old ids) ≡ false
 not_named old n none [] all = refl
 not_named old n none (x ∷ ids) all =
     let m = (kept_at old x.0).name in
@@ -59,13 +59,13 @@ users_none old n none mode (j ∷ js) all =
 
 -- ---- the same facts over another table
 
-numbers_same : (old new : Names) → ((q : ℕ) → IsLive old q → IsLive new q → (kept_at new q).name ≡ (kept_at old q).name) → (numbers : List NameId) → AreLive old numbers → AreLive new numbers → names_at new numbers ≡ names_at old numbers
+numbers_same : (old new : Names) → ((q : ℕ) → IsLive old q → IsLive new q → (kept_at new q).name ≡ (kept_at old q).name) → (numbers : List NameId) → AreFactNames old numbers → AreFactNames new numbers → names_at new numbers ≡ names_at old numbers
 numbers_same old new same [] all still = refl
 numbers_same old new same (x ∷ numbers) all still = λ i. same x.0 all.0 still.0 i ∷ numbers_same old new same numbers all.1 still.1 i
 
 module _ (old new : Names) (board : Board) (t : FactTable) (rows : Rows) (tickets : List ℕ) (mode : Mode) (s : FactsOf old board t rows tickets mode) (used : (q : ℕ) → is_fact t q ≡ true → is_used t q ≡ true)
     (same : (q : ℕ) → IsLive old q → IsLive new q → (kept_at new q).name ≡ (kept_at old q).name) (live : (q : ℕ) → is_used t q ≡ true → IsLive new q)
-    (leads_live : (q : ℕ) → is_used t q ≡ true → AreLive new (leads_of mode t q)) (users : (q : ℕ) → IsLive new q → users_of t q ≡ users_in mode (kept_at new q).name tickets rows.statements) where
+    (leads_live : (q : ℕ) → is_used t q ≡ true → AreFactNames new (leads_of mode t q)) (users : (q : ℕ) → IsLive new q → users_of t q ≡ users_in mode (kept_at new q).name tickets rows.statements) where
   name_same : (q : ℕ) → is_used t q ≡ true → (kept_at new q).name ≡ (kept_at old q).name
   name_same q u = same q (s.live q (used_fact t q u)) (live q u)
 
@@ -95,11 +95,11 @@ not_none : (o : Option Kept) → IsSome o → o ≡ None → ⊥
 not_none None some e = true≢false (sym some)
 not_none (Some k) some e = none-some k (sym e)
 
-pub mode_of : (names : Names) (f : FactsNow) (rows : Rows) (tickets : List ℕ) → HasFacts names f rows tickets → (mode : Mode) → FactsOf names (board_of f.boards mode) (table_of f mode) rows tickets mode
+pub mode_of : (names : Names) (f : FactsNow) (rows : Rows) (tickets : List ℕ) → HasFacts names f rows tickets → (mode : Mode) → FactsOf names (board_of_mode f.boards mode) (table_of f mode) rows tickets mode
 mode_of names f rows tickets s Plain = s.plain
 mode_of names f rows tickets s Follow = s.follow
 
-module _ (old new : Names) (id : ℕ) (name : Values) (h : Holds old new id name) where
+module _ (old new : Names) (id : ℕ) (name : Values) (h : HoldsName old new id name) where
   held_live : (q : ℕ) → IsLive old q → IsLive new q
   held_live q live =
       let k = keeps old new id name h q (kept_at old q) (live_is old q live) in
@@ -110,7 +110,7 @@ module _ (old new : Names) (id : ℕ) (name : Values) (h : Holds old new id name
       let k = keeps old new id name h q (kept_at old q) (live_is old q live) in
       ap (λ (o : Option Kept). (kept_or o).name) k.1 ∙ k.2
 
-  held_all : (numbers : List NameId) → AreLive old numbers → AreLive new numbers
+  held_all : (numbers : List NameId) → AreFactNames old numbers → AreFactNames new numbers
   held_all [] all = tt
   held_all (x ∷ numbers) all = (held_live x.0 all.0, held_all numbers all.1)
 
@@ -124,7 +124,7 @@ module _ (old new : Names) (id : ℕ) (name : Values) (h : Holds old new id name
     | inr ne ↦ not_none (find_kept new q) live (h.others q ne ∙ none)
   ]
     where
-      got : (o : Option Kept) → o ≡ None → Holding o name (find_kept new id) → (kept_at new id).name ≡ name
+      got : (o : Option Kept) → o ≡ None → HoldsOnce o name (find_kept new id) → (kept_at new id).name ≡ name
       got None e holds = ap (λ (o : Option Kept). (kept_or o).name) holds.1
       got (Some k) e holds = absurd (none-some k (sym e))
 
@@ -132,7 +132,7 @@ module _ (old new : Names) (id : ℕ) (name : Values) (h : Holds old new id name
     abbrev tickets : List ℕ
     tickets = tickets_in v.statements.rows
 
-    facts_at : (mode : Mode) → FactsOf old (board_of v.facts.boards mode) (table_of v.facts mode) rows tickets mode
+    facts_at : (mode : Mode) → FactsOf old (board_of_mode v.facts.boards mode) (table_of v.facts mode) rows tickets mode
     facts_at = mode_of old v.facts rows tickets k.facts
 
     users_new : (mode : Mode) (q : ℕ) → IsLive new q → users_of (table_of v.facts mode) q ≡ users_in mode (kept_at new q).name tickets rows.statements
@@ -151,9 +151,9 @@ module _ (old new : Names) (id : ℕ) (name : Values) (h : Holds old new id name
             ∙ sym (users_none old (kept_at new q).name (held_new q live e) mode v.statements.rows k.numbered)
             ∙ ap (users_in mode (kept_at new q).name tickets) k.statements
 
-    held_mode : (mode : Mode) → ShowsRows new (board_of v.facts.boards mode) rows mode → FitsBoard (board_of v.facts.boards mode) new → FactsOf new (board_of v.facts.boards mode) (table_of v.facts mode) rows tickets mode
+    held_mode : (mode : Mode) → ShowsRows new (board_of_mode v.facts.boards mode) rows mode → FitsBoard (board_of_mode v.facts.boards mode) new → FactsOf new (board_of_mode v.facts.boards mode) (table_of v.facts mode) rows tickets mode
     held_mode mode =
-        over_table old new (board_of v.facts.boards mode) (table_of v.facts mode) rows tickets mode (facts_at mode) (k.needed.facts mode) held_same
+        over_table old new (board_of_mode v.facts.boards mode) (table_of v.facts mode) rows tickets mode (facts_at mode) (k.needed.facts mode) held_same
         (λ q used. held_live q ((facts_at mode).live q (used_fact (table_of v.facts mode) q used)))
         (λ q used. held_all (leads_of mode (table_of v.facts mode) q) ((facts_at mode).leads_there q used).live) (users_new mode)
 
@@ -188,7 +188,7 @@ referred_named mode n (s ∷ ss) h =
       | inr later ↦ or_right (list_any (same_name n) (fact_names s.test)) (list_any (same_name n) rest) (referred_named mode n ss later)
     ]
 
-kept_named : (rows : Rows) (mode : Mode) (n : Values) → is_referred mode rows.statements n ≡ true → 1 ≤ times_named n (names_kept rows)
+kept_named : (rows : Rows) (mode : Mode) (n : Values) → is_referred mode rows.statements n ≡ true → 1 ≤ times_named n (names_of_rows rows)
 kept_named rows mode n h =
     let facts = flat_map (λ (s : Statement). fact_names s.test) rows.statements in
     omega (arith, some_named n facts (referred_named mode n rows.statements h), sum_by-append (λ (m : Values). cond (same_name n m) 1 0) (entry_names rows.entries ++ rows.items) facts)
@@ -203,14 +203,14 @@ all_referred (j ∷ js) = (λ mode n r. or_left (refers_to mode n j.statement) (
     more [] all = tt
     more (k ∷ ks) all = (λ mode n r. or_right (refers_to mode n j.statement) (is_referred mode (statements_of js) n) (all.0 mode n r), more ks all.1)
 
-module _ (old new : Names) (id : ℕ) (are : AreNames old) (r : Releases old new id) (v : VerdictsNow) (rows : Rows) (k : HasVerdicts old v rows) (known : AreKnown new rows) (shows : ShowRows new v.facts.boards rows) where
+module _ (old new : Names) (id : ℕ) (are : IsNameTable old) (r : Releases old new id) (v : VerdictsNow) (rows : Rows) (k : HasVerdicts old v rows) (known : AreKnown new rows) (shows : ShowRows new v.facts.boards rows) where
   abbrev tickets_now : List ℕ
   tickets_now = tickets_in v.statements.rows
 
-  facts_then : (mode : Mode) → FactsOf old (board_of v.facts.boards mode) (table_of v.facts mode) rows tickets_now mode
+  facts_then : (mode : Mode) → FactsOf old (board_of_mode v.facts.boards mode) (table_of v.facts mode) rows tickets_now mode
   facts_then = mode_of old v.facts rows tickets_now k.facts
 
-  released_live : (q : ℕ) → IsLive old q → 1 ≤ times_named (kept_at old q).name (names_kept rows) → IsLive new q
+  released_live : (q : ℕ) → IsLive old q → 1 ≤ times_named (kept_at old q).name (names_of_rows rows) → IsLive new q
   released_live q live h =
       let kept = known (kept_at old q).name h in
       let j = was_live old new id r kept.0 kept.1.0 kept.1.1 in
@@ -229,18 +229,18 @@ module _ (old new : Names) (id : ℕ) (are : AreNames old) (r : Releases old new
       let n = (kept_at old q).name in
       released_live q live (kept_named rows mode n (users_refer mode n tickets_now rows.statements (subst (λ (us : List ℕ). not (is_empty us) ≡ true) (s.users q live) used)))
 
-  asked_live : (mode : Mode) (numbers : List NameId) → AllByRecursion (λ (x : NameId). 1 ≤ probe_times (board_of v.facts.boards mode) x.0) numbers → AreLive new numbers
+  asked_live : (mode : Mode) (numbers : List NameId) → AllByRecursion (λ (x : NameId). 1 ≤ probe_times (board_of_mode v.facts.boards mode) x.0) numbers → AreFactNames new numbers
   asked_live mode [] all = tt
   asked_live mode (x ∷ numbers) all = (live_some (find_kept new x.0) (λ none. nowhere mode none all.0), asked_live mode numbers all.1)
     where
-      nowhere : (m : Mode) → find_kept new x.0 ≡ None → 1 ≤ probe_times (board_of v.facts.boards m) x.0 → ⊥
+      nowhere : (m : Mode) → find_kept new x.0 ≡ None → 1 ≤ probe_times (board_of_mode v.facts.boards m) x.0 → ⊥
       nowhere Plain none one = omega (arith, one, shows.plain.asked.nowhere x.0 none)
       nowhere Follow none one = omega (arith, one, shows.follow.asked.nowhere x.0 none)
 
-  ends_in_use : (mode : Mode) (q : ℕ) → is_used (table_of v.facts mode) q ≡ true → AreLive new (leads_of mode (table_of v.facts mode) q)
+  ends_in_use : (mode : Mode) (q : ℕ) → is_used (table_of v.facts mode) q ≡ true → AreFactNames new (leads_of mode (table_of v.facts mode) q)
   ends_in_use mode q used =
       asked_live mode (leads_of mode (table_of v.facts mode) q)
-      (on old are mode (board_of v.facts.boards mode) (k.sound.answers mode) rows tickets_now (table_of v.facts mode) (λ p. false) (facts_then mode) q used)
+      (on old are mode (board_of_mode v.facts.boards mode) (k.sound.answers mode) rows tickets_now (table_of v.facts mode) (λ p. false) (facts_then mode) q used)
 
   users_then : (mode : Mode) (q : ℕ) → IsLive new q → users_of (table_of v.facts mode) q ≡ users_in mode (kept_at new q).name tickets_now rows.statements
   users_then mode q live =
@@ -248,16 +248,16 @@ module _ (old new : Names) (id : ℕ) (are : AreNames old) (r : Releases old new
       let was : IsLive old q = live_some (find_kept old q) (λ none. none-some j.0 (sym none ∙ j.1)) in
       (facts_then mode).users q was ∙ ap (λ (n : Values). users_in mode n tickets_now rows.statements) (sym (released_same q was live))
 
-  released_mode : (mode : Mode) → ShowsRows new (board_of v.facts.boards mode) rows mode → FitsBoard (board_of v.facts.boards mode) new → FactsOf new (board_of v.facts.boards mode) (table_of v.facts mode) rows tickets_now mode
-  released_mode mode = over_table old new (board_of v.facts.boards mode) (table_of v.facts mode) rows tickets_now mode (facts_then mode) (k.needed.facts mode) released_same (live_in_use mode) (ends_in_use mode) (users_then mode)
+  released_mode : (mode : Mode) → ShowsRows new (board_of_mode v.facts.boards mode) rows mode → FitsBoard (board_of_mode v.facts.boards mode) new → FactsOf new (board_of_mode v.facts.boards mode) (table_of v.facts mode) rows tickets_now mode
+  released_mode mode = over_table old new (board_of_mode v.facts.boards mode) (table_of v.facts mode) rows tickets_now mode (facts_then mode) (k.needed.facts mode) released_same (live_in_use mode) (ends_in_use mode) (users_then mode)
 
-  ids_live : (j : StatementRow) → IsNumbered old j → ((mode : Mode) (n : Values) → refers_to mode n j.statement ≡ true → is_referred mode (statements_of v.statements.rows) n ≡ true) → (ids : List NameId) → AreLive old ids → ((q : ℕ) → has_end ids q ≡ true → has_end j.ids q ≡ true) → AreLive new ids
+  ids_live : (j : StatementRow) → IsNumbered old j → ((mode : Mode) (n : Values) → refers_to mode n j.statement ≡ true → is_referred mode (statements_of v.statements.rows) n ≡ true) → (ids : List NameId) → AreFactNames old ids → ((q : ℕ) → has_end_of_fact ids q ≡ true → has_end_of_fact j.ids q ≡ true) → AreFactNames new ids
   ids_live j numbered refers [] all within = tt
   ids_live j numbered refers (x ∷ ids) all within =
       let n = (kept_at old x.0).name in
-      let has = within x.0 (or_left (nat_eq x.0 x.0) (has_end ids x.0) (eq-eqb x.0 x.0 refl)) in
+      let has = within x.0 (or_left (nat_eq x.0 x.0) (has_end_of_fact ids x.0) (eq-eqb x.0 x.0 refl)) in
       let referred = subst (λ (ss : List Statement). is_referred j.statement.mode ss n ≡ true) k.statements (refers j.statement.mode n (refers_by old j.statement.mode j.statement j.ids x.0 refl numbered.named has)) in
-      (released_live x.0 all.0 (kept_named rows j.statement.mode n referred), ids_live j numbered refers ids all.1 (λ q h. within q (or_right (nat_eq x.0 q) (has_end ids q) h)))
+      (released_live x.0 all.0 (kept_named rows j.statement.mode n referred), ids_live j numbered refers ids all.1 (λ q h. within q (or_right (nat_eq x.0 q) (has_end_of_fact ids q) h)))
 
   released_numbered : (js : List StatementRow) → AllByRecursion (λ (j : StatementRow). (mode : Mode) (n : Values) → refers_to mode n j.statement ≡ true → is_referred mode (statements_of v.statements.rows) n ≡ true) js → AllByRecursion (IsNumbered old) js → AllByRecursion (IsNumbered new) js
   released_numbered [] refers all = tt

@@ -18,9 +18,9 @@ use Rattle.cpe_rows.proofs.NameTests.{same_is}
 use Rattle.cpe_dictionary.proofs.PlanLemmas.{entry_found}
 use Rattle.facts.specs.fact_laws.Shown.{one_if_some, Shows, times_named}
 use Rattle.facts.proofs.fact_laws.Shown.{live_is, named_both}
-use Rattle.facts.specs.fact_laws.Asked.{asked, entry_names, facts_in, there}
-use Rattle.facts.proofs.fact_laws.Counted.{some_stands}
-use Rattle.kept_facts.specs.Kept.{Boards, ShowsRows}
+use Rattle.facts.specs.fact_laws.Asked.{asked, entry_names, statement_facts, target_names}
+use Rattle.facts.proofs.fact_laws.Counted.{some_present}
+use Rattle.fact_boards.specs.Kept.{Boards, ShowsRows}
 use Rattle.verdicts.specs.Leads.{IsUnled}
 
 -- ---- the entries of a name
@@ -109,7 +109,7 @@ unled es n active (x ∷ list) none = by (leads_to es x n) refl (unled es n acti
     both = sym (named_both n (ends es x) (flat_map (ends es) list)) ∙ none
 
     counts : list_any (is_same n) (ends es x) ≡ true → 1 ≤ times_named n (ends es x)
-    counts h = above_none (times_named n (ends es x)) (some_stands n (ends es x) ∙ ap {B = ℕ} (λ (b : Bool). cond b 1 0) h)
+    counts h = above_none (times_named n (ends es x)) (some_present n (ends es x) ∙ ap {B = ℕ} (λ (b : Bool). cond b 1 0) h)
 
     by : (b : Bool) → leads_to es x n ≡ b → (times_named n (flat_map (ends es) list) ≡ 0 → filter (λ y. leads_to es y n) list ≡ [])
         → cond b (x ∷ filter (λ y. leads_to es y n) list) (filter (λ y. leads_to es y n) list) ≡ []
@@ -135,18 +135,18 @@ pub off_boards : (names : Names) (boards : Boards) (rows : Rows) (id : ℕ) → 
 off_boards names boards rows id live shows active off =
     let parts = neither (nat_lt 0 (probe_times boards.follow id)) (nat_lt 0 (target_times boards.follow id)) off in
     record {
-      items = unled rows.entries (kept_at names id).name active rows.items (nowhere_named names (target_times boards.follow) (there rows Follow) id shows.there live parts.1);
-      facts = unled rows.entries (kept_at names id).name active (facts_in Follow rows.statements) (nowhere_named names (probe_times boards.follow) (asked rows Follow) id shows.asked live parts.0);
+      items = unled rows.entries (kept_at names id).name active rows.items (nowhere_named names (target_times boards.follow) (target_names rows Follow) id shows.there live parts.1);
+      facts = unled rows.entries (kept_at names id).name active (statement_facts Follow rows.statements) (nowhere_named names (probe_times boards.follow) (asked rows Follow) id shows.asked live parts.0);
     }
 
 -- if no name of a list leads to an entry, none of its names does
 pub leads_not : (es : List Entry) (m n : Values) (list : List Values) → list_any (is_same m) list ≡ true → filter (λ x. leads_to es x n) list ≡ [] → leads_to es m n ≡ true → ⊥
-leads_not es m n [] there none led = true≢false (sym there)
-leads_not es m n (x ∷ list) there none led = by (leads_to es x n) refl none (λ there none. leads_not es m n list there none led)
+leads_not es m n [] target_names none led = true≢false (sym target_names)
+leads_not es m n (x ∷ list) target_names none led = by (leads_to es x n) refl none (λ target_names none. leads_not es m n list target_names none led)
   where
     by : (b : Bool) → leads_to es x n ≡ b → cond b (x ∷ filter (λ y. leads_to es y n) list) (filter (λ y. leads_to es y n) list) ≡ [] → (list_any (is_same m) list ≡ true → filter (λ y. leads_to es y n) list ≡ [] → ⊥) → ⊥
     by true is h later = omega (arith, ap length h)
-    by false is h later = elim (or_cases (is_same m x) (list_any (is_same m) list) there) [
+    by false is h later = elim (or_cases (is_same m x) (list_any (is_same m) list) target_names) [
       | inl here ↦ true≢false (sym led ∙ ap (λ (y : Values). leads_to es y n) ((same_is m x).0 here) ∙ is)
       | inr among ↦ later among h
     ]

@@ -16,8 +16,8 @@ use Rattle.facts.specs.fact_laws.Asked.{refers_to, same_mode}
 use Rattle.facts.specs.fact_laws.Shown.{names_at}
 use Rattle.facts.proofs.fact_laws.Counted.{same_test}
 use Rattle.facts.proofs.fact_laws.Shown.{same_names}
-use Rattle.kept_facts.specs.Kept.{AreLive}
-use Rattle.facts.specs.fact_rows.Facts.{has_end, users_of}
+use Rattle.fact_boards.specs.Kept.{AreFactNames}
+use Rattle.facts.specs.fact_rows.Facts.{has_end_of_fact, users_of}
 use Rattle.facts.specs.fact_rows.Tickets.{is_empty}
 use Rattle.facts.specs.Facts.{FactsNow, HasFacts, is_used, table_of}
 use Rattle.facts.specs.Users.{users_in}
@@ -46,27 +46,27 @@ all_listed (j ∷ js) = (
   listed_more j js js (all_listed js),
 )
 
--- a statement refers to the name of each of its numbers
 same_itself : (m : Mode) → same_mode m m ≡ true
 same_itself Plain = refl
 same_itself Follow = refl
 
-name_among : (names : Names) (ids : List NameId) (q : ℕ) → has_end ids q ≡ true → list_any (is_same (kept_at names q).name) (names_at names ids) ≡ true
+name_among : (names : Names) (ids : List NameId) (q : ℕ) → has_end_of_fact ids q ≡ true → list_any (is_same (kept_at names q).name) (names_at names ids) ≡ true
 name_among names [] q h = absurd (true≢false (sym h))
-name_among names (x ∷ ids) q h = elim (or_cases (nat_eq x.0 q) (has_end ids q) h) [
+name_among names (x ∷ ids) q h = elim (or_cases (nat_eq x.0 q) (has_end_of_fact ids q) h) [
   | inl e ↦
       let n = (kept_at names q).name in
       or_left (is_same n (kept_at names x.0).name) (list_any (is_same n) (names_at names ids)) (ap (λ (k : ℕ). is_same n (kept_at names k).name) (eqb-true x.0 q e) ∙ same_test n n ∙ same_names n n refl)
   | inr later ↦ or_right (is_same (kept_at names q).name (kept_at names x.0).name) (list_any (is_same (kept_at names q).name) (names_at names ids)) (name_among names ids q later)
 ]
 
-pub refers_by : (names : Names) (mode : Mode) (s : Statement) (ids : List NameId) (q : ℕ) → s.mode ≡ mode → names_at names ids ≡ fact_names s.test → has_end ids q ≡ true → refers_to mode (kept_at names q).name s ≡ true
+-- a statement refers to a name if the name's number is one of the numbers of its facts
+pub refers_by : (names : Names) (mode : Mode) (s : Statement) (ids : List NameId) (q : ℕ) → s.mode ≡ mode → names_at names ids ≡ fact_names s.test → has_end_of_fact ids q ≡ true → refers_to mode (kept_at names q).name s ≡ true
 refers_by names mode s ids q moded named has = λ i. (ap (same_mode mode) moded ∙ same_itself mode) i && (ap (list_any (is_same (kept_at names q).name)) (sym named) ∙ name_among names ids q has) i
 
 -- one of the numbers is live if all are
-pub live_of : (names : Names) (ids : List NameId) (q : ℕ) → AreLive names ids → has_end ids q ≡ true → IsLive names q
+pub live_of : (names : Names) (ids : List NameId) (q : ℕ) → AreFactNames names ids → has_end_of_fact ids q ≡ true → IsLive names q
 live_of names [] q all h = absurd (true≢false (sym h))
-live_of names (x ∷ ids) q all h = elim (or_cases (nat_eq x.0 q) (has_end ids q) h) [
+live_of names (x ∷ ids) q all h = elim (or_cases (nat_eq x.0 q) (has_end_of_fact ids q) h) [
   | inl e ↦ subst (IsLive names) (eqb-true x.0 q e) all.0
   | inr later ↦ live_of names ids q all.1 later
 ]
@@ -78,7 +78,7 @@ facts_users names f rows tickets s Follow q live = s.follow.users q live
 
 -- so the ticket of a row is among the users of each of its facts
 module _ (names : Names) (f : FactsNow) (rows : Rows) (all : List StatementRow) (facts : HasFacts names f rows (tickets_in all)) (statements : statements_of all ≡ rows.statements) where
-  pub is_user : (j : StatementRow) → IsListed all j → IsNumbered names j → (q : ℕ) → has_end j.ids q ≡ true → among (users_of (table_of f j.statement.mode) q) j.ticket ≡ true
+  pub is_user : (j : StatementRow) → IsListed all j → IsNumbered names j → (q : ℕ) → has_end_of_fact j.ids q ≡ true → among (users_of (table_of f j.statement.mode) q) j.ticket ≡ true
   is_user j listed numbered q has =
       let mode = j.statement.mode in
       let live = live_of names j.ids q numbered.live has in
@@ -90,20 +90,20 @@ module _ (names : Names) (f : FactsNow) (rows : Rows) (all : List StatementRow) 
   some_user [] t h = absurd (true≢false (sym h))
   some_user (u ∷ us) t h = refl
 
-  pub in_use : (j : StatementRow) → IsListed all j → IsNumbered names j → (q : ℕ) → has_end j.ids q ≡ true → is_used (table_of f j.statement.mode) q ≡ true
+  pub in_use : (j : StatementRow) → IsListed all j → IsNumbered names j → (q : ℕ) → has_end_of_fact j.ids q ≡ true → is_used (table_of f j.statement.mode) q ≡ true
   in_use j listed numbered q has = some_user (users_of (table_of f j.statement.mode) q) j.ticket (is_user j listed numbered q has)
 
 -- ---- the users of changed facts
 
-in_flat : (g : ℕ → List ℕ) (ids : List NameId) (q t : ℕ) → has_end ids q ≡ true → among (g q) t ≡ true → among (flat_map (λ (id : NameId). g id.0) ids) t ≡ true
+in_flat : (g : ℕ → List ℕ) (ids : List NameId) (q t : ℕ) → has_end_of_fact ids q ≡ true → among (g q) t ≡ true → among (flat_map (λ (id : NameId). g id.0) ids) t ≡ true
 in_flat g [] q t h is = absurd (true≢false (sym h))
 in_flat g (x ∷ ids) q t h is =
-    list_any-append (λ u. nat_eq u t) (g x.0) (flat_map (λ (id : NameId). g id.0) ids) ∙ elim (or_cases (nat_eq x.0 q) (has_end ids q) h) [
+    list_any-append (λ u. nat_eq u t) (g x.0) (flat_map (λ (id : NameId). g id.0) ids) ∙ elim (or_cases (nat_eq x.0 q) (has_end_of_fact ids q) h) [
       | inl e ↦ or_left (among (g x.0) t) (among (flat_map (λ (id : NameId). g id.0) ids) t) (subst (λ (n : ℕ). among (g n) t ≡ true) (sym (eqb-true x.0 q e)) is)
       | inr later ↦ or_right (among (g x.0) t) (among (flat_map (λ (id : NameId). g id.0) ids) t) (in_flat g ids q t later is)
     ]
 
-pub in_changed : (f : FactsNow) (mode : Mode) (q t : ℕ) → has_end (table_of f mode).changed q ≡ true → among (users_of (table_of f mode) q) t ≡ true → among (users_of_changed f Plain ++ users_of_changed f Follow) t ≡ true
+pub in_changed : (f : FactsNow) (mode : Mode) (q t : ℕ) → has_end_of_fact (table_of f mode).changed q ≡ true → among (users_of (table_of f mode) q) t ≡ true → among (users_of_changed f Plain ++ users_of_changed f Follow) t ≡ true
 in_changed f Plain q t h is =
     list_any-append (λ u. nat_eq u t) (users_of_changed f Plain) (users_of_changed f Follow) ∙ or_left (among (users_of_changed f Plain) t) (among (users_of_changed f Follow) t) (in_flat (users_of f.plain) f.plain.changed q t h is)
 in_changed f Follow q t h is =

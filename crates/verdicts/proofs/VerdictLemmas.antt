@@ -16,9 +16,9 @@ use Rattle.cpe_rows.specs.declared.statement.Mode.TheVariants.{Plain, Follow}
 use Rattle.cpe_rows.specs.declared.statement.Statement.{Statement}
 use Rattle.cpe_rows.specs.declared.test.CheckKey.{CheckKey}
 use Rattle.cpe_rows.specs.declared.truth.Truth.{Truth}
-use Rattle.cpe_registry.specs.cpe_inventory.Kept.{kept_truth}
+use Rattle.name_registry.specs.check_results.Kept.{kept_truth}
 use Rattle.facts.specs.fact_laws.Shown.{names_at}
-use Rattle.facts.specs.fact_rows.Facts.{has_end, truth_of}
+use Rattle.facts.specs.fact_rows.Facts.{has_end_of_fact, truth_of_fact}
 use Rattle.facts.specs.Facts.{FactsNow, HasFacts, is_used, table_of}
 use Rattle.statement_rows.specs.Readings.{FactTruths, truths_of}
 use Rattle.statement_rows.specs.Rows.{verdict_by}
@@ -31,16 +31,16 @@ abbrev pub VerdictsAreTruths : Type 0
 VerdictsAreTruths = (truth : FactTruths) (checks : List (CheckKey × Truth)) (s : Statement) (ids : List NameId) (fact : Values → Truth) → map fact (fact_names s.test) ≡ truths_of truth s.mode ids → verdict_by truth checks s ids ≡ test_truth fact (kept_truth checks) s.test
 
 -- a fact in use has the truth of its name
-pub fact_right : (names : Names) (f : FactsNow) (rows : Rows) (tickets : List ℕ) → HasFacts names f rows tickets → (mode : Mode) (q : ℕ) → is_used (table_of f mode) q ≡ true → truth_of (table_of f mode) q ≡ fact_truth rows mode (kept_at names q).name
+pub fact_right : (names : Names) (f : FactsNow) (rows : Rows) (tickets : List ℕ) → HasFacts names f rows tickets → (mode : Mode) (q : ℕ) → is_used (table_of f mode) q ≡ true → truth_of_fact (table_of f mode) q ≡ fact_truth rows mode (kept_at names q).name
 fact_right names f rows tickets s Plain q used = s.plain.truths q used refl
 fact_right names f rows tickets s Follow q used = s.follow.truths q used refl
 
 module _ (law : VerdictsAreTruths) (names : Names) (v : VerdictsNow) (rows : Rows) (h : HasVerdicts names v rows) where
-  same_truths : (mode : Mode) (ids : List NameId) → ((q : ℕ) → has_end ids q ≡ true → is_used (table_of v.facts mode) q ≡ true) → map (fact_truth rows mode) (names_at names ids) ≡ truths_of (truths_in v.facts) mode ids
+  same_truths : (mode : Mode) (ids : List NameId) → ((q : ℕ) → has_end_of_fact ids q ≡ true → is_used (table_of v.facts mode) q ≡ true) → map (fact_truth rows mode) (names_at names ids) ≡ truths_of (truths_in v.facts) mode ids
   same_truths mode [] used = refl
   same_truths mode (x ∷ ids) used = λ i.
-      sym (fact_right names v.facts rows (tickets_in v.statements.rows) h.facts mode x.0 (used x.0 (or_left (nat_eq x.0 x.0) (has_end ids x.0) (eq-eqb x.0 x.0 refl)))) i
-      ∷ same_truths mode ids (λ q is. used q (or_right (nat_eq x.0 q) (has_end ids q) is)) i
+      sym (fact_right names v.facts rows (tickets_in v.statements.rows) h.facts mode x.0 (used x.0 (or_left (nat_eq x.0 x.0) (has_end_of_fact ids x.0) (eq-eqb x.0 x.0 refl)))) i
+      ∷ same_truths mode ids (λ q is. used q (or_right (nat_eq x.0 q) (has_end_of_fact ids q) is)) i
 
   one_verdict : (j : StatementRow) → IsListed v.statements.rows j → IsNumbered names j → judge (truths_in v.facts) v.statements.checks j ≡ j → j.verdict ≡ verdict rows j.statement
   one_verdict j listed numbered judged =

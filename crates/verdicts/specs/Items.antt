@@ -13,8 +13,8 @@ use Rattle.cpe_rows.specs.declared.entry.Entry.{Entry}
 use Rattle.cpe_rows.specs.declared.statement.Mode.{Mode}
 use Rattle.cpe_rows.specs.declared.statement.Mode.TheVariants.{Plain, Follow}
 use Rattle.facts.specs.fact_laws.Asked.{leads}
-use Rattle.cpe_registry.specs.Registered.{items_leading}
-use Rattle.kept_facts.specs.Lists.{IsWide}
+use Rattle.name_registry.specs.Registered.{items_leading}
+use Rattle.fact_boards.specs.Lists.{IsWide}
 use Rattle.facts.specs.Facts.{FactsNow}
 
 -- The boards have room for an item with this many ends.
@@ -29,9 +29,9 @@ abbrev pub ArePassing : Names → Board → (Values → Bool) → List NameId �
 ArePassing table board passes found = SameElements (filter (λ (id : NameId). passes (kept_at table id.0).name) (ids (target_ids board))) found
 
 -- the items that lead in a mode to these names: in mode plain the names are items, and each leads to itself
-abbrev pub items_at : List Entry → List Values → Mode → List Values → List Values
-items_at entries items Plain names = names
-items_at entries items Follow names = flat_map (items_leading entries items) names
+abbrev pub items_of_fact : List Entry → List Values → Mode → List Values → List Values
+items_of_fact entries items Plain names = names
+items_of_fact entries items Follow names = flat_map (items_leading entries items) names
 
 -- Of the items, exactly those are among the found names which lead in a mode to a name that passes.
 abbrev pub AreItemsTo : Rows → Mode → (Values → Bool) → List Values → Type 0

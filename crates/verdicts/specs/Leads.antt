@@ -9,11 +9,11 @@ use Rattle.cpe_rows.specs.declared.entry.Entry.{Entry}
 use Rattle.cpe_rows.specs.declared.statement.Mode.TheVariants.{Follow}
 use Rattle.cpe_dictionary.specs.Plans.{IsAllowed, ends_by}
 use Rattle.cpe_dictionary.specs.declared.plans.Plan.{Plan}
-use Rattle.cpe_registry.specs.Registered.{name_in, Registered}
+use Rattle.name_registry.specs.Registered.{name_in, Registered}
 use Rattle.facts.specs.fact_laws.Shown.{names_at}
-use Rattle.facts.specs.fact_laws.Asked.{facts_in}
-use Rattle.kept_facts.specs.Kept.{AreLive}
-use Rattle.facts.specs.fact_rows.Facts.{fact_at, facts_of, FactTable, IsUnder, KeepsLinks}
+use Rattle.facts.specs.fact_laws.Asked.{statement_facts}
+use Rattle.fact_boards.specs.Kept.{AreFactNames}
+use Rattle.facts.specs.fact_rows.Facts.{fact_at, facts_with_end, FactTable, IsUnder, KeepsLinks}
 use Rattle.facts.specs.Facts.{FactsNow}
 use Rattle.facts.specs.LeadCalls.{AreReadyEnds, IsLead}
 use Rattle.facts.specs.Room.{KeepsFacts}
@@ -39,23 +39,23 @@ pub record MayReadyLead (registry : Registered) (v : VerdictsNow) (id : NameId) 
   pub number : position (is_named (name_in registry.table id)) registry.entries ≡ Some plan.number
   pub allowed : IsAllowed registry.entries plan.number plan.next
   -- registry and verdicts are those of lawful rows
-  pub stood : (rows : Rows) × AreOfRows registry v rows
+  pub rows_before : (rows : Rows) × AreOfRows registry v rows
 
 -- No item and no followed fact leads to the entry of a name.
 pub record IsUnled (rows : Rows) (n : Values) : Type 0 where
   pub items : filter (λ x. leads_to rows.entries x n) rows.items ≡ []
-  pub facts : filter (λ x. leads_to rows.entries x n) (facts_in Follow rows.statements) ≡ []
+  pub facts : filter (λ x. leads_to rows.entries x n) (statement_facts Follow rows.statements) ≡ []
 
 -- The fact will have these ends after the planned change, and it is linked to them already.
-pub record IsPlanned (table : Names) (entries : List Entry) (plan : Plan) (t : FactTable) (led : Led) : Type 0 where
-  pub live : AreLive table led.ends.items
+pub record IsLinkedAhead (table : Names) (entries : List Entry) (plan : Plan) (t : FactTable) (led : Led) : Type 0 where
+  pub live : AreFactNames table led.ends.items
   pub names : names_at table led.ends.items ≡ ends_by entries (Some plan) (kept_at table led.fact.0).name
-  pub under : IsUnder (facts_of t) led.fact.0 led.ends.items
+  pub under : IsUnder (facts_with_end t) led.fact.0 led.ends.items
 
 -- Facts of mode follow were linked to more ends, and nothing else changed.
 pub record MoreLinks (old new : FactsNow) : Type 0 where
   pub facts : KeepsFacts old new
   pub stay : (q : ℕ) → fact_at new.follow q ≡ fact_at old.follow q
-  pub links : KeepsLinks (facts_of old.follow) (facts_of new.follow)
+  pub links : KeepsLinks (facts_with_end old.follow) (facts_with_end new.follow)
   pub boards : new.boards ≡ old.boards
   pub plain : new.plain ≡ old.plain

@@ -10,9 +10,9 @@ use Rattle.cpe_rows.specs.Rows.{has_id, Rows}
 use Rattle.cpe_rows.specs.declared.edit.Edit.TheVariants as edit
 use Rattle.cpe_rows.specs.declared.statement.Mode.{Mode}
 use Rattle.cpe_rows.specs.declared.statement.Statement.{Statement}
-use Rattle.facts.specs.fact_laws.Shown.{names_at, times_in}
-use Rattle.kept_facts.specs.Kept.{AreLive}
-use Rattle.facts.specs.fact_rows.Facts.{has_end, leads_of, users_of}
+use Rattle.facts.specs.fact_laws.Shown.{names_at, times_in_list}
+use Rattle.fact_boards.specs.Kept.{AreFactNames}
+use Rattle.facts.specs.fact_rows.Facts.{has_end_of_fact, leads_of, users_of}
 use Rattle.facts.specs.fact_rows.Tickets.{is_empty, without}
 use Rattle.facts.specs.Facts.{FactsNow, table_of}
 use Rattle.statement_rows.specs.State.{is_of, use_of}
@@ -22,9 +22,9 @@ use Rattle.verdicts.specs.declared.removal.Removal.{Removal}
 -- What is removed with a statement of this mode, which uses the facts of these numbers by this ticket.
 pub record IsRemovalOf (f : FactsNow) (mode : Mode) (ids : List NameId) (ticket : ℕ) (r : Removal) : Type 0 where
   -- the last facts are exactly those of its facts that no other ticket uses
-  pub alone : (q : ℕ) → has_end r.last.items q ≡ (has_end ids q && is_empty (without ticket (users_of (table_of f mode) q)))
+  pub alone : (q : ℕ) → has_end_of_fact r.last.items q ≡ (has_end_of_fact ids q && is_empty (without ticket (users_of (table_of f mode) q)))
   -- each of them is there once
-  pub once : (q : ℕ) → times_in q r.last.items ≤ 1
+  pub once : (q : ℕ) → times_in_list q r.last.items ≤ 1
   -- the names asked are those to which they lead, fact after fact
   pub asked : r.asked.items ≡ flat_map (λ (x : NameId). leads_of mode (table_of f mode) x.0) r.last.items
 
@@ -42,7 +42,7 @@ pub record StatementRemoved (table : Names) (old new : VerdictsNow) (id : List �
   -- the verdicts are those of the rows without it
   pub verdicts : (rows : Rows) → HasVerdicts table old rows → HasVerdicts table new (after rows (edit.DropStatement id))
   -- the numbers are those of names, in the order of its test
-  pub live : AreLive table ids
+  pub live : AreFactNames table ids
   pub named : (s : Statement) → find (has_id id) (statements_in old) ≡ Some s → names_at table ids ≡ fact_names s.test
   -- callers know the same verdicts of the others
   pub known : known_in new ≡ map (λ j. j.known) (without_first (is_of id) old.statements.rows)

@@ -1,6 +1,6 @@
 -- The rows of a registry and of verdicts.
 use Rattle.std.specs.Prelude.{◌≡◌}
-use Rattle.cpe_registry.specs.Registered.{Registered}
+use Rattle.name_registry.specs.Registered.{Registered}
 use Rattle.cpe_rows.specs.Lawful.{IsLawful}
 use Rattle.cpe_rows.specs.Rows.{Rows}
 use Rattle.verdicts.specs.Verdicts.{HasVerdicts, VerdictsNow}

@@ -11,10 +11,10 @@ use Rattle.cpe_rows.specs.declared.statement.Statement.{Statement}
 use Rattle.cpe_rows.specs.declared.test.CheckKey.{CheckKey}
 use Rattle.cpe_rows.specs.declared.truth.Truth.{Truth}
 use Rattle.facts.specs.fact_laws.Shown.{names_at}
-use Rattle.kept_facts.specs.Kept.{AreLive, AreSound}
-use Rattle.facts.specs.fact_rows.Facts.{truth_of, users_of}
+use Rattle.fact_boards.specs.Kept.{AreFactNames, AreSound}
+use Rattle.facts.specs.fact_rows.Facts.{truth_of_fact, users_of}
 use Rattle.facts.specs.Facts.{AreUsed, FactsNow, HasFacts, table_of}
-use Rattle.statement_rows.specs.Askers.{AreAsked}
+use Rattle.statement_rows.specs.Askers.{AreAskers}
 use Rattle.statement_rows.specs.Readings.{FactTruths}
 use Rattle.statement_rows.specs.State.{AreJudged, State, StatementRow}
 
@@ -39,7 +39,7 @@ tickets_in rows = map (λ j. j.ticket) rows
 
 -- the truths that are kept of facts
 abbrev pub truths_in : FactsNow → FactTruths
-truths_in f = λ mode q. truth_of (table_of f mode) q
+truths_in f = λ mode q. truth_of_fact (table_of f mode) q
 
 -- the tickets of the statements that use a fact of a mode whose truth the last edit replaced
 abbrev pub users_of_changed : FactsNow → Mode → List ℕ
@@ -47,16 +47,16 @@ users_of_changed f mode = flat_map (λ (id : NameId). users_of (table_of f mode)
 
 -- The numbers of a statement's fact references are those of its names.
 pub record IsNumbered (names : Names) (j : StatementRow) : Type 0 where
-  pub live : AreLive names j.ids
+  pub live : AreFactNames names j.ids
   pub named : names_at names j.ids ≡ fact_names j.statement.test
 
 -- Nothing is kept that no statement needs: no fact, and no list of the statements that ask for a check.
 pub record AreNeeded (v : VerdictsNow) : Type 0 where
   pub facts : AreUsed v.facts
-  pub askers : AreAsked v.statements.askers
+  pub askers : AreAskers v.statements.askers
 
--- Statements and results are those of the rows, and each verdict is that of the rows. `only` says which facts and lists of checks
--- are kept.
+-- Statements and results are those of the rows, and each verdict is that of the rows. `only` is a
+-- condition on what else is kept: which facts, and which lists of the statements that ask for a check.
 pub record HasVerdictsBy (only : Type 0) (names : Names) (v : VerdictsNow) (rows : Rows) : Type 0 where
   pub statements : statements_in v ≡ rows.statements
   pub checks : checks_in v ≡ rows.checks

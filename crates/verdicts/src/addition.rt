@@ -6,11 +6,11 @@ ghost use Rattle.cpe_rows.specs.Prelude.{fact_names, first_some, IsLawful, Rows}
 ghost use Rattle.cpe_rows.specs.Causes.{statement_causes};
 ghost use Rattle.cpe_rows.specs.declared.entry.Entry.{Entry};
 ghost use Rattle.cpe_rows.specs.declared.statement.Statement.{Statement};
-ghost use Rattle.facts.specs.fact_laws.Shown.{names_at, times_in};
-ghost use Rattle.kept_facts.specs.Kept.{AreLive};
-ghost use Rattle.facts.specs.fact_rows.Facts.{fact_at, has_end};
+ghost use Rattle.facts.specs.fact_laws.Shown.{names_at, times_in_list};
+ghost use Rattle.fact_boards.specs.Kept.{AreFactNames};
+ghost use Rattle.facts.specs.fact_rows.Facts.{fact_at, has_end_of_fact};
 ghost use Rattle.facts.specs.Facts.{is_used, table_of};
-ghost use Rattle.statement_rows.specs.Askers.{AreAsked, AreAskedBut};
+ghost use Rattle.statement_rows.specs.Askers.{AreAskers, AreAskedBut};
 ghost use Rattle.statement_rows.specs.Readings.{check_keys};
 ghost use Rattle.statement_rows.specs.State.{IsReadyRow, SameRows};
 ghost use Rattle.verdicts.specs.Addition.{AreReady, FreshBeside, HasVerdictsBeside, IsAddition, StatementAdded};
@@ -19,9 +19,9 @@ ghost use Rattle.verdicts.specs.Verdicts.{HasVerdicts, SameStatements, statement
 use crate::fresh::{fresh_of, ready_facts};
 use crate::truths::Truths;
 use crate::verdicts::Verdicts;
-use cpe_registry::Registry;
 use cpe_rows::{Memory, Statement};
 use name_index::{NameId, NameTable, Steps};
+use name_registry::Registry;
 use statement_rows::ReadyStatement;
 use std::alloc::Global;
 use std::sync::ledger::Ledger;
@@ -48,10 +48,10 @@ impl Verdicts {
         statement: Statement,
         ids: &[NameId],
     ) -> Result<Addition, Memory>
-        requires live { AreLive registry.now.table ids.now }
+        requires live { AreFactNames registry.now.table ids.now }
         requires named { names_at registry.now.table ids.now ≡ fact_names statement.test }
         requires none { first_some (statement_causes (statements_in self.old) statement) ≡ None }
-        requires stood { (rows : Rows) × IsLawful rows × HasVerdicts registry.now.table self.old rows }
+        requires rows_before { (rows : Rows) × IsLawful rows × HasVerdicts registry.now.table self.old rows }
         ensures ready { IfOk result (IsAddition self.new registry.now.table registry.now.entries statement ids.now) }
         ensures verdicts { (rows : Rows) → HasVerdicts registry.now.table self.old rows → IfOk result (HasVerdictsBeside registry.now.table self.new rows statement) }
         ensures err { (rows : Rows) → HasVerdicts registry.now.table self.old rows → OnErr result (HasVerdicts registry.now.table self.new rows) }
@@ -89,18 +89,18 @@ impl Verdicts {
         ids: &[NameId],
         fresh: &[NameId],
     ) -> Result<(ReadyStatement, Vec<NameId>), Memory>
-        requires live { AreLive registry.now.table fresh.now }
-        requires once { (q : ℕ) → times_in q fresh.now ≤ 1 }
-        requires unused { (q : ℕ) → has_end fresh.now q ≡ true → fact_at (table_of self.old.facts statement.mode) q ≡ None }
-        requires whole { (q : ℕ) → has_end ids.now q ≡ true → has_end fresh.now q ≡ false → is_used (table_of self.old.facts statement.mode) q ≡ true }
+        requires live { AreFactNames registry.now.table fresh.now }
+        requires once { (q : ℕ) → times_in_list q fresh.now ≤ 1 }
+        requires unused { (q : ℕ) → has_end_of_fact fresh.now q ≡ true → fact_at (table_of self.old.facts statement.mode) q ≡ None }
+        requires whole { (q : ℕ) → has_end_of_fact ids.now q ≡ true → has_end_of_fact fresh.now q ≡ false → is_used (table_of self.old.facts statement.mode) q ≡ true }
         requires none { first_some (statement_causes (statements_in self.old) statement) ≡ None }
-        requires stood { (rows : Rows) × IsLawful rows × HasVerdicts registry.now.table self.old rows }
+        requires rows_before { (rows : Rows) × IsLawful rows × HasVerdicts registry.now.table self.old rows }
         ensures beside { FreshBeside self.old.facts self.new.facts registry.now.table statement.mode fresh.now }
         ensures facts { IfOk result (λ p. AreReady self.new.facts registry.now.table registry.now.entries statement.mode ids.now fresh.now p.1.items) }
         ensures same { SameRows self.old.statements self.new.statements }
         ensures row { IfOk result (λ p. IsReadyRow self.new.statements statement ids.now p.0) }
-        ensures asked { AreAsked self.old.statements.askers → OnOk result (AreAskedBut (check_keys statement.test) self.new.statements.askers) }
-        ensures left { AreAsked self.old.statements.askers → OnErr result (AreAsked self.new.statements.askers) }
+        ensures asked { AreAskers self.old.statements.askers → OnOk result (AreAskedBut (check_keys statement.test) self.new.statements.askers) }
+        ensures left { AreAskers self.old.statements.askers → OnErr result (AreAskers self.new.statements.askers) }
     {
         let mode = statement.mode;
         let asked = ready_facts(&mut self.facts, alloc, registry, mode, ids, fresh)?;

@@ -6,20 +6,20 @@ ghost use Rattle.cpe_dictionary.specs.Plans.{IsAllowed, ends_by};
 ghost use Rattle.name_index.specs.Table.{IsLive};
 ghost use Rattle.name_index.specs.declared.table.NameId.{NameId};
 ghost use Rattle.facts.specs.fact_laws.Shown.{names_at};
-ghost use Rattle.kept_facts.specs.Kept.{AreLive, AreSound};
+ghost use Rattle.fact_boards.specs.Kept.{AreFactNames, AreSound};
 ghost use Rattle.facts.specs.fact_rows.Facts.{leads_of};
 ghost use Rattle.facts.specs.Facts.{HasFacts, is_used, table_of};
 ghost use Rattle.facts.specs.LeadCalls.{HasRoomForEnds};
 ghost use Rattle.facts.specs.Room.{KeepsFacts};
 ghost use Rattle.facts.specs.declared.lead.Led.{Led};
-ghost use Rattle.verdicts.specs.Leads.{IsPlanned, MoreLinks};
+ghost use Rattle.verdicts.specs.Leads.{IsLinkedAhead, MoreLinks};
 
 use cpe_dictionary::Plan;
-use cpe_registry::Registry;
 use cpe_rows::{Memory, Mode};
+use fact_boards::WantedRoom;
 use facts::{Facts, Led};
-use kept_facts::Wanted;
 use name_index::{NameId, NameTable};
+use name_registry::Registry;
 use std::alloc::Global;
 
 // How many new names of items or of facts an edit may have. Lawful rows have fewer.
@@ -55,8 +55,8 @@ pub(crate) fn all_ends(
     registry: &Registry,
     names: &[NameId],
 ) -> Result<Vec<NameId>, Memory>
-    requires { AreLive registry.now.table names.now }
-    ensures live { IfOk result (λ v. AreLive registry.now.table v.items) }
+    requires { AreFactNames registry.now.table names.now }
+    ensures live { IfOk result (λ v. AreFactNames registry.now.table v.items) }
     ensures names { IfOk result (λ v. names_at registry.now.table v.items ≡ flat_map (ends_in registry.now.entries) (names_at registry.now.table names.now)) }
 {
     let mut all = Vec::new(alloc);
@@ -74,9 +74,9 @@ pub(crate) fn all_ends_after(
     plan: &Plan,
     names: &[NameId],
 ) -> Result<Vec<NameId>, Memory>
-    requires live { AreLive registry.now.table names.now }
+    requires live { AreFactNames registry.now.table names.now }
     requires allowed { IsAllowed registry.now.entries plan.now.number plan.now.next }
-    ensures live { IfOk result (λ v. AreLive registry.now.table v.items) }
+    ensures live { IfOk result (λ v. AreFactNames registry.now.table v.items) }
     ensures names { IfOk result (λ v. names_at registry.now.table v.items ≡ flat_map (ends_by registry.now.entries (Some plan.now)) (names_at registry.now.table names.now)) }
 {
     let mut all = Vec::new(alloc);
@@ -115,7 +115,7 @@ fn link_one(
     requires allowed { IsAllowed registry.now.entries plan.now.number plan.now.next }
     ensures more { MoreLinks facts.old facts.new }
     ensures fact { IfOk result (λ led. led.fact ≡ fact) }
-    ensures planned { IfOk result (IsPlanned registry.now.table registry.now.entries plan.now facts.new.follow) }
+    ensures planned { IfOk result (IsLinkedAhead registry.now.table registry.now.entries plan.now facts.new.follow) }
 {
     let ends = registry.ends_after(alloc, plan, fact)?;
     facts.link(alloc, fact, &ends)?;
@@ -130,11 +130,11 @@ pub(crate) fn link_all(
     plan: &Plan,
     ids: &[NameId],
 ) -> Result<Vec<Led>, Memory>
-    requires live { AreLive registry.now.table ids.now }
+    requires live { AreFactNames registry.now.table ids.now }
     requires allowed { IsAllowed registry.now.entries plan.now.number plan.now.next }
     ensures more { MoreLinks facts.old facts.new }
     ensures facts { IfOk result (λ v. map (λ x. x.fact) v.items ≡ ids.now) }
-    ensures planned { IfOk result (λ v. AllByRecursion (IsPlanned registry.now.table registry.now.entries plan.now facts.new.follow) v.items) }
+    ensures planned { IfOk result (λ v. AllByRecursion (IsLinkedAhead registry.now.table registry.now.entries plan.now facts.new.follow) v.items) }
 {
     let mut all = Vec::new(alloc);
     for id in ids {
@@ -173,8 +173,8 @@ pub(crate) fn reserve_ends(
     if of_items.len() > MOST_ENDS || of_facts.len() > MOST_ENDS {
         return Err(Memory);
     }
-    let plain = Wanted { asked: 0, there: 0 };
-    let follow = Wanted {
+    let plain = WantedRoom { asked: 0, there: 0 };
+    let follow = WantedRoom {
         asked: of_facts.len() as u32,
         there: of_items.len() as u32,
     };

@@ -3,19 +3,19 @@ ghost use Rattle.std.specs.Prelude.{◌≡◌, ◌≤◌, ◌++◌, ◌∷◌, �
 ghost use Rattle.name_index.specs.declared.table.NameId.{NameId};
 ghost use Rattle.name_index.specs.Table.{IsLive, Names};
 ghost use Rattle.cpe_rows.specs.Prelude.{IsLawful, Rows};
-ghost use Rattle.facts.specs.fact_laws.Shown.{times_in};
-ghost use Rattle.kept_facts.specs.Kept.{AreLive};
-ghost use Rattle.facts.specs.fact_rows.Facts.{fact_at, has_end, leads_by, OthersStay};
+ghost use Rattle.facts.specs.fact_laws.Shown.{times_in_list};
+ghost use Rattle.fact_boards.specs.Kept.{AreFactNames};
+ghost use Rattle.facts.specs.fact_rows.Facts.{fact_at, has_end_of_fact, leads_by, OthersStay};
 ghost use Rattle.facts.specs.Facts.{HasFacts, is_used, LeadsTo, table_of};
 ghost use Rattle.facts.specs.Room.{KeepsFacts};
 ghost use Rattle.verdicts.specs.Addition.{AreAdded, AreFresh, AreReady, FreshBeside, HasAskedRoom};
 
 use crate::ends::{MOST_ENDS, leads_of_all};
-use cpe_registry::Registry;
 use cpe_rows::{Memory, Mode};
+use fact_boards::{WantedRoom, keep_each_once};
 use facts::Facts;
-use kept_facts::{Wanted, keep_each_once};
 use name_index::{NameId, NameTable};
+use name_registry::Registry;
 use std::alloc::Global;
 
 // The facts among these numbers that no statement of the mode uses, each once.
@@ -26,7 +26,7 @@ pub(crate) fn fresh_of(
     ids: &[NameId],
 ) -> Result<Vec<NameId>, Memory>
     ensures fresh { IfOk result (λ v. AreFresh (table_of facts.now mode) ids.now v.items) }
-    ensures live { (names : Names) → AreLive names ids.now → IfOk result (λ v. AreLive names v.items) }
+    ensures live { (names : Names) → AreFactNames names ids.now → IfOk result (λ v. AreFactNames names v.items) }
 {
     let mut fresh = unused_of(facts, alloc, mode, ids)?;
     keep_each_once(&mut fresh);
@@ -100,9 +100,9 @@ fn add_all_fresh(
     mode: Mode,
     fresh: &[NameId],
 ) -> Result<(), Memory>
-    requires live { AreLive registry.now.table fresh.now }
-    requires once { (q : ℕ) → times_in q fresh.now ≤ 1 }
-    requires none { (q : ℕ) → has_end fresh.now q ≡ true → fact_at (table_of facts.old mode) q ≡ None }
+    requires live { AreFactNames registry.now.table fresh.now }
+    requires once { (q : ℕ) → times_in_list q fresh.now ≤ 1 }
+    requires none { (q : ℕ) → has_end_of_fact fresh.now q ≡ true → fact_at (table_of facts.old mode) q ≡ None }
     ensures beside { FreshBeside facts.old facts.new registry.now.table mode fresh.now }
     ensures added { OnOk result (AreAdded facts.new registry.now.table registry.now.entries mode fresh.now) }
 {
@@ -128,11 +128,11 @@ fn reserve_asked(
     if asked.len() > MOST_ENDS {
         return Err(Memory);
     }
-    let wanted = Wanted {
+    let wanted = WantedRoom {
         asked: asked.len() as u32,
         there: 0,
     };
-    let none = Wanted { asked: 0, there: 0 };
+    let none = WantedRoom { asked: 0, there: 0 };
     match mode {
         Mode::Plain => facts.reserve(table, wanted, none),
         Mode::Follow => facts.reserve(table, none, wanted),
@@ -149,11 +149,11 @@ pub(crate) fn ready_facts(
     ids: &[NameId],
     fresh: &[NameId],
 ) -> Result<Vec<NameId>, Memory>
-    requires live { AreLive registry.now.table fresh.now }
-    requires once { (q : ℕ) → times_in q fresh.now ≤ 1 }
-    requires none { (q : ℕ) → has_end fresh.now q ≡ true → fact_at (table_of facts.old mode) q ≡ None }
-    requires whole { (q : ℕ) → has_end ids.now q ≡ true → has_end fresh.now q ≡ false → is_used (table_of facts.old mode) q ≡ true }
-    requires stood { (rows : Rows) × (tickets : List ℕ) × IsLawful rows × HasFacts registry.now.table facts.old rows tickets }
+    requires live { AreFactNames registry.now.table fresh.now }
+    requires once { (q : ℕ) → times_in_list q fresh.now ≤ 1 }
+    requires none { (q : ℕ) → has_end_of_fact fresh.now q ≡ true → fact_at (table_of facts.old mode) q ≡ None }
+    requires whole { (q : ℕ) → has_end_of_fact ids.now q ≡ true → has_end_of_fact fresh.now q ≡ false → is_used (table_of facts.old mode) q ≡ true }
+    requires rows_before { (rows : Rows) × (tickets : List ℕ) × IsLawful rows × HasFacts registry.now.table facts.old rows tickets }
     ensures beside { FreshBeside facts.old facts.new registry.now.table mode fresh.now }
     ensures ready { IfOk result (λ v. AreReady facts.new registry.now.table registry.now.entries mode ids.now fresh.now v.items) }
 {

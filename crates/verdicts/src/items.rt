@@ -5,24 +5,24 @@ ghost use Rattle.name_index.specs.Prelude.{IsLive, Names, StepsWithin};
 ghost use Rattle.cpe_rows.specs.Prelude.{after, covers, is_same, IsLawful, IsLower, maybe, Rows};
 ghost use Rattle.cpe_rows.specs.declared.edit.Edit.TheVariants as edit;
 ghost use Rattle.cpe_rows.specs.declared.statement.Mode.TheVariants.{Follow};
-ghost use Rattle.cpe_registry.specs.Registered.{items_leading};
+ghost use Rattle.name_registry.specs.Registered.{items_leading};
 ghost use Rattle.name_index.specs.product_orders.declared.products.Side.TheVariants as side;
 ghost use Rattle.facts.specs.level_board.Board.{FitsBoard};
 ghost use Rattle.facts.specs.fact_laws.Shown.{name_at, near_names};
-ghost use Rattle.kept_facts.specs.Prelude.{AreLive, board_of, ids, is_met, names_at, target_ids};
+ghost use Rattle.fact_boards.specs.Prelude.{AreFactNames, board_of_mode, ids, is_met, names_at, target_ids};
 ghost use Rattle.facts.specs.Facts.{LeadsTo};
 ghost use Rattle.facts.specs.Looks.{item_looks};
-ghost use Rattle.verdicts.specs.Items.{AreItemsTo, ArePassing, HasRoomForItem, items_at};
+ghost use Rattle.verdicts.specs.Items.{AreItemsTo, ArePassing, HasRoomForItem, items_of_fact};
 ghost use Rattle.verdicts.specs.Rows.{AreOfRows};
 ghost use Rattle.verdicts.specs.Verdicts.{HasVerdicts, SameStatements};
 
 use crate::refresh::refresh;
 use crate::verdicts::Verdicts;
-use cpe_registry::Registry;
 use cpe_rows::{List, Memory, Mode, Wfn};
+use fact_boards::{KeptFacts, WantedRoom};
 use facts::Met;
-use kept_facts::{KeptFacts, Wanted};
 use name_index::{NameId, NameTable, Steps};
+use name_registry::Registry;
 use std::alloc::Global;
 use std::marker::Brand;
 use std::sync::ledger::{Blank, Ledger};
@@ -34,13 +34,13 @@ impl Verdicts {
     /// Only that memory ran out.
     pub fn reserve_item(&mut self, table: &NameTable, ends: &[NameId]) -> Result<(), Memory>
         requires few { length ends.now ≤ 256 }
-        requires stood { (rows : Rows) × IsLawful rows × HasVerdicts table.now self.old rows }
+        requires rows_before { (rows : Rows) × IsLawful rows × HasVerdicts table.now self.old rows }
         ensures verdicts { (names : Names) (rows : Rows) → HasVerdicts names self.old rows → HasVerdicts names self.new rows }
         ensures same { SameStatements self.old self.new }
         ensures room { OnOk result (HasRoomForItem self.new.facts table.now (length ends.now)) }
     {
-        let plain = Wanted { asked: 0, there: 1 };
-        let follow = Wanted {
+        let plain = WantedRoom { asked: 0, there: 1 };
+        let follow = WantedRoom {
             asked: 0,
             there: ends.len() as u32,
         };
@@ -59,7 +59,7 @@ impl Verdicts {
     )
         requires live { IsLive table.now item.0 }
         requires room { HasRoomForItem self.old.facts table.now (length ends.now) }
-        requires stood { (rows : Rows) × IsLawful rows × HasVerdicts table.now self.old rows × LeadsTo table.now rows.entries Follow item.0 ends.now }
+        requires rows_before { (rows : Rows) × IsLawful rows × HasVerdicts table.now self.old rows × LeadsTo table.now rows.entries Follow item.0 ends.now }
         ensures verdicts { (rows : Rows) → HasVerdicts table.now self.old rows → LeadsTo table.now rows.entries Follow item.0 ends.now → HasVerdicts table.now self.new (after rows (edit.Item (name_at table.now item))) }
         ensures same { SameStatements self.old self.new }
         ensures steps { (rows : Rows) → HasVerdicts table.now self.old rows → LeadsTo table.now rows.entries Follow item.0 ends.now → StepsWithin steps.old steps.new (item_looks rows (name_at table.now item)) }
@@ -80,7 +80,7 @@ impl Verdicts {
         steps: &mut Steps<L>,
     )
         requires live { IsLive table.now item.0 }
-        requires stood { (rows : Rows) × HasVerdicts table.now self.old rows × LeadsTo table.now rows.entries Follow item.0 ends.now × (list_any (is_same (name_at table.now item)) rows.items ≡ true) }
+        requires rows_before { (rows : Rows) × HasVerdicts table.now self.old rows × LeadsTo table.now rows.entries Follow item.0 ends.now × (list_any (is_same (name_at table.now item)) rows.items ≡ true) }
         ensures verdicts { (rows : Rows) → HasVerdicts table.now self.old rows → LeadsTo table.now rows.entries Follow item.0 ends.now → list_any (is_same (name_at table.now item)) rows.items ≡ true
             → HasVerdicts table.now self.new (after rows (edit.DropItem (name_at table.now item))) }
         ensures same { SameStatements self.old self.new }
@@ -106,7 +106,7 @@ impl Verdicts {
         steps: &mut Steps<L>,
     ) -> Result<(List<Wfn>, List<Wfn>), Memory>
         requires lower { IsLower name.now }
-        requires stood { (rows : Rows) × AreOfRows registry.now self.now rows }
+        requires rows_before { (rows : Rows) × AreOfRows registry.now self.now rows }
         ensures covered { (rows : Rows) → AreOfRows registry.now self.now rows → IfOk result (λ p. p.0 ≡ filter (covers name.now) rows.items) }
         ensures maybe { (rows : Rows) → AreOfRows registry.now self.now rows → IfOk result (λ p. p.1 ≡ filter (maybe name.now) rows.items) }
         ensures steps { (rows : Rows) → AreOfRows registry.now self.now rows → StepsWithin steps.old steps.new (near_names side.Source name.now.product rows.items) }
@@ -134,8 +134,8 @@ impl Verdicts {
         name: &Wfn,
     ) -> Result<Vec<NameId>, Memory>
         requires lower { IsLower name.now }
-        requires stood { (rows : Rows) × AreOfRows registry.now self.now rows }
-        ensures live { IfOk result (λ v. AreLive registry.now.table v.items) }
+        requires rows_before { (rows : Rows) × AreOfRows registry.now self.now rows }
+        ensures live { IfOk result (λ v. AreFactNames registry.now.table v.items) }
         ensures items { (rows : Rows) → AreOfRows registry.now self.now rows → IfOk result (λ v. AreItemsTo rows mode (covers name.now) (names_at registry.now.table v.items)) }
     {
         self.items_found(alloc, registry, mode, name, true)
@@ -153,8 +153,8 @@ impl Verdicts {
         name: &Wfn,
     ) -> Result<Vec<NameId>, Memory>
         requires lower { IsLower name.now }
-        requires stood { (rows : Rows) × AreOfRows registry.now self.now rows }
-        ensures live { IfOk result (λ v. AreLive registry.now.table v.items) }
+        requires rows_before { (rows : Rows) × AreOfRows registry.now self.now rows }
+        ensures live { IfOk result (λ v. AreFactNames registry.now.table v.items) }
         ensures items { (rows : Rows) → AreOfRows registry.now self.now rows → IfOk result (λ v. AreItemsTo rows mode (maybe name.now) (names_at registry.now.table v.items)) }
     {
         self.items_found(alloc, registry, mode, name, false)
@@ -170,8 +170,8 @@ impl Verdicts {
         surely: bool,
     ) -> Result<Vec<NameId>, Memory>
         requires lower { IsLower name.now }
-        requires stood { (rows : Rows) × AreOfRows registry.now self.now rows }
-        ensures live { IfOk result (λ v. AreLive registry.now.table v.items) }
+        requires rows_before { (rows : Rows) × AreOfRows registry.now self.now rows }
+        ensures live { IfOk result (λ v. AreFactNames registry.now.table v.items) }
         ensures items { (rows : Rows) → AreOfRows registry.now self.now rows → IfOk result (λ v. AreItemsTo rows mode (cond surely (covers name.now) (maybe name.now)) (names_at registry.now.table v.items)) }
     {
         registry.lawful();
@@ -190,11 +190,11 @@ fn met<L: Ledger>(
     name: &Wfn,
     steps: &mut Steps<L>,
 ) -> Result<Met, Memory>
-    requires fits { FitsBoard (board_of boards.now mode) table.now }
+    requires fits { FitsBoard (board_of_mode boards.now mode) table.now }
     requires lower { IsLower name.now }
-    ensures covered { IfOk result (λ m. ArePassing table.now (board_of boards.now mode) (covers name.now) m.covered.items) }
-    ensures maybe { IfOk result (λ m. ArePassing table.now (board_of boards.now mode) (maybe name.now) m.maybe.items) }
-    ensures steps { StepsWithin steps.old steps.new (count_by (is_met table.now name.now.product) (ids (target_ids (board_of boards.now mode)))) }
+    ensures covered { IfOk result (λ m. ArePassing table.now (board_of_mode boards.now mode) (covers name.now) m.covered.items) }
+    ensures maybe { IfOk result (λ m. ArePassing table.now (board_of_mode boards.now mode) (maybe name.now) m.maybe.items) }
+    ensures steps { StepsWithin steps.old steps.new (count_by (is_met table.now name.now.product) (ids (target_ids (board_of_mode boards.now mode)))) }
 {
     boards.board(mode).targets().met(alloc, table, name, steps)
 }
@@ -208,13 +208,13 @@ fn met_over<L: Ledger>(
     name: &Wfn,
     blank: Blank,
 ) -> Result<Met, Memory>
-    requires fits { FitsBoard (board_of boards.now mode) table.now }
+    requires fits { FitsBoard (board_of_mode boards.now mode) table.now }
     requires lower { IsLower name.now }
     requires ledger { blank.name ≡ L.name }
     requires parts { blank.parts ≡ L.parts }
     requires some { 0 < blank.parts }
-    ensures covered { IfOk result (λ m. ArePassing table.now (board_of boards.now mode) (covers name.now) m.covered.items) }
-    ensures maybe { IfOk result (λ m. ArePassing table.now (board_of boards.now mode) (maybe name.now) m.maybe.items) }
+    ensures covered { IfOk result (λ m. ArePassing table.now (board_of_mode boards.now mode) (covers name.now) m.covered.items) }
+    ensures maybe { IfOk result (λ m. ArePassing table.now (board_of_mode boards.now mode) (maybe name.now) m.maybe.items) }
 {
     let mut steps = Steps::<L>::new(blank);
     met(alloc, table, boards, mode, name, &mut steps)
@@ -228,10 +228,10 @@ fn met_uncounted(
     mode: Mode,
     name: &Wfn,
 ) -> Result<Met, Memory>
-    requires fits { FitsBoard (board_of boards.now mode) table.now }
+    requires fits { FitsBoard (board_of_mode boards.now mode) table.now }
     requires lower { IsLower name.now }
-    ensures covered { IfOk result (λ m. ArePassing table.now (board_of boards.now mode) (covers name.now) m.covered.items) }
-    ensures maybe { IfOk result (λ m. ArePassing table.now (board_of boards.now mode) (maybe name.now) m.maybe.items) }
+    ensures covered { IfOk result (λ m. ArePassing table.now (board_of_mode boards.now mode) (covers name.now) m.covered.items) }
+    ensures maybe { IfOk result (λ m. ArePassing table.now (board_of_mode boards.now mode) (maybe name.now) m.maybe.items) }
 {
     met_over::<Brand>(alloc, table, boards, mode, name, Blank::new(1))
 }
@@ -254,9 +254,9 @@ fn items_to(
     mode: Mode,
     names: Vec<NameId>,
 ) -> Result<Vec<NameId>, Memory>
-    requires { AreLive registry.now.table names.items }
-    ensures live { IfOk result (λ v. AreLive registry.now.table v.items) }
-    ensures names { IfOk result (λ v. names_at registry.now.table v.items ≡ items_at registry.now.entries registry.now.items mode (names_at registry.now.table names.items)) }
+    requires { AreFactNames registry.now.table names.items }
+    ensures live { IfOk result (λ v. AreFactNames registry.now.table v.items) }
+    ensures names { IfOk result (λ v. names_at registry.now.table v.items ≡ items_of_fact registry.now.entries registry.now.items mode (names_at registry.now.table names.items)) }
 {
     match mode {
         Mode::Plain => Ok(names),
@@ -266,8 +266,8 @@ fn items_to(
 
 // The items that lead to these ends, those of one after those of another.
 fn items_to_ends(alloc: Global, registry: &Registry, ends: &[NameId]) -> Result<Vec<NameId>, Memory>
-    requires { AreLive registry.now.table ends.now }
-    ensures live { IfOk result (λ v. AreLive registry.now.table v.items) }
+    requires { AreFactNames registry.now.table ends.now }
+    ensures live { IfOk result (λ v. AreFactNames registry.now.table v.items) }
     ensures names { IfOk result (λ v. names_at registry.now.table v.items ≡ flat_map (items_leading registry.now.entries registry.now.items) (names_at registry.now.table ends.now)) }
 {
     let mut all = Vec::new(alloc);

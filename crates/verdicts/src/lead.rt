@@ -7,7 +7,7 @@ ghost use Rattle.cpe_rows.specs.declared.edit.Edit.{Edit};
 ghost use Rattle.cpe_rows.specs.declared.entry.Entry.{Entry};
 ghost use Rattle.cpe_rows.specs.Touching.{deprecation_changed};
 ghost use Rattle.cpe_dictionary.specs.Plans.{AreLeftBy};
-ghost use Rattle.cpe_registry.specs.Registered.{name_in};
+ghost use Rattle.name_registry.specs.Registered.{name_in};
 ghost use Rattle.name_index.specs.Table.{Names};
 ghost use Rattle.facts.specs.Looks.{lead_looks};
 ghost use Rattle.verdicts.specs.Leads.{HasLead, IsReadyLead, IsUnled, MayReadyLead};
@@ -20,10 +20,10 @@ use crate::ends::{
 use crate::refresh::refresh;
 use crate::verdicts::Verdicts;
 use cpe_dictionary::Plan;
-use cpe_registry::Registry;
 use cpe_rows::{Memory, Mode};
 use facts::Led;
 use name_index::{NameId, NameTable, Steps};
+use name_registry::Registry;
 use std::alloc::Global;
 use std::sync::ledger::Ledger;
 

@@ -9,7 +9,8 @@
 //! [`Verdicts::ready_result`]). The second stage cannot fail.
 //!
 //! The boards of facts have all items by product, and the ends of items. So they also find the items that a name covers
-//! or may cover ([`Verdicts::items_met`], [`Verdicts::items_covered`]). The registry has the order of the items.
+//! or may cover ([`Verdicts::items_met`], [`Verdicts::items_covered`]). The boards
+//! don't keep the order of the items; the registry (`name_registry`) does.
 #![tactic(auto)]
 
 mod addition;
@@ -25,8 +26,8 @@ mod truths;
 mod verdicts;
 
 pub use addition::Addition;
-pub use cpe_registry::{FillFault, Registry};
 pub use lead::Lead;
+pub use name_registry::{FillFault, Registry};
 pub use removal::Removal;
 pub use statement_rows::ReadyResult;
 pub use verdicts::Verdicts;

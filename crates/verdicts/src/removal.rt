@@ -12,8 +12,8 @@ ghost use Rattle.verdicts.specs.Verdicts.{HasVerdicts, statements_in};
 use crate::ends::leads_of_all;
 use crate::verdicts::Verdicts;
 use cpe_rows::{Memory, Mode, Text};
+use fact_boards::keep_each_once;
 use facts::Facts;
-use kept_facts::keep_each_once;
 use name_index::{NameId, NameTable, Steps};
 use statement_rows::FactUse;
 use std::alloc::Global;
@@ -55,7 +55,7 @@ impl Verdicts {
     ) -> Vec<NameId>
         requires has { list_any (has_id id.now) (statements_in self.old) ≡ true }
         requires removal { IsRemoval self.old id.now removal }
-        requires stood { (rows : Rows) × IsLawful rows × HasVerdicts table.now self.old rows }
+        requires rows_before { (rows : Rows) × IsLawful rows × HasVerdicts table.now self.old rows }
         ensures { StatementRemoved table.now self.old self.new id.now result.items steps.old steps.new }
     {
         table.lawful();

@@ -4,7 +4,7 @@ ghost use Rattle.name_index.specs.Table.{Names};
 ghost use Rattle.cpe_rows.specs.Prelude.{after, Rows};
 ghost use Rattle.cpe_rows.specs.declared.edit.Edit.TheVariants as edit;
 ghost use Rattle.cpe_rows.specs.declared.test.CheckKey.{CheckKey};
-ghost use Rattle.statement_rows.specs.State.{IsReadyResult};
+ghost use Rattle.statement_rows.specs.State.{IsReadyTruth};
 ghost use Rattle.verdicts.specs.Verdicts.{HasVerdicts, known_in, SameStatements, statements_in};
 
 use crate::truths::Truths;
@@ -18,7 +18,7 @@ impl Verdicts {
     /// # Errors
     /// Only that memory ran out.
     pub fn ready_result(&mut self, key: CheckKey) -> Result<ReadyResult, Memory>
-        ensures ready { IfOk result (IsReadyResult self.new.statements key) }
+        ensures ready { IfOk result (IsReadyTruth self.new.statements key) }
         ensures verdicts { (names : Names) (rows : Rows) → HasVerdicts names self.old rows → HasVerdicts names self.new rows }
         ensures same { SameStatements self.old self.new }
     {
@@ -27,8 +27,8 @@ impl Verdicts {
 
     /// Sets the result of a check whose key is ready, in the place of its last one or else at the end. Allocates: no.
     pub fn set_result(&mut self, ready: ReadyResult, truth: Truth)
-        requires { (k : CheckKey) × IsReadyResult self.old.statements k ready }
-        ensures verdicts { (k : CheckKey) (names : Names) (rows : Rows) → IsReadyResult self.old.statements k ready → HasVerdicts names self.old rows → HasVerdicts names self.new (after rows (edit.SetCheck k truth)) }
+        requires { (k : CheckKey) × IsReadyTruth self.old.statements k ready }
+        ensures verdicts { (k : CheckKey) (names : Names) (rows : Rows) → IsReadyTruth self.old.statements k ready → HasVerdicts names self.old rows → HasVerdicts names self.new (after rows (edit.SetCheck k truth)) }
         ensures statements { statements_in self.new ≡ statements_in self.old }
         ensures known { known_in self.new ≡ known_in self.old }
     {

@@ -8,10 +8,10 @@ ghost use Rattle.facts.specs.fact_laws.Shown.{name_at};
 ghost use Rattle.facts.specs.Facts.{is_used, table_of};
 ghost use Rattle.verdicts.specs.Verdicts.{checks_in, HasVerdicts, known_in, statements_in};
 
-use cpe_registry::Checks;
 use cpe_rows::{Changed, EditFault, List, Mode, Room, Statement, Text, Truth};
 use facts::Facts;
 use name_index::NameId;
+use name_registry::Checks;
 use statement_rows::StatementRows;
 use std::alloc::Global;
 use std::marker::Model;

@@ -8,7 +8,7 @@ use Rattle.cpe_fs.proofs.unbind_fs.Goals as goal
 pub read_name-requires : goal.read_name-requires
 read_name-requires c =
     let are = c.in-Ok.ensures.found in
-    record { stand = spans_are c.args.text.now c.in-Ok.components are; lawful = subst IsName (sym (name_back c.args.text.now c.in-Ok.components are)) are.fs.0 }
+    record { are_present = spans_are c.args.text.now c.in-Ok.components are; lawful = subst IsName (sym (name_back c.args.text.now c.in-Ok.components are)) are.fs.0 }
 
 pub returns-in-Ok-read_name-clause-found : goal.returns-in-Ok-read_name-clause-found
 returns-in-Ok-read_name-clause-found c =

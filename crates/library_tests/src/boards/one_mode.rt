@@ -2,18 +2,18 @@
 // covers.
 ghost use Rattle.std.specs.Prelude.{◌≡◌, [], Some};
 ghost use Rattle.cpe_rows.specs.declared.truth.Truth.TheVariants.{False};
-ghost use Rattle.fact_rows.specs.Facts.{fact_at, new_fact, truth_of};
+ghost use Rattle.fact_rows.specs.Facts.{fact_at, new_fact, truth_of_fact};
 
 use cpe_rows::{Memory, Mode};
+use fact_boards::LevelBoard;
 use fact_rows::FactRows;
-use kept_facts::LevelBoard;
 use name_index::NameId;
 use std::alloc::Global;
 
 // Computes again the fact of a removed name, which has no end.
 fn refresh_fact_without_ends(facts: &mut FactRows, board: &LevelBoard, fact: NameId)
     requires { fact_at facts.old fact.0 ≡ Some (new_fact []) }
-    ensures { truth_of facts.new fact.0 ≡ False }
+    ensures { truth_of_fact facts.new fact.0 ≡ False }
 {
     facts.refresh_facts(Mode::Follow, &[fact], board);
 }

@@ -1,11 +1,11 @@
 // A board in use, and how many looks a change takes.
 ghost use Rattle.std.specs.Prelude.{◌≡◌, ◌≢◌, true, ◌+◌, ◌≤◌, ◌<◌, ℕ, [], ◌∷◌, List};
 ghost use Rattle.name_index.specs.Prelude.{IsLive, kept_at, SameElements};
-ghost use Rattle.kept_facts.specs.level_board.Board.{AreMarked, FitsBoard, covers_at, is_marked, maybe_at, target_times, probe_times};
-ghost use Rattle.kept_facts.specs.level_board.declared.level.Level.TheVariants.{Covered, Maybe, Free};
-ghost use Rattle.library_tests.specs.Tried.{plain};
+ghost use Rattle.fact_boards.specs.level_board.Board.{MarksAreProbes, FitsBoard, covers_at, is_probe_marked, maybe_at, target_times, probe_times};
+ghost use Rattle.fact_boards.specs.level_board.declared.level.Level.TheVariants.{Covered, Maybe, Free};
+ghost use Rattle.library_tests.specs.Tried.{tried_value};
 
-use kept_facts::{Level, LevelBoard};
+use fact_boards::{Level, LevelBoard};
 use name_index::{NameId, NameTable, Steps};
 use std::sync::ledger::Ledger;
 
@@ -19,17 +19,17 @@ fn add_target_two_looks<L: Ledger>(
 )
     requires probes { SameElements ((0, 0) ∷ (1, 1) ∷ (2, 2) ∷ (3, 3) ∷ (4, 4) ∷ []) board.old.probe_ids }
     requires fits { FitsBoard board.old table.now }
-    requires first { (kept_at table.now 0).name.product ≡ plain (112 ∷ []) }
-    requires second { (kept_at table.now 1).name.product ≡ plain (113 ∷ 48 ∷ []) }
-    requires third { (kept_at table.now 2).name.product ≡ plain (113 ∷ 49 ∷ []) }
-    requires fourth { (kept_at table.now 3).name.product ≡ plain (113 ∷ 50 ∷ []) }
-    requires fifth { (kept_at table.now 4).name.product ≡ plain (113 ∷ 51 ∷ []) }
+    requires first { (kept_at table.now 0).name.product ≡ tried_value (112 ∷ []) }
+    requires second { (kept_at table.now 1).name.product ≡ tried_value (113 ∷ 48 ∷ []) }
+    requires third { (kept_at table.now 2).name.product ≡ tried_value (113 ∷ 49 ∷ []) }
+    requires fourth { (kept_at table.now 3).name.product ≡ tried_value (113 ∷ 50 ∷ []) }
+    requires fifth { (kept_at table.now 4).name.product ≡ tried_value (113 ∷ 51 ∷ []) }
     requires live { IsLive table.now target.0 }
-    requires target { (kept_at table.now target.0).name.product ≡ plain (112 ∷ []) }
+    requires target { (kept_at table.now target.0).name.product ≡ tried_value (112 ∷ []) }
     requires room { 1 ≤ board.old.target_room }
     requires product { (kept_at table.now target.0).product < board.old.wide }
     requires new { target_times board.old target.0 ≡ 0 }
-    requires marked { AreMarked board.old }
+    requires marked { MarksAreProbes board.old }
     ensures { steps.new ≤ steps.old + 2 }
 {
     board.add_target(table, target, steps);
@@ -58,10 +58,10 @@ fn drop_two_targets<L: Ledger>(
     requires second_product { (kept_at table.now second.0).product < board.old.wide }
     requires probe_product { (kept_at table.now probe.0).product < board.old.wide }
     requires covers_second { covers_at table.now probe.0 second.0 ≡ true }
-    requires all_marked { AreMarked board.old }
+    requires all_marked { MarksAreProbes board.old }
     ensures one_left { result.0 ≡ Covered }
     ensures none_left { result.1 ≡ Free }
-    ensures marked { is_marked board.new probe.0 ≡ true }
+    ensures marked { is_probe_marked board.new probe.0 ≡ true }
 {
     board.add_target(table, first, steps);
     board.add_target(table, second, steps);
@@ -87,7 +87,7 @@ fn add_target_known_in_part<L: Ledger>(
     requires room { 1 ≤ board.old.target_room }
     requires product { (kept_at table.now target.0).product < board.old.wide }
     requires may { maybe_at table.now probe.0 target.0 ≡ true }
-    requires marked { AreMarked board.old }
+    requires marked { MarksAreProbes board.old }
     ensures { result ≡ Maybe }
 {
     cpe_relation::law::maybe_laws();
@@ -113,7 +113,7 @@ fn drop_target_known_in_part<L: Ledger>(
     requires asked { 1 ≤ probe_times board.old probe.0 }
     requires may { maybe_at table.now probe.0 part.0 ≡ true }
     requires covers { covers_at table.now probe.0 whole.0 ≡ true }
-    requires marked { AreMarked board.old }
+    requires marked { MarksAreProbes board.old }
     ensures { result ≡ Covered }
 {
     board.drop_target(table, part, steps);

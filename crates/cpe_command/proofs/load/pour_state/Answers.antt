@@ -2,7 +2,7 @@ use Rattle.std.proofs.Common.{◌++◌, ap, ◌∙◌}
 use Rattle.std.proofs.lemmas.Result.{on_ok_weaker}
 use Rattle.cpe_rows.specs.Counts.{counts_of}
 use Rattle.cpe_rows.specs.declared.counts.Counts.{Counts}
-use Rattle.cpe_convert.specs.cpe_replies.Replies.{verdict_table}
+use Rattle.convert_lines.specs.line_replies.Replies.{verdict_table}
 use Rattle.cpe_command.specs.Loading.{counts_text}
 use Rattle.cpe_command.proofs.LoadLemmas.{Pours-put_more, prefix_put_more}
 use Rattle.cpe_command.proofs.load.pour_state.Goals as goal

@@ -3,9 +3,9 @@ use Rattle.std.specs.Io.KnownBytes.{Appends}
 use Rattle.std.proofs.KnownBytes.{Appends-trans}
 use Rattle.cpe_io.specs.Writes.{AppendsPrefix}
 use Rattle.cpe_command.specs.Loading.{state_text}
-use Rattle.cpe_session.specs.declared.status.Status.TheVariants.{Done}
-use Rattle.cpe_session.proofs.Pouring.{Pours-rest}
-use Rattle.cpe_session.proofs.Runs.{Ran-written, Ran-written_fault}
+use Rattle.line_session.specs.declared.status.Status.TheVariants.{Done}
+use Rattle.line_session.proofs.Pouring.{Pours-rest}
+use Rattle.line_session.proofs.Runs.{Ran-written, Ran-written_fault}
 use Rattle.cpe_command.proofs.load.write_state.Goals as goal
 
 -- a line could not be appended to the page, or a write failed

@@ -1,7 +1,7 @@
 use Rattle.std.proofs.Common.{◌++◌, ◌+◌, ℕ, List, drop, refl, sym, ap, ◌∙◌}
 use Rattle.cpe_dictionary.specs.Given.{are_entries}
 use Rattle.cpe_dictionary.specs.Numbers.{numbers_of}
-use Rattle.entries_in_order.proofs.names_in_order.Rows.{this_first}
+use Rattle.cpe_dictionary.proofs.names_in_order.Rows.{this_first}
 use Rattle.cpe_dictionary.proofs.GivenNumbers.{absent_here, none_if, present_here}
 use Rattle.cpe_dictionary.proofs.SeenLemmas.{number_more}
 use Rattle.cpe_dictionary.proofs.given.entry_numbers.Goals as goal

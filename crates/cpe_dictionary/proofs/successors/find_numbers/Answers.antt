@@ -2,7 +2,7 @@ use Rattle.std.proofs.Common.{◌+◌, ◌++◌, ℕ, List, drop, refl, sym, ap,
 use Rattle.std.specs.Prelude.{option_map}
 use Rattle.cpe_rows.specs.declared.fault.EditFault.TheVariants as fault
 use Rattle.cpe_dictionary.specs.Numbers.{numbers_of}
-use Rattle.entries_in_order.proofs.names_in_order.Rows.{this_first}
+use Rattle.cpe_dictionary.proofs.names_in_order.Rows.{this_first}
 use Rattle.cpe_dictionary.proofs.SeenLemmas.{place_from_start, unknown_here, known_here, number_more}
 use Rattle.cpe_dictionary.proofs.successors.find_numbers.Goals as goal
 

@@ -1,5 +1,5 @@
 use Rattle.cpe_engine.specs.Adopting.{given_weight}
-use Rattle.cpe_weight.proofs.Sums.{one_more}
+use Rattle.row_weight.proofs.Sums.{one_more}
 use Rattle.cpe_engine.proofs.adopting.with_all.Goals as goal
 
 pub loop-deprecation-preserved : goal.loop-deprecation-preserved

@@ -5,7 +5,7 @@ use Rattle.cpe_rows.specs.cpe_name.Eleven.{Values}
 use Rattle.cpe_rows.specs.cpe_name.Lower.{IsLower}
 use Rattle.cpe_rows.specs.Rows.{Rows}
 use Rattle.engine_edits.specs.fact_laws.Shown.{names_at}
-use Rattle.verdicts.specs.cpe_registry.Registered.{AreLive}
+use Rattle.verdicts.specs.name_registry.Registered.{AreRegistryNames}
 use Rattle.verdicts.specs.Rows.{AreOfRows}
 use Rattle.cpe_engine.specs.Shown.{AreShown}
 use Rattle.cpe_engine.proofs.leading.all_shown.Given as goal
@@ -13,6 +13,6 @@ use Rattle.cpe_engine.proofs.leading.all_shown.Given as goal
 abbrev pub invariant-loop-name : goal.invariant-loop-name
 invariant-loop-name l = record {
   rest : AllByRecursion IsLower (map (λ (n : Bor Values). n.now) (drop l.name-index l.names));
-  live : AreLive l.registry.table l.all.items;
+  live : AreRegistryNames l.registry.table l.all.items;
   items : (rows : Rows) → AreOfRows l.registry l.verdicts rows → AreShown rows l.mode l.relates (map (λ (n : Bor Values). n.now) (take l.name-index l.names)) (names_at l.registry.table l.all.items);
 }

@@ -4,7 +4,7 @@ use Rattle.std.specs.List.{list_any}
 use Rattle.cpe_rows.specs.cpe_name.Eleven.{Values}
 use Rattle.cpe_rows.specs.Chains.{ends}
 use Rattle.cpe_rows.specs.Verdict.{is_followed}
-use Rattle.cpe_explain.specs.checked_certificates.Relates.{related}
+use Rattle.certificate_search.specs.certificate_check.Relates.{related}
 use Rattle.cpe_engine.proofs.SlotLemmas.{left_here, left_next, left_over, left_none}
 use Rattle.cpe_engine.proofs.leading.first_followed.Goals as goal
 use Rattle.cpe_engine.proofs.leading.first_followed.Goals.{in-Some+in_ok-is_met+else-branch, in_default}

@@ -1,5 +1,5 @@
 use Rattle.cpe_rows.specs.Verdict.{is_followed}
-use Rattle.cpe_explain.specs.checked_certificates.Relates.{related}
+use Rattle.certificate_search.specs.certificate_check.Relates.{related}
 use Rattle.cpe_engine.proofs.SlotLemmas.{IsLeft}
 use Rattle.cpe_engine.proofs.leading.first_followed.Given as goal
 

@@ -14,8 +14,8 @@ use Rattle.cpe_engine.proofs.leading.first_shown.Goals as goal
 
 pub all_shown-requires-clause-lower : goal.all_shown-requires-clause-lower
 all_shown-requires-clause-lower c =
-    let rows = c.requires.stood.0 in
-    let are = c.requires.stood.1 in
+    let rows = c.requires.rows_before.0 in
+    let are = c.requires.rows_before.1 in
     subst (AllByRecursion IsLower)
     (ap (λ (es : List Entry). leads es c.args.mode c.args.name.now) are.entries ∙ sym (ap (map (λ (n : Bor Values). n.now)) c.deref.ensures.value ∙ c.in_ok-names.ensures))
     (leads_lower rows c.args.mode c.args.name.now are.lawful.dictionary c.requires.lower)

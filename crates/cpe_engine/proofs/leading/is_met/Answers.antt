@@ -3,8 +3,8 @@ use Rattle.std.specs.Borrow.{Bor}
 use Rattle.std.specs.List.{list_any}
 use Rattle.cpe_rows.specs.cpe_name.Eleven.{Values}
 use Rattle.cpe_rows.specs.Chains.{ends}
-use Rattle.cpe_explain.specs.checked_certificates.Relates.{related}
-use Rattle.cpe_explain.proofs.checked_certificates.Elements.{any_map}
+use Rattle.certificate_search.specs.certificate_check.Relates.{related}
+use Rattle.certificate_search.proofs.certificate_check.Elements.{any_map}
 use Rattle.cpe_engine.proofs.leading.is_met.Goals as goal
 
 pub returns : goal.returns

@@ -1,5 +1,5 @@
 use Rattle.std.proofs.Common.{◌<◌, ◌≤◌, ℕ, length, sym, subst, ◌∙◌}
-use Rattle.cpe_explain.specs.checked_certificates.Relates.{related}
+use Rattle.certificate_search.specs.certificate_check.Relates.{related}
 use Rattle.cpe_engine.proofs.SlotLemmas.{left_here, left_next, left_over, left_none}
 use Rattle.cpe_engine.proofs.slots.first_related.Goals as goal
 use Rattle.cpe_engine.proofs.slots.first_related.Goals.{in-Some+else-holds, in_default}

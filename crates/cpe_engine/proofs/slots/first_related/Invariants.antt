@@ -1,4 +1,4 @@
-use Rattle.cpe_explain.specs.checked_certificates.Relates.{related}
+use Rattle.certificate_search.specs.certificate_check.Relates.{related}
 use Rattle.cpe_engine.proofs.SlotLemmas.{IsLeft}
 use Rattle.cpe_engine.proofs.slots.first_related.Given as goal
 

@@ -2,9 +2,9 @@ use Rattle.std.proofs.Common.{ℕ, List, ◌∷◌, sym, ap, ◌∙◌}
 use Rattle.cpe_fs.proofs.AnyTail.{tail_taken, tail_components}
 use Rattle.cpe_fs.proofs.scan.scan_fields.Goals as goal
 
-pub returns-then-is_any_tail-clause-told : goal.returns-then-is_any_tail-clause-told
-returns-then-is_any_tail-clause-told c =
-    rw (c.in_ok-part.ensures.told, c.in_ok-vendor.ensures.told, c.in_ok-product.ensures.told, c.in_ok-version.ensures.told)
+pub returns-then-is_any_tail-clause-scans : goal.returns-then-is_any_tail-clause-scans
+returns-then-is_any_tail-clause-scans c =
+    rw (c.in_ok-part.ensures.scans, c.in_ok-vendor.ensures.scans, c.in_ok-product.ensures.scans, c.in_ok-version.ensures.scans)
     (tail_taken _ (c.is_any_tail.ensures c.if-is_any_tail.true))
 
 pub returns-then-is_any_tail-clause-texts : goal.returns-then-is_any_tail-clause-texts

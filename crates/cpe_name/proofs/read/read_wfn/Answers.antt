@@ -8,7 +8,7 @@ use Rattle.cpe_name.proofs.read.read_wfn.Goals as goal
 pub read_name-requires : goal.read_name-requires
 read_name-requires c =
     let are = c.in-Some.ensures.found in
-    record { stand = texts_are c.args.text.now c.in-Some.written are; lawful = subst IsName (sym (values_are c.args.text.now c.in-Some.written are)) are.has.name }
+    record { are_present = texts_are c.args.text.now c.in-Some.written are; lawful = subst IsName (sym (values_are c.args.text.now c.in-Some.written are)) are.has.name }
 
 pub returns-in-Ok-clause-found : goal.returns-in-Ok-clause-found
 returns-in-Ok-clause-found c =

@@ -1,7 +1,7 @@
 use Rattle.std.proofs.Common.{true, false, arith}
-use Rattle.cpe_relation.specs.Folded.{Comes}
+use Rattle.cpe_relation.specs.Folded.{IsBefore}
 use Rattle.memchr.proofs.lemmas.CriticalLemmas.{IsCutPlace-of}
-use Rattle.cpe_relation.proofs.Orders.{Comes-trans, Comes-irrefl, Comes-opposed}
+use Rattle.cpe_relation.proofs.Orders.{IsReached-trans, IsReached-irrefl, IsReached-opposed}
 use Rattle.cpe_relation.proofs.cut.cut_of.Goals as goal
 
 pub cut_at-requires : goal.cut_at-requires
@@ -10,8 +10,8 @@ cut_at-requires c =
     let usual = c.greatest_suffix-usual.ensures in
     let fits = opposite.fits in
     let some = opposite.some in
-    IsCutPlace-of (Comes false) (Comes true) (Comes-trans false) (Comes-irrefl false) (Comes-irrefl true)
-    (λ a b p q. Comes-opposed a b q p) _ _ _ _ (omega arith) opposite.greatest usual.greatest (omega arith) _ opposite
+    IsCutPlace-of (IsBefore false) (IsBefore true) (IsReached-trans false) (IsReached-irrefl false) (IsReached-irrefl true)
+    (λ a b p q. IsReached-opposed a b q p) _ _ _ _ (omega arith) opposite.greatest usual.greatest (omega arith) _ opposite
 
 pub cut_at-requires-else-opposite-usual : goal.cut_at-requires-else-opposite-usual
 cut_at-requires-else-opposite-usual c =
@@ -19,5 +19,5 @@ cut_at-requires-else-opposite-usual c =
     let usual = c.greatest_suffix-usual.ensures in
     let fits = usual.fits in
     let some = usual.some in
-    IsCutPlace-of (Comes true) (Comes false) (Comes-trans true) (Comes-irrefl true) (Comes-irrefl false)
-    Comes-opposed _ _ _ _ (omega arith) usual.greatest opposite.greatest (omega arith) _ usual
+    IsCutPlace-of (IsBefore true) (IsBefore false) (IsReached-trans true) (IsReached-irrefl true) (IsReached-irrefl false)
+    IsReached-opposed _ _ _ _ (omega arith) usual.greatest opposite.greatest (omega arith) _ usual

@@ -2,15 +2,15 @@ use Rattle.std.proofs.Common.{rules, ℕ, refl, ◌≡◌, ◌+◌, ◌≤◌, �
 use Rattle.std.proofs.lemmas.Bool.{cases_lt, cases_Bool, false≢true}
 use Rattle.memchr.proofs.lemmas.FindLemmas.{Nowhere-then}
 use Rattle.memchr.proofs.lemmas.SearchLemmas.{Nowhere-right, Nowhere-left, Nowhere-end, known-next}
-use Rattle.cpe_relation.specs.Folded.{folded}
+use Rattle.cpe_relation.specs.Folded.{table_index}
 use Rattle.cpe_relation.proofs.Shifts.{promises}
 use Rattle.cpe_relation.proofs.search.find.Goals as goal
 
 pub loop-pos-preserved-then-i-m : goal.loop-pos-preserved-then-i-m
 loop-pos-preserved-then-i-m c =
-    let x = folded c.args.body.now in
+    let x = table_index c.args.body.now in
     let m = length c.args.body.now in
-    let h = folded c.args.text.now in
+    let h = table_index c.args.text.now in
     let n = c.args.n in
     let old = c.loop-pos.invariant in
     let pos = c.loop-pos.pos in
@@ -46,9 +46,9 @@ loop-pos-smaller c =
 
 pub loop-pos-preserved : goal.loop-pos-preserved
 loop-pos-preserved c =
-    let x = folded c.args.body.now in
+    let x = table_index c.args.body.now in
     let m = length c.args.body.now in
-    let h = folded c.args.text.now in
+    let h = table_index c.args.text.now in
     let n = c.args.n in
     let old = c.loop-pos.invariant in
     let pos = c.loop-pos.pos in
@@ -79,13 +79,13 @@ loop-pos-preserved c =
 pub returns : goal.returns
 returns c =
     let old = c.loop-pos.invariant in
-    Nowhere-then old.2 (Nowhere-end (folded c.args.body.now) (length c.args.body.now) (folded c.args.text.now) c.args.n c.loop-pos.pos c.loop-pos-test.false)
+    Nowhere-then old.2 (Nowhere-end (table_index c.args.body.now) (length c.args.body.now) (table_index c.args.text.now) c.args.n c.loop-pos.pos c.loop-pos-test.false)
 
 pub returns-then-matches_between : goal.returns-then-matches_between
 returns-then-matches_between c =
-    let x = folded c.args.body.now in
+    let x = table_index c.args.body.now in
     let m = length c.args.body.now in
-    let h = folded c.args.text.now in
+    let h = table_index c.args.text.now in
     let old = c.loop-pos.invariant in
     let pos = c.loop-pos.pos in
     let first = old.0 in

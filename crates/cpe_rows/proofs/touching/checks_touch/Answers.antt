@@ -1,4 +1,4 @@
-use Rattle.cpe_rows.proofs.CheckChanges.{turned, kept, dropped, kept_facts, dropped_facts}
+use Rattle.cpe_rows.proofs.CheckChanges.{turned, kept, dropped, fact_boards, dropped_facts}
 use Rattle.cpe_rows.proofs.touching.checks_touch.Goals as goal
 
 pub returns-clause-kept : goal.returns-clause-kept
@@ -10,8 +10,8 @@ returns-clause-dropped c rows k key h = dropped k key h rows
 pub returns-clause-turned : goal.returns-clause-turned
 returns-clause-turned c = turned
 
-pub returns-clause-kept_facts : goal.returns-clause-kept_facts
-returns-clause-kept_facts c = kept_facts
+pub returns-clause-fact_boards : goal.returns-clause-fact_boards
+returns-clause-fact_boards c = fact_boards
 
 pub returns-clause-dropped_facts : goal.returns-clause-dropped_facts
 returns-clause-dropped_facts c = dropped_facts

@@ -1,7 +1,7 @@
 use Rattle.std.proofs.Common.{◌∙◌, sym, ap}
 use Rattle.cpe_uri.specs.TextMachine.{read_from}
 use Rattle.cpe_uri.specs.declared.text.Stage.TheVariants.{Body}
-use Rattle.cpe_uri.specs.declared.text.State.TheVariants.{Whole}
+use Rattle.cpe_uri.specs.declared.text.TextState.TheVariants.{Whole}
 use Rattle.cpe_uri.proofs.Components.{begun_at}
 use Rattle.cpe_uri.proofs.text.begin.Goals as goal
 

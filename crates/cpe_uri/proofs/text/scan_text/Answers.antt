@@ -1,5 +1,5 @@
 use Rattle.std.proofs.Common.{sym, subst, ◌∙◌}
-use Rattle.cpe_grammar.specs.Scanners.{Tells}
+use Rattle.name_grammar.specs.Scanners.{IsScan}
 use Rattle.cpe_uri.specs.TextMachine.{text_end}
 use Rattle.cpe_uri.proofs.Components.{ended_body}
 use Rattle.cpe_uri.proofs.text.scan_text.Goals as goal
@@ -12,4 +12,4 @@ returns-then-ends_component c =
 
 pub returns : goal.returns
 unfolding text_end
-returns c = subst (Tells (λ rest. rest.now) c.scan_from.result) (c.begin-state.ensures.same c.args.packed) c.scan_from.ensures
+returns c = subst (IsScan (λ rest. rest.now) c.scan_from.result) (c.begin-state.ensures.same c.args.packed) c.scan_from.ensures

@@ -8,7 +8,7 @@ use Rattle.cpe_uri.proofs.unbind.unbind_uri.Goals as goal
 pub name_at-requires : goal.name_at-requires
 name_at-requires c =
     let are = c.in-Ok.ensures.found in
-    record { stand = spans_are c.args.text.now c.in-Ok.spans are; lawful = subst IsName (sym (name_back c.args.text.now c.in-Ok.spans are)) are.uri.name }
+    record { are_present = spans_are c.args.text.now c.in-Ok.spans are; lawful = subst IsName (sym (name_back c.args.text.now c.in-Ok.spans are)) are.uri.name }
 
 pub returns-clause-found : goal.returns-clause-found
 returns-clause-found c =

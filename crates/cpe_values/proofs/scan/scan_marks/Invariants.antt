@@ -1,5 +1,5 @@
 use Rattle.std.proofs.Common.{◌≡◌, length}
-use Rattle.cpe_grammar.specs.Scanners.{up_to}
+use Rattle.name_grammar.specs.Scanners.{up_to}
 use Rattle.cpe_values.specs.Scanning.{is_mark, marks_end}
 use Rattle.cpe_values.proofs.scan.scan_marks.Given as goal
 

@@ -1,6 +1,6 @@
 use Rattle.std.proofs.Common.{Result, Ok, Err, OnOk}
 use Rattle.std.specs.List.{flat_map}
-use Rattle.cpe_values.specs.Spelling.{character}
+use Rattle.cpe_values.specs.Spelling.{style_character}
 use Rattle.cpe_values.proofs.Kept.{kept_along, put_both}
 use Rattle.cpe_values.proofs.BareBodies.{cut_bodies}
 use Rattle.cpe_values.proofs.spelling.push_body.Goals as goal
@@ -13,7 +13,7 @@ pub returns-clause-spelled : goal.returns-clause-spelled
 returns-clause-spelled c =
     let all = cut_bodies c.args.style c.args.body.now c.before-2.result.now c.behind_bare-rest.result.now c.behind_bare-rest.ensures c.before-2.ensures in
     on_ok c.push_characters.result
-    (λ put. put_both c.args.out.now.items c.push_bytes.new.out.items c.push_characters.new.out.items c.before-2.result.now (flat_map (character c.args.style) c.behind_bare-rest.result.now) (flat_map (character c.args.style) c.args.body.now) c.in_ok-push_bytes.ensures.put put all)
+    (λ put. put_both c.args.out.now.items c.push_bytes.new.out.items c.push_characters.new.out.items c.before-2.result.now (flat_map (style_character c.args.style) c.behind_bare-rest.result.now) (flat_map (style_character c.args.style) c.args.body.now) c.in_ok-push_bytes.ensures.put put all)
     c.push_characters.ensures.spelled
 
 pub returns-clause-kept : goal.returns-clause-kept

@@ -2,9 +2,9 @@ use Rattle.std.proofs.Common.{◌≡◌, ◌<◌, ◌∙◌, [], ℕ, Bool, List
 use Rattle.std.specs.List.{All}
 use Rattle.std.specs.Option.{option_copied}
 use Rattle.std.proofs.lemmas.List.{length-set}
-use Rattle.deprecation_graph.specs.Graph.{next_in, IsLawful}
+use Rattle.deprecation_graph.specs.Graph.{next_of_node, IsLawfulGraph}
 use Rattle.deprecation_graph.proofs.GraphLemmas.{successors_below, lawful_after}
-use Rattle.deprecation_graph.specs.Indexed.{list_of}
+use Rattle.deprecation_graph.specs.Indexed.{list_of_node}
 use Rattle.deprecation_graph.specs.Groups.{Recounts}
 use Rattle.deprecation_graph.specs.Kept.{nodes_in}
 use Rattle.deprecation_graph.proofs.KeptLemmas.{same_steps}
@@ -66,12 +66,12 @@ returns-clause-sound c =
       before = omega (arith, c.link_all.ensures.before, c.unlink_all.ensures.before, length-set c.args.kept.now.active.items c.args.node c.is_none-is_active.result, c.requires.sound.before);
       mirror = c.link_all.ensures.mirror;
       groups = groups_changed c.args.kept.now.groups.items c.recount.new.groups.items c.join_all.new.groups.items c.args.kept.now.active.items c.args.kept.now.next.lists c.link_all.new.next.lists c.args.node c.is_none-is_active.result c.successors-all.result.now c.requires.sound.groups recounts c.join_all.ensures.joins lists lt;
-      lawful = subst IsLawful (sym nodes) (lawful_after (nodes_in c.args.kept.now) c.args.node (option_copied c.args.next) c.requires.sound.lawful c.requires.change c.requires.allowed);
+      lawful = subst IsLawfulGraph (sym nodes) (lawful_after (nodes_in c.args.kept.now) c.args.node (option_copied c.args.next) c.requires.sound.lawful c.requires.change c.requires.allowed);
     }
 
 pub returns-clause-rooms : goal.returns-clause-rooms
 returns-clause-rooms c =
-    let old : length (list_of c.args.kept.now.next.lists c.args.node) ≡ length (next_in (nodes_in c.args.kept.now) c.args.node) = ap (λ (next : ℕ → List ℕ). length (next c.args.node)) (sym (same_steps c.args.kept.now None c.requires.sound.next)) in
+    let old : length (list_of_node c.args.kept.now.next.lists c.args.node) ≡ length (next_of_node (nodes_in c.args.kept.now) c.args.node) = ap (λ (next : ℕ → List ℕ). length (next c.args.node)) (sym (same_steps c.args.kept.now None c.requires.sound.next)) in
     let new = ap length c.successors-all.ensures in
     record {
       count = length-set c.args.kept.now.active.items c.args.node c.is_none-is_active.result;

@@ -1,12 +1,12 @@
 use Rattle.std.proofs.Common.{◌∙◌, eqb, sym, refl, arith}
 use Rattle.std.proofs.lemmas.Map.Keys.{IsDistinct-from_apart}
-use Rattle.deprecation_graph.proofs.FitLemmas.{stands_before, apart_more}
+use Rattle.deprecation_graph.proofs.FitLemmas.{is_preceded, apart_more}
 use Rattle.deprecation_graph.proofs.fit.are_different.Goals as goal
 
 pub returns-then-contains : goal.returns-then-contains
 returns-then-contains c = (
   λ t. absurd cc,
-  λ d. absurd (stands_before c.args.next.now c.loop-place.place c.loop-place-test.true (sym c.contains.ensures.value ∙ c.if-contains.true) d),
+  λ d. absurd (is_preceded c.args.next.now c.loop-place.place c.loop-place-test.true (sym c.contains.ensures.value ∙ c.if-contains.true) d),
 )
 
 pub loop-place-preserved : goal.loop-place-preserved

@@ -1,5 +1,5 @@
 use Rattle.std.proofs.Common.{arith}
-use Rattle.deprecation_graph.specs.declared.groups.Member.TheVariants.{Head, Under}
+use Rattle.deprecation_graph.specs.declared.groups.GroupMember.TheVariants.{Head, Under}
 use Rattle.deprecation_graph.proofs.GroupLemmas.{member_at}
 use Rattle.deprecation_graph.proofs.groups.next_of.Goals as goal
 

@@ -1,13 +1,13 @@
 use Rattle.std.proofs.Common.{◌<◌, ◌∙◌, length, List, ap, sym, subst, arith}
 use Rattle.std.proofs.lemmas.List.{length-set}
-use Rattle.deprecation_graph.specs.Groups.{AreGrouped, IsNext}
-use Rattle.deprecation_graph.specs.declared.groups.Member.{Member}
-use Rattle.deprecation_graph.specs.declared.groups.Member.TheVariants.{Under}
+use Rattle.deprecation_graph.specs.Groups.{AreNodesGrouped, IsNext}
+use Rattle.deprecation_graph.specs.declared.groups.GroupMember.{GroupMember}
+use Rattle.deprecation_graph.specs.declared.groups.GroupMember.TheVariants.{Under}
 use Rattle.deprecation_graph.proofs.GroupLemmas.{member_of, head_or_under, shortened, still_grouped}
 use Rattle.deprecation_graph.proofs.groups.shorten.Goals as goal
 
 pub next_of-further-requires-clause-grouped : goal.next_of-further-requires-clause-grouped
-next_of-further-requires-clause-grouped c = subst AreGrouped (sym c.deref.ensures.value) (still_grouped c.args.groups.now.items c.loop-lower.groups.items c.requires.grouped c.loop-lower.invariant.kept)
+next_of-further-requires-clause-grouped c = subst AreNodesGrouped (sym c.deref.ensures.value) (still_grouped c.args.groups.now.items c.loop-lower.groups.items c.requires.grouped c.loop-lower.invariant.kept)
 
 pub next_of-further-requires-clause-node : goal.next_of-further-requires-clause-node
 next_of-further-requires-clause-node c =
@@ -25,7 +25,7 @@ pub loop-lower-preserved : goal.loop-lower-preserved
 loop-lower-preserved c =
     let down = member_of c.loop-lower.groups.items c.loop-lower.at c.index.result.now (Under c.in-Under.lower) c.loop-lower.invariant.within c.index.ensures c.in-Under.is in
     let now = still_grouped c.args.groups.now.items c.loop-lower.groups.items c.requires.grouped c.loop-lower.invariant.kept in
-    let step = subst (λ (ms : List Member). IsNext ms c.in-Under.lower c.next_of-further.result) c.deref.ensures.value c.next_of-further.ensures in
+    let step = subst (λ (ms : List GroupMember). IsNext ms c.in-Under.lower c.next_of-further.result) c.deref.ensures.value c.next_of-further.ensures in
     let old = c.loop-lower.invariant in
     let falls : c.next_of-further.result < c.loop-lower.at = omega (arith, (now.members.under c.loop-lower.at c.in-Under.lower down).0, step.falls) in
     record {

@@ -3,17 +3,17 @@ use Rattle.cpe_rows.specs.cpe_name.Eleven.{Values}
 use Rattle.cpe_rows.specs.After.{after}
 use Rattle.cpe_rows.specs.Lawful.{IsDictionary}
 use Rattle.cpe_rows.specs.Touching.{deprecation_changed}
-use Rattle.name_index.specs.cpe_steps.Within.{StepsWithin}
+use Rattle.name_index.specs.step_count.Within.{StepsWithin}
 use Rattle.cpe_dictionary.specs.Kept.{rewritten, written}
 use Rattle.cpe_dictionary.proofs.DictionaryLemmas.{written_changed}
 use Rattle.name_index.specs.Table.{Names}
 use Rattle.fact_laws.specs.Shown.{holds_in, Shows}
-use Rattle.verdicts.specs.cpe_registry.Registered.{name_in}
+use Rattle.verdicts.specs.name_registry.Registered.{name_in}
 use Rattle.verdicts.specs.Leads.{IsReadyLead}
 use Rattle.verdicts.specs.Verdicts.{HasVerdicts}
 use Rattle.engine_edits.specs.Numbered.{given, note_of}
 use Rattle.engine_edits.specs.Parts.{edit_in, rows_in}
-use Rattle.engine_edits.specs.declared.numbered.Numbered.TheVariants as numbered
+use Rattle.engine_edits.specs.declared.numbered.NumberedEdit.TheVariants as numbered
 use Rattle.engine_edits.proofs.TurnedLemmas.{changed_turned, looks_turned, written_turned}
 use Rattle.engine_edits.proofs.PartsLemmas.{by_lists}
 use Rattle.engine_edits.proofs.entries.lead_change.Given.{Over}
@@ -40,8 +40,8 @@ module _ (g : Over) (c : After-table g) where
       let change = c.args.change in
       changed_turned (rows_in c.args.parts.now) (name_in c.args.parts.now.registry.table change.id) change.date change.comment change.turn
 
-  stood : HasVerdicts c.table.result.now c.args.parts.now.verdicts (rows_in c.args.parts.now)
-  stood = subst (λ (t : Names). HasVerdicts t c.args.parts.now.verdicts (rows_in c.args.parts.now)) (sym (c.table.ensures ∙ c.change.ensures.table)) c.requires.are.verdicts
+  rows_before : HasVerdicts c.table.result.now c.args.parts.now.verdicts (rows_in c.args.parts.now)
+  rows_before = subst (λ (t : Names). HasVerdicts t c.args.parts.now.verdicts (rows_in c.args.parts.now)) (sym (c.table.ensures ∙ c.change.ensures.table)) c.requires.are.verdicts
 
   lead : IsReadyLead c.args.parts.now.verdicts c.table.result.now (rows_in c.args.parts.now) (after (rows_in c.args.parts.now) (edit_in c.args.parts.now (numbered.Change c.args.change))).entries
       (name_in c.args.parts.now.registry.table c.args.change.id) c.args.lead
@@ -57,7 +57,7 @@ pub lead-requires : goal.lead-requires
 lead-requires g c =
     let p = c.args.parts.now in
     let at = (goal.at.lead-requires g c).After-table in
-    (rows_in p, edit_in p (numbered.Change c.args.change), name_in p.registry.table c.args.change.id, touches g at, c.requires.lawful, stood g at, lead g at)
+    (rows_in p, edit_in p (numbered.Change c.args.change), name_in p.registry.table c.args.change.id, touches g at, c.requires.lawful, rows_before g at, lead g at)
 
 pub returns-clause-are : goal.returns-clause-are
 returns-clause-are g c =
@@ -70,7 +70,7 @@ returns-clause-are g c =
     let at = (goal.at.returns-clause-are g c).After-table in
     by_lists p.registry c.change.new.self c.lead.new.self next [] c.change.ensures.table (c.change.ensures.entries ∙ left g ready) (c.change.ensures.items ∙ sym (c.deprecations_touch.ensures.items rows e n (touches g at)))
     (subst (λ (ns : List Values). Shows p.registry.table (holds_in p.registry.table) ns) (sym (c.deprecations_lead_elsewhere.ensures.kept rows e n (touches g at))) c.requires.are.held)
-    (subst (λ (t : Names). HasVerdicts t c.lead.new.self next) (c.table.ensures ∙ c.change.ensures.table) (c.lead.ensures.verdicts rows e n (touches g at) (stood g at) (lead g at).lists))
+    (subst (λ (t : Names). HasVerdicts t c.lead.new.self next) (c.table.ensures ∙ c.change.ensures.table) (c.lead.ensures.verdicts rows e n (touches g at) (rows_before g at) (lead g at).lists))
 
 pub returns-clause-steps : goal.returns-clause-steps
 returns-clause-steps g c =
@@ -79,4 +79,4 @@ returns-clause-steps g c =
     let n = name_in p.registry.table change.id in
     let at = (goal.at.returns-clause-steps g c).After-table in
     subst (λ (k : ℕ). StepsWithin c.args.steps.now c.lead.new.steps k) (sym (looks_turned (rows_in p) n change.date change.comment change.turn))
-    (c.lead.ensures.steps (rows_in p) (edit_in p (numbered.Change change)) n (touches g at) (stood g at) (lead g at).lists)
+    (c.lead.ensures.steps (rows_in p) (edit_in p (numbered.Change change)) n (touches g at) (rows_before g at) (lead g at).lists)

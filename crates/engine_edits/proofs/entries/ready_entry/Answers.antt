@@ -3,9 +3,9 @@ use Rattle.cpe_rows.specs.declared.edit.Edit.TheVariants as edit
 use Rattle.cpe_rows.specs.Rows.{Rows}
 use Rattle.cpe_dictionary.specs.Kept.{new_entry}
 use Rattle.name_index.specs.Table.{IsLive, Names}
-use Rattle.verdicts.specs.cpe_registry.Registered.{name_in}
+use Rattle.verdicts.specs.name_registry.Registered.{name_in}
 use Rattle.engine_edits.specs.Parts.{AreOf, rows_in}
-use Rattle.engine_edits.specs.declared.parts.Parts.{Parts}
+use Rattle.engine_edits.specs.declared.parts.EngineParts.{EngineParts}
 use Rattle.engine_edits.proofs.PartsLemmas.{rows_are}
 use Rattle.engine_edits.proofs.ReadyLemmas.{are_still, named_still, rows_stay, same_parts, same_verdicts}
 use Rattle.engine_edits.proofs.entries.ready_entry.Goals as goal
@@ -14,7 +14,7 @@ pub returns-in-Ok : goal.returns-in-Ok
 returns-in-Ok c =
     let p = c.args.parts.now in
     let r = c.reserve_entry.new.self in
-    let q : Parts = record p { registry = r } in
+    let q : EngineParts = record p { registry = r } in
     let same = c.in-Ok.ensures.same in
     let v = same_verdicts p.verdicts in
     let rows = rows_stay p q same v in

@@ -7,10 +7,10 @@ use Rattle.cpe_dictionary.specs.Plans.{IsAllowed}
 use Rattle.name_index.specs.Table.{IsLive, Names}
 use Rattle.verdicts.specs.Leads.{IsReadyLead}
 use Rattle.verdicts.specs.Verdicts.{HasVerdicts}
-use Rattle.verdicts.specs.cpe_registry.Registered.{name_in}
-use Rattle.engine_edits.specs.Numbered.{given, note_of, turned}
+use Rattle.verdicts.specs.name_registry.Registered.{name_in}
+use Rattle.engine_edits.specs.Numbered.{given, note_of, turned_entry}
 use Rattle.engine_edits.specs.Parts.{rows_in}
-use Rattle.engine_edits.specs.declared.parts.Parts.{Parts}
+use Rattle.engine_edits.specs.declared.parts.EngineParts.{EngineParts}
 use Rattle.engine_edits.proofs.ChangeLemmas.{by_plan}
 use Rattle.engine_edits.proofs.ReadyLemmas.{are_still, same_parts}
 use Rattle.engine_edits.proofs.TurnedLemmas.{after_turned}
@@ -27,7 +27,7 @@ ready_lead-requires c =
       number = subst (λ (t : Names). position (is_named (name_in t id)) c.reserve_change.new.self.entries ≡ Some c.args.plan.now.number) (sym same.table)
           (subst (λ (es : List Entry). position (is_named (name_in p.registry.table id)) es ≡ Some c.args.plan.now.number) (sym same.entries) plan.place);
       allowed = subst (λ (es : List Entry). IsAllowed es c.args.plan.now.number c.args.plan.now.next) (sym same.entries) plan.allowed;
-      stood = (
+      rows_before = (
         rows_in p,
         record {
           lawful = c.requires.lawful;
@@ -46,25 +46,25 @@ returns-clause-lead c =
     let same = c.in_ok-note.ensures.same in
     let change = c.args.change.now in
     let n = name_in p.registry.table change.id in
-    let e = turned n change.turn change.date change.comment in
+    let e = turned_entry n change.turn change.date change.comment in
     let left = by_plan rows.entries c.edits_by_number.ensures.writes n (given change.turn) (Some (note_of change.turn change.date change.comment)) c.args.plan.now (after rows e).entries c.requires.plan
     (ap (λ (x : Rows). x.entries) (after_turned rows n change.date change.comment change.turn)) in
-    let stands = subst (λ (t : Names). HasVerdicts t p.verdicts rows) (sym same.table) c.requires.are.verdicts in
+    let present = subst (λ (t : Names). HasVerdicts t p.verdicts rows) (sym same.table) c.requires.are.verdicts in
     subst (λ (t : Names). IsReadyLead c.ready_lead.new.self r.table rows (after rows e).entries (name_in t change.id) c.in_ok-lead.lead) same.table
-    (c.in_ok-lead.ensures.lead rows (after rows e).entries (record { lawful = c.requires.lawful; verdicts = stands; entries = sym same.entries; items = sym same.items }) left)
+    (c.in_ok-lead.ensures.lead rows (after rows e).entries (record { lawful = c.requires.lawful; verdicts = present; entries = sym same.entries; items = sym same.items }) left)
 
 pub returns-clause-are : goal.returns-clause-are
 returns-clause-are c =
     let p = c.args.parts.now in
     let rows = rows_in p in
     let same = c.in_ok-note.ensures.same in
-    let stands = subst (λ (t : Names). HasVerdicts t p.verdicts rows) (sym same.table) c.requires.are.verdicts in
+    let present = subst (λ (t : Names). HasVerdicts t p.verdicts rows) (sym same.table) c.requires.are.verdicts in
     are_still p.registry c.reserve_change.new.self p.verdicts c.ready_lead.new.self rows [] same (c.in_ok-lead.ensures.verdicts p.registry.table rows c.requires.are.verdicts) c.requires.are
 
 pub returns-clause-same : goal.returns-clause-same
 returns-clause-same c =
     let p = c.args.parts.now in
-    let q : Parts = record p { registry = c.reserve_change.new.self; verdicts = c.ready_lead.new.self } in
+    let q : EngineParts = record p { registry = c.reserve_change.new.self; verdicts = c.ready_lead.new.self } in
     same_parts p q c.in_ok-note.ensures.same c.in_ok-lead.ensures.same refl
 
 pub returns-in_err-lead-clause-are : goal.returns-in_err-lead-clause-are

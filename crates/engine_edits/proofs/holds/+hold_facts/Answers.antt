@@ -6,7 +6,7 @@ use Rattle.cpe_rows.specs.Shape.{depth_of, is_sound}
 use Rattle.cpe_rows.specs.declared.test.Test.{Logic}
 use Rattle.cpe_rows.proofs.TestNames.{names-logic}
 use Rattle.fact_laws.specs.Shown.{names_at}
-use Rattle.engine_edits.specs.Holding.{AreFew}
+use Rattle.engine_edits.specs.Holding.{AreFewNames}
 use Rattle.engine_edits.proofs.HoldLemmas.{depth_falls, few_less, grows_both, rest_length, sound_child, taken_next}
 use Rattle.engine_edits.proofs.holds.+hold_facts.Goals as goal
 
@@ -21,7 +21,7 @@ hold_facts-requires t c =
     let now = c.loop-child.registry.table in
     let names = ap fact_names c.in-Logic.is ∙ names-logic c.in-Logic.operator c.in-Logic.negate c.in-Logic.of ∙ ap (flat_map fact_names) (sym c.as_slice-child-items.ensures) in
     let rest = rest_length of i child lt c.child-item.is in
-    let all : AreFew old (length (flat_map fact_names of) + 0) = few_less old (length (flat_map fact_names of) + 0) (length (fact_names c.args.test.now)) (omega (arith, ap length names)) c.requires.few in
+    let all : AreFewNames old (length (flat_map fact_names of) + 0) = few_less old (length (flat_map fact_names of) + 0) (length (fact_names c.args.test.now)) (omega (arith, ap length names)) c.requires.few in
     let few = few_less now (length (fact_names child)) (length (flat_map fact_names (drop i of)) + 0) (omega (arith, rest)) (inv.few 0 all) in
     let sound = subst (λ x. is_sound x ≡ true) (sym c.child-item.is)
     (sound_child c.in-Logic.operator c.in-Logic.negate of i child (ap (λ xs. is_sound (Logic c.in-Logic.operator c.in-Logic.negate xs)) c.as_slice-child-items.ensures ∙ sym (ap is_sound c.in-Logic.is) ∙ c.requires.sound) lt) in
@@ -65,7 +65,7 @@ returns-after-loop-child-clause-few t c =
     let old = c.args.registry.now.table in
     let now = c.loop-child.registry.table in
     let names = ap fact_names c.in-Logic.is ∙ names-logic c.in-Logic.operator c.in-Logic.negate c.in-Logic.of ∙ ap (flat_map fact_names) (sym c.as_slice-child-items.ensures) in
-    λ n f. few_less now n (length (flat_map fact_names (drop i of)) + n) (omega arith) (c.loop-child.invariant.few n (subst (λ (ns : List Values). AreFew old (length ns + n)) names f))
+    λ n f. few_less now n (length (flat_map fact_names (drop i of)) + n) (omega arith) (c.loop-child.invariant.few n (subst (λ (ns : List Values). AreFewNames old (length ns + n)) names f))
 
 pub returns-in_err-hold_facts-in-Logic-clause-grows : goal.returns-in_err-hold_facts-in-Logic-clause-grows
 returns-in_err-hold_facts-in-Logic-clause-grows t c =

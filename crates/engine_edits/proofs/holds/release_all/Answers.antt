@@ -3,7 +3,7 @@ use Rattle.std.proofs.lemmas.List.{drop_all}
 use Rattle.name_index.specs.declared.table.NameId.{NameId}
 use Rattle.name_index.specs.Index.{name_id}
 use Rattle.fact_laws.specs.Shown.{names_at}
-use Rattle.verdicts.specs.cpe_registry.Registered.{AreLive}
+use Rattle.verdicts.specs.name_registry.Registered.{AreRegistryNames}
 use Rattle.engine_edits.specs.Parts.{AreOf}
 use Rattle.engine_edits.proofs.HoldLemmas.{first_there}
 use Rattle.engine_edits.proofs.holds.release_all.Goals as goal
@@ -25,7 +25,7 @@ loop-id-preserved c =
     let a = c.requires.are in
     let here = first_there ids i (name_id 0) c.loop-id-test.true in
     let rest = drop (i + 1) ids in
-    let live : AreLive r.table (get_or ids i (name_id 0) ∷ rest) = subst (AreLive r.table) here c.loop-id.invariant.live in
+    let live : AreRegistryNames r.table (get_or ids i (name_id 0) ∷ rest) = subst (AreRegistryNames r.table) here c.loop-id.invariant.live in
     record {
       live = (c.release_one.ensures a.0 a.1 a.2 rest live.1 (subst (λ (xs : List NameId). AreOf r a.0 a.1 (names_at r.table xs ++ a.2)) here (c.loop-id.invariant.are a.0 a.1 a.2 a.3))).0;
       are = λ v rows others are. (c.release_one.ensures v rows others rest live.1 (subst (λ (xs : List NameId). AreOf r v rows (names_at r.table xs ++ others)) here (c.loop-id.invariant.are v rows others are))).1;

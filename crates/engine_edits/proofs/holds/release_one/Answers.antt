@@ -1,6 +1,6 @@
 use Rattle.fact_laws.specs.Shown.{holds_in}
-use Rattle.verdicts.specs.cpe_registry.Registered.{name_in}
-use Rattle.verdicts.proofs.cpe_registry.FitLemmas.{own_name}
+use Rattle.verdicts.specs.name_registry.Registered.{name_in}
+use Rattle.verdicts.proofs.name_registry.FitLemmas.{own_name}
 use Rattle.engine_edits.proofs.HoldLemmas.{are_held, left}
 use Rattle.engine_edits.proofs.holds.release_one.Goals as goal
 

@@ -3,17 +3,17 @@ use Rattle.cpe_rows.specs.After.{after}
 use Rattle.cpe_rows.specs.declared.edit.Edit.TheVariants as edit
 use Rattle.cpe_rows.specs.declared.statement.Mode.TheVariants.{Follow}
 use Rattle.name_index.specs.Table.{Names}
-use Rattle.name_index.specs.cpe_steps.Within.{StepsWithin}
+use Rattle.name_index.specs.step_count.Within.{StepsWithin}
 use Rattle.name_index.specs.declared.table.NameId.{NameId}
 use Rattle.fact_laws.specs.Shown.{holds_in, name_at}
-use Rattle.fact_laws.specs.Asked.{names_kept}
+use Rattle.fact_laws.specs.Asked.{names_of_rows}
 use Rattle.verdicts.specs.Items.{HasRoomForItem}
 use Rattle.verdicts.specs.Verdicts.{HasVerdicts}
-use Rattle.verdicts.specs.cpe_registry.Registered.{name_in}
+use Rattle.verdicts.specs.name_registry.Registered.{name_in}
 use Rattle.verdicts.specs.facts.Facts.{LeadsTo}
 use Rattle.verdicts.specs.facts.Looks.{item_looks}
 use Rattle.engine_edits.specs.Parts.{rows_in}
-use Rattle.engine_edits.proofs.MadeLemmas.{told}
+use Rattle.engine_edits.proofs.MadeLemmas.{reported}
 use Rattle.engine_edits.proofs.PartsLemmas.{by_lists}
 use Rattle.engine_edits.proofs.items.make_item.Given.{Over}
 use Rattle.engine_edits.proofs.items.make_item.Goals as goal
@@ -27,8 +27,8 @@ module _ (g : Over) (c : After-deref g) where
       subst (λ (t : Names). LeadsTo t (rows_in p).entries Follow c.args.id.0 c.deref.result.now) (sym (c.table.ensures ∙ c.add_item.ensures.table))
       (subst (LeadsTo p.registry.table (rows_in p).entries Follow c.args.id.0) (sym c.deref.ensures.value) c.requires.all.ends)
 
-  stood : HasVerdicts c.table.result.now c.args.parts.now.verdicts (rows_in c.args.parts.now)
-  stood =
+  rows_before : HasVerdicts c.table.result.now c.args.parts.now.verdicts (rows_in c.args.parts.now)
+  rows_before =
       let p = c.args.parts.now in
       subst (λ (t : Names). HasVerdicts t p.verdicts (rows_in p)) (sym (c.table.ensures ∙ c.add_item.ensures.table)) c.requires.all.are.verdicts
 
@@ -38,10 +38,10 @@ add_item-requires-2-clause-room g c =
     subst (λ (t : Names). HasRoomForItem p.verdicts.facts t (length c.deref.result.now)) (sym (c.table.ensures ∙ c.add_item.ensures.table))
     (subst (λ (xs : List NameId). HasRoomForItem p.verdicts.facts p.registry.table (length xs)) (sym c.deref.ensures.value) c.requires.all.boards)
 
-pub add_item-requires-2-clause-stood : goal.add_item-requires-2-clause-stood
-add_item-requires-2-clause-stood g c =
-    let at = (goal.at.add_item-requires-2-clause-stood g c).After-deref in
-    (rows_in c.args.parts.now, c.requires.lawful, stood g at, there g at)
+pub add_item-requires-2-clause-rows_before : goal.add_item-requires-2-clause-rows_before
+add_item-requires-2-clause-rows_before g c =
+    let at = (goal.at.add_item-requires-2-clause-rows_before g c).After-deref in
+    (rows_in c.args.parts.now, c.requires.lawful, rows_before g at, there g at)
 
 pub returns-clause-are : goal.returns-clause-are
 returns-clause-are g c =
@@ -54,8 +54,8 @@ returns-clause-are g c =
     let add = c.add_item.ensures in
     let at = (goal.at.returns-clause-are g c).After-deref in
     by_lists p.registry c.add_item.new.self c.add_item-2.new.self next [] add.table add.entries add.items
-    (c.lists_are_shown.ensures.order old (holds_in old) (n ∷ names_kept rows) (names_kept next) (c.items_arrive.ensures.kept rows n) c.requires.all.are.held)
-    (subst (λ (t : Names). HasVerdicts t c.add_item-2.new.self (after rows (edit.Item (name_at t id)))) (c.table.ensures ∙ add.table) (c.add_item-2.ensures.verdicts rows (stood g at) (there g at)))
+    (c.lists_are_shown.ensures.order old (holds_in old) (n ∷ names_of_rows rows) (names_of_rows next) (c.items_arrive.ensures.kept rows n) c.requires.all.are.held)
+    (subst (λ (t : Names). HasVerdicts t c.add_item-2.new.self (after rows (edit.Item (name_at t id)))) (c.table.ensures ∙ add.table) (c.add_item-2.ensures.verdicts rows (rows_before g at) (there g at)))
 
 pub returns-clause-changes : goal.returns-clause-changes
 returns-clause-changes g c =
@@ -65,12 +65,12 @@ returns-clause-changes g c =
     let next = after rows (edit.Item (name_in p.registry.table id)) in
     let at = (goal.at.returns-clause-changes g c).After-deref in
     let w = c.add_item-2.new.self in
-    let stands = subst (λ (t : Names). HasVerdicts t w (after rows (edit.Item (name_at t id)))) (c.table.ensures ∙ c.add_item.ensures.table) (c.add_item-2.ensures.verdicts rows (stood g at) (there g at)) in
-    told rows next w c.changes.result (c.changes.ensures p.registry.table next stands) (c.add_item-2.ensures.same.known ∙ c.requires.known) refl
+    let present = subst (λ (t : Names). HasVerdicts t w (after rows (edit.Item (name_at t id)))) (c.table.ensures ∙ c.add_item.ensures.table) (c.add_item-2.ensures.verdicts rows (rows_before g at) (there g at)) in
+    reported rows next w c.changes.result (c.changes.ensures p.registry.table next present) (c.add_item-2.ensures.same.known ∙ c.requires.known) refl
 
 pub returns-clause-steps : goal.returns-clause-steps
 returns-clause-steps g c =
     let rows = rows_in c.args.parts.now in
     let at = (goal.at.returns-clause-steps g c).After-deref in
     subst (λ (t : Names). StepsWithin c.args.steps.now c.add_item-2.new.steps (item_looks rows (name_at t c.args.id))) (c.table.ensures ∙ c.add_item.ensures.table)
-    (c.add_item-2.ensures.steps rows (stood g at) (there g at))
+    (c.add_item-2.ensures.steps rows (rows_before g at) (there g at))

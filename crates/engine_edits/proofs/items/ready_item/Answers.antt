@@ -1,7 +1,7 @@
 use Rattle.std.proofs.Common.{◌∷◌, [], sym, ap, subst}
 use Rattle.cpe_rows.specs.declared.edit.Edit.TheVariants as edit
 use Rattle.name_index.specs.Table.{Names}
-use Rattle.verdicts.specs.cpe_registry.Registered.{name_in}
+use Rattle.verdicts.specs.name_registry.Registered.{name_in}
 use Rattle.engine_edits.specs.Parts.{AreOf, rows_in}
 use Rattle.engine_edits.proofs.PartsLemmas.{rows_are}
 use Rattle.engine_edits.proofs.items.ready_item.Goals as goal

@@ -5,10 +5,10 @@ use Rattle.cpe_rows.specs.declared.statement.Mode.TheVariants.{Follow}
 use Rattle.name_index.specs.declared.table.NameId.{NameId}
 use Rattle.name_index.specs.Table.{IsLive, Names}
 use Rattle.verdicts.specs.Items.{HasRoomForItem}
-use Rattle.verdicts.specs.cpe_registry.Registered.{name_in}
+use Rattle.verdicts.specs.name_registry.Registered.{name_in}
 use Rattle.verdicts.specs.facts.Facts.{LeadsTo}
 use Rattle.engine_edits.specs.Parts.{AreOf, rows_in}
-use Rattle.engine_edits.specs.declared.parts.Parts.{Parts}
+use Rattle.engine_edits.specs.declared.parts.EngineParts.{EngineParts}
 use Rattle.engine_edits.proofs.PartsLemmas.{by_verdicts}
 use Rattle.engine_edits.proofs.ReadyLemmas.{are_still, named_still, rows_stay}
 use Rattle.engine_edits.proofs.MadeLemmas.{are_ends, few_ends}
@@ -29,17 +29,17 @@ returns-clause-ready c =
     let rows = rows_in p in
     let r = c.reserve_item-2.new.self in
     let w = c.reserve_item.new.self in
-    let q : Parts = record p { registry = r; verdicts = w } in
+    let q : EngineParts = record p { registry = r; verdicts = w } in
     let same = c.in_ok-reserve_item-2.ensures.same in
     let verdicts = c.in_ok-reserve_item.ensures.same in
     let here = rows_stay p q same verdicts in
     let ends = c.in_ok-ends.ensures in
     let id = c.args.id in
     let others = name_in p.registry.table id ∷ [] in
-    let stands = c.in_ok-reserve_item.ensures.verdicts p.registry.table rows c.requires.are.verdicts in
+    let present = c.in_ok-reserve_item.ensures.verdicts p.registry.table rows c.requires.are.verdicts in
     let leads = are_ends p.registry.table r.table rows.entries id.0 c.in_ok-ends.ends.items c.in_ok-ends.ends.items same.table refl ends.live ends.names in
     record {
-      are = subst (λ (x : Rows). AreOf r w x (name_in r.table id ∷ [])) (sym here) (named_still p.registry r w rows id same (are_still p.registry r p.verdicts w rows others same stands c.requires.are));
+      are = subst (λ (x : Rows). AreOf r w x (name_in r.table id ∷ [])) (sym here) (named_still p.registry r w rows id same (are_still p.registry r p.verdicts w rows others same present c.requires.are));
       live = subst (λ (t : Names). IsLive t id.0) (sym same.table) c.requires.live;
       ends = subst (λ (x : Rows). LeadsTo r.table x.entries Follow id.0 c.in_ok-ends.ends.items) (sym here) leads;
       room = c.in_ok-reserve_item-2.ensures.room;

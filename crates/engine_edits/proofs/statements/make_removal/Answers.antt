@@ -3,9 +3,9 @@ use Rattle.std.specs.List.{list_any}
 use Rattle.std.specs.Prelude.{find, position}
 use Rattle.cpe_rows.specs.Rows.{has_id}
 use Rattle.engine_edits.specs.Parts.{rows_in}
-use Rattle.engine_edits.specs.Told.{dropped_by}
+use Rattle.engine_edits.specs.ChangedVerdicts.{dropped_by}
 use Rattle.engine_edits.proofs.MadeLemmas.{is_there}
-use Rattle.engine_edits.proofs.StatementLemmas.{dropped_told}
+use Rattle.engine_edits.proofs.StatementLemmas.{dropped_reported}
 use Rattle.engine_edits.proofs.statements.make_removal.Goals as goal
 
 pub take_statement-requires-clause-has : goal.take_statement-requires-clause-has
@@ -19,5 +19,5 @@ returns-clause-changes g c =
     let truth = c.verdict-truth.ensures p.registry.table rows c.requires.all.are.verdicts in
     c.dropped_change.ensures
     ∙ (λ k. dropped_by (c.place_of-place.ensures k) (truth k))
-    ∙ sym (dropped_told rows (position (has_id id) rows.statements) (find (has_id id) rows.statements))
-    ∙ sym (c.statements_stand_alone.ensures.dropped_changes rows id)
+    ∙ sym (dropped_reported rows (position (has_id id) rows.statements) (find (has_id id) rows.statements))
+    ∙ sym (c.statements_are_independent.ensures.dropped_changes rows id)

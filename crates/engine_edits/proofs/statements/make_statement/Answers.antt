@@ -6,12 +6,12 @@ use Rattle.cpe_rows.specs.declared.edit.Edit.TheVariants as edit
 use Rattle.name_index.specs.product_orders.Elements.{SameElements}
 use Rattle.name_index.specs.Table.{Names}
 use Rattle.fact_laws.specs.Shown.{holds_in, names_at}
-use Rattle.fact_laws.specs.Asked.{names_kept}
+use Rattle.fact_laws.specs.Asked.{names_of_rows}
 use Rattle.verdicts.specs.Addition.{HasVerdictsBeside, IsAddition}
 use Rattle.verdicts.specs.Verdicts.{HasVerdicts}
 use Rattle.engine_edits.specs.Parts.{rows_in}
 use Rattle.engine_edits.specs.Ready.{added}
-use Rattle.engine_edits.proofs.StatementLemmas.{put_told}
+use Rattle.engine_edits.proofs.StatementLemmas.{put_reported}
 use Rattle.engine_edits.proofs.statements.make_statement.Given.{Over}
 use Rattle.engine_edits.proofs.statements.make_statement.Goals as goal
 use Rattle.engine_edits.proofs.statements.make_statement.Goals.{After-add_statement}
@@ -38,8 +38,8 @@ module _ (g : Over) (c : After-add_statement g) where
   beside : HasVerdictsBeside c.table-table.result.now c.args.parts.now.verdicts (rows_in c.args.parts.now) (added c.args.addition) c.args.addition
   beside = subst (λ (t : Names). HasVerdictsBeside t c.args.parts.now.verdicts (rows_in c.args.parts.now) (added c.args.addition) c.args.addition) (sym c.table-table.ensures) c.requires.all.verdicts
 
-  stands : HasVerdicts c.args.parts.now.registry.table c.add_statement.new.self (after (rows_in c.args.parts.now) (edit.PutStatement (added c.args.addition)))
-  stands =
+  present : HasVerdicts c.args.parts.now.registry.table c.add_statement.new.self (after (rows_in c.args.parts.now) (edit.PutStatement (added c.args.addition)))
+  present =
       let rows = rows_in c.args.parts.now in
       subst (λ (t : Names). HasVerdicts t c.add_statement.new.self (after rows (edit.PutStatement (added c.args.addition)))) c.table-table.ensures
       ((c.add_statement.ensures (added c.args.addition) c.args.ids.items rows.entries ready).verdicts rows refl beside)
@@ -55,9 +55,9 @@ returns-clause-are g c =
     record {
       entries = refl;
       items = refl;
-      held = c.lists_are_shown.ensures.order table (holds_in table) (names_at table c.args.ids.items ++ names_kept rows) (names_kept next)
-          (subst (λ (ns : List Values). SameElements (ns ++ names_kept rows) (names_kept next)) (sym all.numbered.names) (c.statements_ask.ensures.kept rows s)) all.held;
-      verdicts = stands g (goal.at.returns-clause-are g c).After-add_statement;
+      held = c.lists_are_shown.ensures.order table (holds_in table) (names_at table c.args.ids.items ++ names_of_rows rows) (names_of_rows next)
+          (subst (λ (ns : List Values). SameElements (ns ++ names_of_rows rows) (names_of_rows next)) (sym all.numbered.names) (c.statements_ask.ensures.kept rows s)) all.held;
+      verdicts = present g (goal.at.returns-clause-are g c).After-add_statement;
     }
 
 pub returns-clause-changes : goal.returns-clause-changes
@@ -65,11 +65,11 @@ returns-clause-changes g c =
     let rows = rows_in c.args.parts.now in
     let s = added c.args.addition in
     let next = after rows (edit.PutStatement s) in
-    let truth = c.truth_at.ensures c.args.parts.now.registry.table next (stands g (goal.at.returns-clause-changes g c).After-add_statement) in
+    let truth = c.truth_at.ensures c.args.parts.now.registry.table next (present g (goal.at.returns-clause-changes g c).After-add_statement) in
     c.put_change.ensures
-    ∙ put_told rows next s c.len-place.result c.truth_at.result c.len-place.ensures refl truth
-    ∙ (λ k. change (length rows.statements) None (Some (c.statements_stand_alone.ensures.put rows s s k)) ∷ [])
-    ∙ sym (c.statements_stand_alone.ensures.put_changes rows s)
+    ∙ put_reported rows next s c.len-place.result c.truth_at.result c.len-place.ensures refl truth
+    ∙ (λ k. change (length rows.statements) None (Some (c.statements_are_independent.ensures.put rows s s k)) ∷ [])
+    ∙ sym (c.statements_are_independent.ensures.put_changes rows s)
 
 pub returns-clause-steps : goal.returns-clause-steps
 returns-clause-steps g c =

@@ -3,13 +3,13 @@ use Rattle.cpe_rows.specs.Rows.{Rows}
 use Rattle.cpe_rows.specs.declared.edit.Edit.TheVariants as edit
 use Rattle.cpe_rows.specs.declared.statement.Statement.{Statement}
 use Rattle.fact_laws.specs.Shown.{holds_in, names_at, Shows}
-use Rattle.fact_laws.specs.Asked.{names_kept}
+use Rattle.fact_laws.specs.Asked.{names_of_rows}
 use Rattle.name_index.specs.declared.table.NameId.{NameId}
 use Rattle.verdicts.specs.Addition.{HasVerdictsBeside, IsAddition}
-use Rattle.engine_edits.specs.Numbered.{AreNumbered}
+use Rattle.engine_edits.specs.Numbered.{AreFactNumbers}
 use Rattle.engine_edits.specs.Parts.{rows_in}
 use Rattle.engine_edits.specs.Ready.{added}
-use Rattle.engine_edits.specs.declared.parts.Parts.{Parts}
+use Rattle.engine_edits.specs.declared.parts.EngineParts.{EngineParts}
 use Rattle.engine_edits.proofs.PartsLemmas.{by_verdicts, no_others, rows_are}
 use Rattle.engine_edits.proofs.ReadyLemmas.{rows_stay, same_parts, same_registry}
 use Rattle.engine_edits.proofs.statements.ready_statement.Goals as goal
@@ -20,7 +20,7 @@ returns-in-Ok c =
     let rows = rows_in p in
     let table = p.registry.table in
     let w = c.ready_statement.new.self in
-    let q : Parts = record p { verdicts = w } in
+    let q : EngineParts = record p { verdicts = w } in
     let same = c.in-Ok.ensures.same in
     let here = same_registry p.registry in
     let are = c.requires.beside.are in
@@ -32,8 +32,8 @@ returns-in-Ok c =
       same = same_parts p q here same refl;
       edit = ap (λ (s : Statement). edit.PutStatement s) (sym is);
       all = record {
-        numbered = subst (λ (s : Statement). AreNumbered table s ids) is c.requires.beside.found;
-        held = subst (λ (x : Rows). Shows table (holds_in table) (names_at table ids ++ names_kept x)) (sym (rows_stay p q here same)) are.held;
+        numbered = subst (λ (s : Statement). AreFactNumbers table s ids) is c.requires.beside.found;
+        held = subst (λ (x : Rows). Shows table (holds_in table) (names_at table ids ++ names_of_rows x)) (sym (rows_stay p q here same)) are.held;
         addition = subst (λ (s : Statement). IsAddition w table p.registry.entries s ids a) is ready;
         verdicts = subst (λ (x : Rows). HasVerdictsBeside table w x (added a) a) (sym (rows_stay p q here same)) (subst (λ (s : Statement). HasVerdictsBeside table w rows s a) is (c.in-Ok.ensures.verdicts rows are.verdicts));
       };

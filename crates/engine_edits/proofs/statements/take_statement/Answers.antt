@@ -7,7 +7,7 @@ use Rattle.cpe_rows.specs.declared.edit.Edit.TheVariants as edit
 use Rattle.name_index.specs.product_orders.Elements.{SameElements}
 use Rattle.name_index.specs.Table.{Names}
 use Rattle.fact_laws.specs.Shown.{holds_in, names_at}
-use Rattle.fact_laws.specs.Asked.{names_kept}
+use Rattle.fact_laws.specs.Asked.{names_of_rows}
 use Rattle.verdicts.specs.Verdicts.{HasVerdicts}
 use Rattle.engine_edits.specs.Parts.{AreOf, rows_in}
 use Rattle.engine_edits.proofs.PartsLemmas.{no_others}
@@ -27,15 +27,15 @@ held g c =
     let next = after rows (edit.DropStatement id) in
     let found = found_some (has_id id) rows.statements c.requires.has in
     let at = c.table-table.ensures in
-    let stood = subst (λ (t : Names). HasVerdicts t p.verdicts rows) (sym at) are.verdicts in
+    let rows_before = subst (λ (t : Names). HasVerdicts t p.verdicts rows) (sym at) are.verdicts in
     let w = c.remove_statement-ids.new.self in
     let names = subst (λ (t : Names). names_at t c.remove_statement-ids.result.items ≡ fact_names found.0.test) at (c.remove_statement-ids.ensures.named found.0 found.1) in
     let here : AreOf p.registry w next (names_at table c.remove_statement-ids.result.items) = record {
       entries = refl;
       items = refl;
-      held = c.lists_are_shown.ensures.order table (holds_in table) (names_kept rows) (names_at table c.remove_statement-ids.result.items ++ names_kept next)
-          (subst (λ (ns : List Values). SameElements (names_kept rows) (ns ++ names_kept next)) (sym names) (c.statements_ask.ensures.kept_without rows id found.0 found.1)) are.held;
-      verdicts = subst (λ (t : Names). HasVerdicts t w next) at (c.remove_statement-ids.ensures.verdicts rows stood);
+      held = c.lists_are_shown.ensures.order table (holds_in table) (names_of_rows rows) (names_at table c.remove_statement-ids.result.items ++ names_of_rows next)
+          (subst (λ (ns : List Values). SameElements (names_of_rows rows) (ns ++ names_of_rows next)) (sym names) (c.statements_ask.ensures.kept_without rows id found.0 found.1)) are.held;
+      verdicts = subst (λ (t : Names). HasVerdicts t w next) at (c.remove_statement-ids.ensures.verdicts rows rows_before);
     } in
     no_others p.registry w next c.remove_statement-ids.result.items c.deref.result.now c.deref.ensures.value here
 

@@ -1,8 +1,8 @@
 use Rattle.std.proofs.Common.{◌≡◌, ◌-◌, ◌++◌, ◌∷◌, [], List, Option, ap, arith, sym, ◌∙◌}
 use Rattle.std.proofs.lemmas.List.{map-append}
-use Rattle.cpe_snapshot.specs.Reading.{entry_at, many}
-use Rattle.cpe_snapshot.specs.declared.rows.PlacedDeprecation.{PlacedDeprecation}
-use Rattle.cpe_snapshot.specs.declared.rows.PlacedEntry.{PlacedEntry}
+use Rattle.snapshot_bytes.specs.Reading.{entry_at, many}
+use Rattle.snapshot_bytes.specs.declared.rows.PlacedDeprecation.{PlacedDeprecation}
+use Rattle.snapshot_bytes.specs.declared.rows.PlacedEntry.{PlacedEntry}
 use Rattle.engine_snapshot.specs.Begun.{AreFine}
 use Rattle.engine_snapshot.specs.Read.{with_placed}
 use Rattle.engine_snapshot.proofs.EditLemmas.{handed_on}

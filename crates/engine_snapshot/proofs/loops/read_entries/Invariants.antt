@@ -1,5 +1,5 @@
 use Rattle.std.proofs.Common.{◌-◌}
-use Rattle.cpe_snapshot.specs.Reading.{entry_at, many}
+use Rattle.snapshot_bytes.specs.Reading.{entry_at, many}
 use Rattle.engine_snapshot.proofs.ReadLemmas.{AreEntriesSoFar}
 use Rattle.engine_snapshot.proofs.loops.read_entries.Given as goal
 

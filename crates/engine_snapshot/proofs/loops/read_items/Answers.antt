@@ -1,5 +1,5 @@
 use Rattle.cpe_rows.specs.Lawful.{IsLawful}
-use Rattle.cpe_snapshot.specs.Reading.{name_at}
+use Rattle.snapshot_bytes.specs.Reading.{name_at}
 use Rattle.engine_snapshot.proofs.EditLemmas.{handed_on}
 use Rattle.engine_snapshot.proofs.PartsRead.{name_lower}
 use Rattle.engine_snapshot.proofs.ReadLemmas.{more_items, steps, unput}

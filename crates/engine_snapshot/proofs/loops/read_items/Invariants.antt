@@ -1,5 +1,5 @@
 use Rattle.std.proofs.Common.{◌-◌}
-use Rattle.cpe_snapshot.specs.Reading.{many, name_at}
+use Rattle.snapshot_bytes.specs.Reading.{many, name_at}
 use Rattle.engine_snapshot.specs.Begun.{with_items}
 use Rattle.engine_snapshot.proofs.ReadLemmas.{ArePutSoFar}
 use Rattle.engine_snapshot.proofs.loops.read_items.Given as goal

@@ -1,5 +1,5 @@
 use Rattle.cpe_rows.specs.Lawful.{IsLawful}
-use Rattle.cpe_snapshot.specs.Reading.{result_at}
+use Rattle.snapshot_bytes.specs.Reading.{result_at}
 use Rattle.engine_snapshot.proofs.EditLemmas.{handed_on}
 use Rattle.engine_snapshot.proofs.ReadLemmas.{more_results, steps, unput}
 use Rattle.engine_snapshot.proofs.loops.read_results.Goals as goal

@@ -1,5 +1,5 @@
 use Rattle.cpe_rows.specs.Lawful.{IsLawful}
-use Rattle.cpe_snapshot.specs.Reading.{statement_at}
+use Rattle.snapshot_bytes.specs.Reading.{statement_at}
 use Rattle.engine_snapshot.proofs.EditLemmas.{handed_on}
 use Rattle.engine_snapshot.proofs.ReadLemmas.{more_statements, steps, unput}
 use Rattle.engine_snapshot.proofs.loops.read_statements.Goals as goal

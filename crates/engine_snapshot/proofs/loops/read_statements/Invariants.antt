@@ -1,5 +1,5 @@
 use Rattle.std.proofs.Common.{◌-◌}
-use Rattle.cpe_snapshot.specs.Reading.{many, statement_at}
+use Rattle.snapshot_bytes.specs.Reading.{many, statement_at}
 use Rattle.engine_snapshot.specs.Begun.{with_statements}
 use Rattle.engine_snapshot.proofs.ReadLemmas.{ArePutSoFar}
 use Rattle.engine_snapshot.proofs.loops.read_statements.Given as goal

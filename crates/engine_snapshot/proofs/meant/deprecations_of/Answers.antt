@@ -1,6 +1,6 @@
 use Rattle.std.proofs.Common.{Option, map, subst, sym}
-use Rattle.cpe_snapshot.specs.States.{IsMeantDeprecation}
-use Rattle.cpe_snapshot.specs.declared.rows.PlacedDeprecation.{PlacedDeprecation}
+use Rattle.snapshot_bytes.specs.States.{IsMeantDeprecation}
+use Rattle.snapshot_bytes.specs.declared.rows.PlacedDeprecation.{PlacedDeprecation}
 use Rattle.engine_snapshot.specs.Meant.{undeprecated}
 use Rattle.engine_snapshot.proofs.EditLemmas.{handed_on}
 use Rattle.engine_snapshot.proofs.MeantLemmas.{next_meant, none_meant}

@@ -30,4 +30,4 @@ returns-in-Ok-clause-refused c =
     c.deprecate_all.ensures.refused
 
 pub returns-in-Err-clause-refused : goal.returns-in-Err-clause-refused
-returns-in-Err-clause-refused c = λ is ds are lawful. c.in-Err.ensures.refused (sym c.let_go.ensures ∙ is) ds are
+returns-in-Err-clause-refused c = λ is ds are lawful. c.in-Err.ensures.refused (sym c.discard.ensures ∙ is) ds are

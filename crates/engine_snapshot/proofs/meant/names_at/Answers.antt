@@ -1,5 +1,5 @@
 use Rattle.std.proofs.Common.{get_or, map, ◌∙◌}
-use Rattle.cpe_snapshot.proofs.NameLemmas.{next_named, none_named}
+use Rattle.snapshot_bytes.proofs.NameLemmas.{next_named, none_named}
 use Rattle.engine_snapshot.specs.Meant.{undeprecated}
 use Rattle.engine_snapshot.proofs.EditLemmas.{handed_on}
 use Rattle.engine_snapshot.proofs.MeantLemmas.{name_there}

@@ -1,5 +1,5 @@
 use Rattle.std.proofs.Common.{map, take}
-use Rattle.cpe_snapshot.specs.States.{AreNamed}
+use Rattle.snapshot_bytes.specs.States.{AreNamed}
 use Rattle.engine_snapshot.specs.Meant.{undeprecated}
 use Rattle.engine_snapshot.proofs.meant.names_at.Given as goal
 

@@ -1,5 +1,5 @@
 use Rattle.std.proofs.Common.{ap, arith, sym, ◌∙◌}
-use Rattle.cpe_snapshot.specs.Reading.{head_at}
+use Rattle.snapshot_bytes.specs.Reading.{head_at}
 use Rattle.engine_snapshot.proofs.EditLemmas.{handed_on}
 use Rattle.engine_snapshot.proofs.SnapshotLemmas.{has_entries, has_head, has_others, is_snap}
 use Rattle.engine_snapshot.proofs.read.read_snapshot.Goals as goal
@@ -23,4 +23,4 @@ returns-in-Ok-clause-loaded g c =
 pub returns-in-Err-clause-refused : goal.returns-in-Err-clause-refused
 returns-in-Err-clause-refused g c =
     λ is rows lawful snap. has_others c.args.bytes.now rows snap c.in_ok-head.head c.read_head.new.cursor (ap head_at (sym c.new-cursor.ensures) ∙ c.in_ok-head.ensures)
-    c.load_entries.new.cursor c.in_ok-engine.engine c.in_ok-engine.ensures.loaded lawful (c.in-Err.ensures.refused (sym c.let_go.ensures ∙ is))
+    c.load_entries.new.cursor c.in_ok-engine.engine c.in_ok-engine.ensures.loaded lawful (c.in-Err.ensures.refused (sym c.discard.ensures ∙ is))

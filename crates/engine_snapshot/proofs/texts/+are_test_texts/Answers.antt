@@ -2,8 +2,8 @@ use Rattle.std.proofs.Common.{List, ap, subst, sym, ◌∙◌, take_all}
 use Rattle.std.specs.List.{AllByRecursion, flat_map}
 use Rattle.cpe_rows.specs.declared.test.CheckKey.{CheckKey}
 use Rattle.cpe_rows.specs.declared.test.Test.{Test}
-use Rattle.cpe_snapshot.specs.States.{IsTextKey, keys_of}
-use Rattle.cpe_snapshot.proofs.TextLemmas.{keys_check, keys_fact, keys_logic, keys_next}
+use Rattle.snapshot_bytes.specs.States.{IsTextKey, keys_of}
+use Rattle.snapshot_bytes.proofs.TextLemmas.{keys_check, keys_fact, keys_logic, keys_next}
 use Rattle.engine_snapshot.proofs.texts.+are_test_texts.Goals as goal
 
 abbrev Said : Test → Type 0

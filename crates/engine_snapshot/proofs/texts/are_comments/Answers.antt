@@ -1,7 +1,7 @@
 use Rattle.std.proofs.Common.{List, subst, take_all}
 use Rattle.std.specs.List.{AllByRecursion}
 use Rattle.cpe_rows.specs.declared.entry.Note.{Note}
-use Rattle.cpe_snapshot.specs.States.{IsString}
+use Rattle.snapshot_bytes.specs.States.{IsString}
 use Rattle.engine_snapshot.proofs.WriteLemmas.{holds_next}
 use Rattle.engine_snapshot.proofs.texts.are_comments.Goals as goal
 

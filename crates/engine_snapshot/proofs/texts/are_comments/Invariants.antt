@@ -1,7 +1,7 @@
 use Rattle.std.proofs.Common.{take}
 use Rattle.std.specs.List.{AllByRecursion}
 use Rattle.cpe_rows.specs.declared.entry.Note.{Note}
-use Rattle.cpe_snapshot.specs.States.{IsString}
+use Rattle.snapshot_bytes.specs.States.{IsString}
 use Rattle.engine_snapshot.proofs.texts.are_comments.Given as goal
 
 abbrev pub invariant-loop-note : goal.invariant-loop-note

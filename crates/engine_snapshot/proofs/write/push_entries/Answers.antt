@@ -1,6 +1,6 @@
 use Rattle.cpe_rows.specs.declared.entry.Entry.{Entry}
-use Rattle.cpe_snapshot.specs.Snapshot.{entry_row}
-use Rattle.cpe_snapshot.specs.States.{IsTextEntry, placed_entry}
+use Rattle.snapshot_bytes.specs.Snapshot.{entry_row}
+use Rattle.snapshot_bytes.specs.States.{IsTextEntry, placed_entry}
 use Rattle.engine_snapshot.proofs.WriteLemmas.{next_holds, next_row}
 use Rattle.engine_snapshot.proofs.write.push_entries.Goals as goal
 

@@ -1,7 +1,7 @@
 use Rattle.std.proofs.Common.{◌≡◌, ◌++◌, take}
 use Rattle.std.specs.List.{AllByRecursion, flat_map}
-use Rattle.cpe_snapshot.specs.Snapshot.{entry_row}
-use Rattle.cpe_snapshot.specs.States.{IsTextEntry, placed_entry}
+use Rattle.snapshot_bytes.specs.Snapshot.{entry_row}
+use Rattle.snapshot_bytes.specs.States.{IsTextEntry, placed_entry}
 use Rattle.engine_snapshot.proofs.write.push_entries.Given as goal
 
 abbrev pub invariant-loop-k : goal.invariant-loop-k

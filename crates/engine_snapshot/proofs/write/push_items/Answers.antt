@@ -2,7 +2,7 @@ use Rattle.std.proofs.Common.{◌≤◌, ◌++◌, ℕ, [], List, Option, length
 use Rattle.std.specs.List.{flat_map}
 use Rattle.std.specs.Option.{option_map_or}
 use Rattle.cpe_rows.specs.cpe_name.Eleven.{Values}
-use Rattle.cpe_snapshot.specs.Parts.{name}
+use Rattle.snapshot_bytes.specs.Parts.{name}
 use Rattle.engine_snapshot.proofs.WriteLemmas.{slots_are}
 use Rattle.engine_snapshot.proofs.write.push_items.Goals as goal
 

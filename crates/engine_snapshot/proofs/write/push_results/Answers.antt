@@ -1,7 +1,7 @@
 use Rattle.cpe_rows.specs.declared.test.CheckKey.{CheckKey}
 use Rattle.cpe_rows.specs.declared.truth.Truth.{Truth}
-use Rattle.cpe_snapshot.specs.Snapshot.{result_row}
-use Rattle.cpe_snapshot.specs.States.{IsTextKey, result_of}
+use Rattle.snapshot_bytes.specs.Snapshot.{result_row}
+use Rattle.snapshot_bytes.specs.States.{IsTextKey, result_of}
 use Rattle.engine_snapshot.proofs.WriteLemmas.{next_holds, next_row}
 use Rattle.engine_snapshot.proofs.write.push_results.Goals as goal
 

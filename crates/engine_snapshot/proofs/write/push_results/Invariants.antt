@@ -2,8 +2,8 @@ use Rattle.std.proofs.Common.{◌≡◌, ◌++◌, take}
 use Rattle.std.specs.List.{AllByRecursion, flat_map}
 use Rattle.cpe_rows.specs.declared.test.CheckKey.{CheckKey}
 use Rattle.cpe_rows.specs.declared.truth.Truth.{Truth}
-use Rattle.cpe_snapshot.specs.Snapshot.{result_row}
-use Rattle.cpe_snapshot.specs.States.{IsTextKey, result_of}
+use Rattle.snapshot_bytes.specs.Snapshot.{result_row}
+use Rattle.snapshot_bytes.specs.States.{IsTextKey, result_of}
 use Rattle.engine_snapshot.proofs.write.push_results.Given as goal
 
 abbrev pub invariant-loop-k : goal.invariant-loop-k

@@ -1,5 +1,5 @@
-use Rattle.cpe_snapshot.specs.Snapshot.{statement_row}
-use Rattle.cpe_snapshot.specs.States.{IsTextStatement}
+use Rattle.snapshot_bytes.specs.Snapshot.{statement_row}
+use Rattle.snapshot_bytes.specs.States.{IsTextStatement}
 use Rattle.engine_snapshot.proofs.WriteLemmas.{next_holds, next_row}
 use Rattle.engine_snapshot.proofs.write.push_statements.Goals as goal
 

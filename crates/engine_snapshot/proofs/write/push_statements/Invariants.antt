@@ -1,7 +1,7 @@
 use Rattle.std.proofs.Common.{◌≡◌, ◌++◌, take}
 use Rattle.std.specs.List.{AllByRecursion, flat_map}
-use Rattle.cpe_snapshot.specs.Snapshot.{statement_row}
-use Rattle.cpe_snapshot.specs.States.{IsTextStatement}
+use Rattle.snapshot_bytes.specs.Snapshot.{statement_row}
+use Rattle.snapshot_bytes.specs.States.{IsTextStatement}
 use Rattle.engine_snapshot.proofs.write.push_statements.Given as goal
 
 abbrev pub invariant-loop-k : goal.invariant-loop-k

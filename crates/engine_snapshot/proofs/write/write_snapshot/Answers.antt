@@ -1,6 +1,6 @@
 use Rattle.std.proofs.Common.{sym, subst, ◌∙◌}
 use Rattle.std.proofs.lemmas.Result.{IfOk-weaker}
-use Rattle.cpe_snapshot.specs.States.{Snap}
+use Rattle.snapshot_bytes.specs.States.{Snap}
 use Rattle.engine_snapshot.proofs.WriteLemmas.{all_written, by_both}
 use Rattle.engine_snapshot.proofs.write.write_snapshot.Goals as goal
 

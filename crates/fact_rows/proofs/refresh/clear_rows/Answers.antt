@@ -1,5 +1,5 @@
 use Rattle.std.proofs.Common.{get_or, refl, arith}
-use Rattle.fact_rows.specs.Facts.{name_id}
+use Rattle.fact_rows.specs.Facts.{fact_name_id}
 use Rattle.fact_rows.proofs.ChangeLemmas.{facts_next, marks_first, marks_next}
 use Rattle.fact_rows.proofs.refresh.clear_rows.Goals as goal
 
@@ -15,7 +15,7 @@ loop-fact-preserved c =
     let next = c.clear_row.new.rows.entries in
     let e = c.clear_row.ensures in
     record {
-      facts = facts_next first now next (get_or facts i (name_id 0)).0 e.here e.others c.loop-fact.invariant.facts;
-      marks = marks_next first now next facts i (name_id 0) c.loop-fact-test.true e.unchanged e.others c.loop-fact.invariant.marks;
+      facts = facts_next first now next (get_or facts i (fact_name_id 0)).0 e.here e.others c.loop-fact.invariant.facts;
+      marks = marks_next first now next facts i (fact_name_id 0) c.loop-fact-test.true e.unchanged e.others c.loop-fact.invariant.marks;
       many = omega (arith, e.many, c.loop-fact.invariant.many);
     }

@@ -2,7 +2,7 @@ use Rattle.std.proofs.Common.{List, subst}
 use Rattle.cpe_rows.specs.declared.statement.Mode.TheVariants.{Follow}
 use Rattle.name_index.specs.declared.table.NameId.{NameId}
 use Rattle.fact_rows.specs.Calls.{Refreshed}
-use Rattle.fact_rows.specs.Facts.{has_end}
+use Rattle.fact_rows.specs.Facts.{has_end_of_fact}
 use Rattle.facts.proofs.LeadLemmas.{led_changes, led_next, led_users}
 use Rattle.facts.proofs.lead.lead_fact.Goals as goal
 
@@ -12,7 +12,7 @@ returns-clause-facts c names next tickets passes rest are answers a =
     let mid = c.set_ends.new.self in
     let new = c.refresh_facts.new.self in
     led_next names are c.args.board.now answers next tickets passes c.args.led rest c.args.facts.now mid new a l.here l.stay l.links l.others l.linked
-    (subst (λ (fs : List NameId). Refreshed mid new (has_end fs) Follow c.args.board.now) c.from_ref.ensures.value c.refresh_facts.ensures)
+    (subst (λ (fs : List NameId). Refreshed mid new (has_end_of_fact fs) Follow c.args.board.now) c.from_ref.ensures.value c.refresh_facts.ensures)
 
 pub returns-clause-same : goal.returns-clause-same
 returns-clause-same c =
@@ -25,4 +25,4 @@ returns-clause-changes c names next tickets passes rest are answers a =
     let mid = c.set_ends.new.self in
     let new = c.refresh_facts.new.self in
     led_changes names are c.args.board.now answers next tickets passes c.args.led rest c.args.facts.now mid new a l.here l.stay l.links l.others l.linked
-    (subst (λ (fs : List NameId). Refreshed mid new (has_end fs) Follow c.args.board.now) c.from_ref.ensures.value c.refresh_facts.ensures) l.changed
+    (subst (λ (fs : List NameId). Refreshed mid new (has_end_of_fact fs) Follow c.args.board.now) c.from_ref.ensures.value c.refresh_facts.ensures) l.changed

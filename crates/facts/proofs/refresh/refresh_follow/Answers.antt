@@ -1,7 +1,7 @@
 use Rattle.std.proofs.Common.{List, false, subst}
 use Rattle.cpe_rows.specs.declared.statement.Mode.TheVariants.{Follow}
 use Rattle.name_index.specs.declared.table.NameId.{NameId}
-use Rattle.kept_facts.specs.level_board.Board.{Board}
+use Rattle.fact_boards.specs.level_board.Board.{Board}
 use Rattle.fact_rows.specs.Facts.{is_under_one}
 use Rattle.fact_rows.specs.Calls.{Refreshed}
 use Rattle.facts.specs.Facts.{is_touched}

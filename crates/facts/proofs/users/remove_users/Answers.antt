@@ -3,21 +3,21 @@ use Rattle.std.specs.Prelude.{nat_eq}
 use Rattle.std.proofs.lemmas.List.Folds.{list_any_more}
 use Rattle.std.proofs.lemmas.List.{take_all}
 use Rattle.name_index.specs.declared.table.NameId.{NameId}
-use Rattle.fact_rows.specs.Facts.{has_end, name_id}
+use Rattle.fact_rows.specs.Facts.{has_end_of_fact, fact_name_id}
 use Rattle.facts.specs.Calls.{UsersRemoved}
 use Rattle.facts.proofs.LessLemmas.{less_next, less_none, rising_now}
 use Rattle.facts.proofs.users.remove_users.Goals as goal
 
 pub loop-id-init : goal.loop-id-init
-loop-id-init c = record { less = less_none c.args.facts.now (has_end (take 0 c.args.ids.now)) c.args.ticket (λ q. refl); changed = refl }
+loop-id-init c = record { less = less_none c.args.facts.now (has_end_of_fact (take 0 c.args.ids.now)) c.args.ticket (λ q. refl); changed = refl }
 
 pub loop-id-preserved : goal.loop-id-preserved
 loop-id-preserved c =
     let ids = c.args.ids.now in
     let i = c.loop-id.id-index in
     record {
-      less = less_next c.args.facts.now c.loop-id.facts c.remove_user.new.self (has_end (take i ids)) (has_end (take (i + 1) ids)) (get_or ids i (name_id 0)).0 c.args.ticket
-          (λ q. list_any_more (λ (id : NameId). nat_eq id.0 q) ids i (name_id 0) c.loop-id-test.true) c.loop-id.invariant.less c.remove_user.ensures.users;
+      less = less_next c.args.facts.now c.loop-id.facts c.remove_user.new.self (has_end_of_fact (take i ids)) (has_end_of_fact (take (i + 1) ids)) (get_or ids i (fact_name_id 0)).0 c.args.ticket
+          (λ q. list_any_more (λ (id : NameId). nat_eq id.0 q) ids i (fact_name_id 0) c.loop-id-test.true) c.loop-id.invariant.less c.remove_user.ensures.users;
       changed = c.remove_user.ensures.users.changed ∙ c.loop-id.invariant.changed;
     }
 
@@ -25,7 +25,7 @@ pub remove_user-requires : goal.remove_user-requires
 remove_user-requires c =
     let ids = c.args.ids.now in
     let i = c.loop-id.id-index in
-    rising_now c.args.facts.now c.loop-id.facts (has_end (take i ids)) (get_or ids i (name_id 0)).0 c.args.ticket c.loop-id.invariant.less (c.requires (get_or ids i (name_id 0)).0)
+    rising_now c.args.facts.now c.loop-id.facts (has_end_of_fact (take i ids)) (get_or ids i (fact_name_id 0)).0 c.args.ticket c.loop-id.invariant.less (c.requires (get_or ids i (fact_name_id 0)).0)
 
 pub returns-clause-less : goal.returns-clause-less
-returns-clause-less c = subst (λ (ids : List NameId). UsersRemoved c.args.facts.now c.loop-id.facts (has_end ids) c.args.ticket) (take_all c.loop-id.id-index c.args.ids.now c.loop-id-test.false) c.loop-id.invariant.less
+returns-clause-less c = subst (λ (ids : List NameId). UsersRemoved c.args.facts.now c.loop-id.facts (has_end_of_fact ids) c.args.ticket) (take_all c.loop-id.id-index c.args.ids.now c.loop-id-test.false) c.loop-id.invariant.less

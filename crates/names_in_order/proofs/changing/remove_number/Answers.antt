@@ -2,14 +2,14 @@ use Rattle.std.proofs.Common.{◌≢◌, List, ℕ, Some, slice_get, sym, subst}
 use Rattle.name_index.specs.declared.table.NameId.{NameId}
 use Rattle.name_index.specs.Table.{kept_at}
 use Rattle.names_in_order.specs.InOrder.{AreInOrder}
-use Rattle.names_in_order.proofs.ChangeLemmas.{held_stands, not_left, removed_order, stands_at}
+use Rattle.names_in_order.proofs.ChangeLemmas.{held_present, not_left, removed_order, occurs_at}
 use Rattle.names_in_order.proofs.changing.remove_number.Goals as goal
 
 pub drop_name-requires-clause-held : goal.drop_name-requires-clause-held
-drop_name-requires-clause-held c = held_stands c.args.table.now c.args.index.now.held c.args.numbers.now.numbers c.args.id c.requires.order.fits c.requires.order.same c.requires.has
+drop_name-requires-clause-held c = held_present c.args.table.now c.args.index.now.held c.args.numbers.now.numbers c.args.id c.requires.order.fits c.requires.order.same c.requires.has
 
 pub drop_name-requires-clause-live : goal.drop_name-requires-clause-live
-drop_name-requires-clause-live c = let at = stands_at c.args.numbers.now.numbers c.args.id c.requires.has in c.requires.order.live at.0 c.args.id at.1
+drop_name-requires-clause-live c = let at = occurs_at c.args.numbers.now.numbers c.args.id c.requires.has in c.requires.order.live at.0 c.args.id at.1
 
 pub returns-clause-order : goal.returns-clause-order
 returns-clause-order c =

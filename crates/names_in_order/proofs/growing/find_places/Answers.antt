@@ -6,7 +6,7 @@ use Rattle.name_index.specs.declared.table.NameId.{NameId}
 use Rattle.name_index.specs.Table.{kept_at}
 use Rattle.name_index.specs.Index.{ids, is_product_covered, is_covered}
 use Rattle.name_index.proofs.Covered.{walk_live, tail_live, product_covered}
-use Rattle.names_in_order.specs.Held.{placed}
+use Rattle.names_in_order.specs.Held.{places_of_name}
 use Rattle.names_in_order.specs.InOrder.{names_numbered}
 use Rattle.names_in_order.specs.Places.{places_covered}
 use Rattle.names_in_order.proofs.OrderLemmas.{names_distinct, names_same}
@@ -18,7 +18,7 @@ loop-id-init g c = record {
   live = walk_live c.args.table.now c.args.index.now.held (is_product_covered c.args.table.now c.args.name.now.product) c.into_iter-id-iterator.result c.requires.order.fits (subst (SameElements (filter (is_product_covered c.args.table.now c.args.name.now.product) (ids c.args.index.now.held))) (sym c.into_iter-id-iterator.ensures.into_iter_gives) c.with_covered_product-id-items.ensures);
   later = omega arith;
   looked = refl;
-  found = ap (λ (xs : List ℕ). xs ++ flat_map (placed (names_numbered c.args.table.now c.args.numbers.now.numbers) c.args.table.now) (filter (is_covered c.args.table.now c.args.name.now) c.into_iter-id-iterator.result)) c.new-places.ensures.items;
+  found = ap (λ (xs : List ℕ). xs ++ flat_map (places_of_name (names_numbered c.args.table.now c.args.numbers.now.numbers) c.args.table.now) (filter (is_covered c.args.table.now c.args.name.now) c.into_iter-id-iterator.result)) c.new-places.ensures.items;
 }
 
 pub push_covered-requires-clause-live : goal.push_covered-requires-clause-live
@@ -30,14 +30,14 @@ loop-id-preserved g c = record {
   later = omega (arith, c.loop-id.invariant.later, c.push_covered.ensures.step);
   looked = omega (arith, c.loop-id.invariant.looked, c.push_covered.ensures.step, ap length c.in-Some.ensures.steps);
   found =
-      places_more (placed (names_numbered c.args.table.now c.args.numbers.now.numbers) c.args.table.now) (is_covered c.args.table.now c.args.name.now) c.loop-id.places.items c.push_covered.new.places.items
-      (flat_map (placed (names_numbered c.args.table.now c.args.numbers.now.numbers) c.args.table.now) (filter (is_covered c.args.table.now c.args.name.now) c.into_iter-id-iterator.result)) c.next.new.self c.loop-id.id-iterator c.in-Some.id
+      places_more (places_of_name (names_numbered c.args.table.now c.args.numbers.now.numbers) c.args.table.now) (is_covered c.args.table.now c.args.name.now) c.loop-id.places.items c.push_covered.new.places.items
+      (flat_map (places_of_name (names_numbered c.args.table.now c.args.numbers.now.numbers) c.args.table.now) (filter (is_covered c.args.table.now c.args.name.now) c.into_iter-id-iterator.result)) c.next.new.self c.loop-id.id-iterator c.in-Some.id
       (is_covered c.args.table.now c.args.name.now c.in-Some.id) c.in-Some.ensures.steps refl c.in_ok-push_covered.ensures.places c.loop-id.invariant.found;
 }
 
 pub returns-clause-covered : goal.returns-clause-covered
 returns-clause-covered g c =
-    let place = placed (names_numbered c.args.table.now c.args.numbers.now.numbers) c.args.table.now in
+    let place = places_of_name (names_numbered c.args.table.now c.args.numbers.now.numbers) c.args.table.now in
     let q = is_covered c.args.table.now c.args.name.now in
     let walked = subst (SameElements (filter (is_product_covered c.args.table.now c.args.name.now.product) (ids c.args.index.now.held))) (sym c.into_iter-id-iterator.ensures.into_iter_gives) c.with_covered_product-id-items.ensures in
     let all : c.loop-id.places.items ≡ flat_map place (filter q c.into_iter-id-iterator.result) =

@@ -1,6 +1,6 @@
 use Rattle.std.proofs.Common.{◌∙◌, ◌++◌, ◌∷◌, ◌+◌, [], ℕ, List, Option, Some, arith, length, set, ap, subst, sym}
 use Rattle.name_index.specs.declared.table.NameId.{NameId}
-use Rattle.names_in_order.specs.Marked.{AreMarked, numbers_in}
+use Rattle.names_in_order.specs.Marked.{AreMarkedPlaces, numbers_in}
 use Rattle.names_in_order.proofs.MarkedLemmas.{no_more, numbers-append, put_marked}
 use Rattle.names_in_order.proofs.marked.put_last.Goals as goal
 
@@ -12,8 +12,8 @@ returns-clause-marked c =
     let id = c.args.id in
     let slots = c.args.slots.now.items in
     let places = c.args.places.now.items in
-    subst (λ (ss : List (Option NameId)). AreMarked ss (set places id.0 (length c.as_slice-place.result.now)) (c.args.len + 1)) (sym c.push_reserved.ensures.items)
-    (subst (λ (n : ℕ). AreMarked (slots ++ Some id ∷ []) (set places id.0 n) (c.args.len + 1)) (sym (ap length c.as_slice-place.ensures.value))
+    subst (λ (ss : List (Option NameId)). AreMarkedPlaces ss (set places id.0 (length c.as_slice-place.result.now)) (c.args.len + 1)) (sym c.push_reserved.ensures.items)
+    (subst (λ (n : ℕ). AreMarkedPlaces (slots ++ Some id ∷ []) (set places id.0 n) (c.args.len + 1)) (sym (ap length c.as_slice-place.ensures.value))
     (put_marked slots places places c.args.len id c.requires.marked c.requires.marked.placed c.requires.fresh c.requires.known c.requires.few))
 
 pub returns-clause-few : goal.returns-clause-few

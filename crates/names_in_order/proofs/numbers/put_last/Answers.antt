@@ -1,6 +1,6 @@
 use Rattle.std.proofs.Common.{◌∷◌, ◌++◌, [], List, ℕ, length, set, sym, subst, ap}
 use Rattle.name_index.specs.declared.table.NameId.{NameId}
-use Rattle.names_in_order.specs.InOrder.{ArePlaced}
+use Rattle.names_in_order.specs.InOrder.{HavePlaceOfNumber}
 use Rattle.names_in_order.proofs.OrderLemmas.{put_last}
 use Rattle.names_in_order.proofs.numbers.put_last.Goals as goal
 
@@ -9,5 +9,5 @@ returns-clause-placed c =
     let id = c.args.id in
     let ns = c.args.numbers.now.items in
     let ps = c.args.places.now.items in
-    subst (λ (xs : List NameId). ArePlaced xs (set ps id.0 (length c.as_slice-place.result.now))) (sym c.push_reserved.ensures.items)
-    (subst (λ (n : ℕ). ArePlaced (ns ++ id ∷ []) (set ps id.0 n)) (sym (ap length c.as_slice-place.ensures.value)) (put_last ns ps c.requires.placed id c.requires.fresh c.requires.known))
+    subst (λ (xs : List NameId). HavePlaceOfNumber xs (set ps id.0 (length c.as_slice-place.result.now))) (sym c.push_reserved.ensures.items)
+    (subst (λ (n : ℕ). HavePlaceOfNumber (ns ++ id ∷ []) (set ps id.0 n)) (sym (ap length c.as_slice-place.ensures.value)) (put_last ns ps c.requires.placed id c.requires.fresh c.requires.known))

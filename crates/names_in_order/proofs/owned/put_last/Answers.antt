@@ -2,7 +2,7 @@ use Rattle.std.proofs.Common.{List, inr, sym, subst, ap, ◌∙◌}
 use Rattle.name_index.specs.declared.table.NameId.{NameId}
 use Rattle.names_in_order.specs.InOrder.{AreInOrder, names_numbered}
 use Rattle.names_in_order.specs.Owned.{AreOwn}
-use Rattle.names_in_order.proofs.OwnLemmas.{let_go_own, new_nowhere, pushed_own, same_own}
+use Rattle.names_in_order.proofs.OwnLemmas.{discard_own, new_nowhere, pushed_own, same_own}
 use Rattle.names_in_order.proofs.owned.put_last.Goals as goal
 
 pub returns-in-Ok-clause-own : goal.returns-in-Ok-clause-own
@@ -26,7 +26,7 @@ returns-in-Err-clause-own g c =
     let id = c.args.id in
     let own = c.requires.own in
     same_own new names (g.N.PushHeld.roll c.push_held.new.self) c.in-Err.ensures.err
-    (let_go_own old new names.held names.held names.numbers id own c.release.ensures (c.orders_stay.ensures.released old new id.0 names.held names.numbers c.release.ensures (inr (new_nowhere old names.held names.numbers id own)) own.order))
+    (discard_own old new names.held names.held names.numbers id own c.release.ensures (c.orders_stay.ensures.released old new id.0 names.held names.numbers c.release.ensures (inr (new_nowhere old names.held names.numbers id own)) own.order))
 
 pub returns-in-Err-clause-err : goal.returns-in-Err-clause-err
 returns-in-Err-clause-err g c =

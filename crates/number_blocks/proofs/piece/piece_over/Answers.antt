@@ -1,5 +1,5 @@
 use Rattle.std.proofs.Common.{◌≡◌, ◌-◌, ◌+◌, ℕ, List, ◌++◌, take, drop, refl, sym, ap, ◌∙◌, arith}
-use Rattle.number_blocks.specs.Places.{Block, flat, block_at, before, behind}
+use Rattle.number_blocks.specs.Places.{Block, flat, block_at, before, numbers_behind}
 use Rattle.number_blocks.proofs.BlockLemmas.{over_front, over_back, over}
 use Rattle.number_blocks.proofs.piece.piece_over.Goals as goal
 
@@ -17,5 +17,5 @@ returns c =
     ∙ ap (λ (u : List ℕ). drop c.args.from.at (block_at bs i) ++ (flat (take n (drop (i + 1) bs)) ++ u)) last) in
     record {
       front = over_front bs i (i + 1) n j c.args.from.at c.args.to.at refl (omega (arith, c.requires.later)) c.requires.inside ∙ ap (λ (u : List ℕ). before bs i c.args.from.at ++ u) same;
-      back = over_back bs i (i + 1) n j c.args.from.at c.args.to.at refl (omega (arith, c.requires.later)) c.requires.inside ∙ ap (λ (u : List ℕ). u ++ behind bs j c.args.to.at) same;
+      back = over_back bs i (i + 1) n j c.args.from.at c.args.to.at refl (omega (arith, c.requires.later)) c.requires.inside ∙ ap (λ (u : List ℕ). u ++ numbers_behind bs j c.args.to.at) same;
     }

@@ -1,6 +1,6 @@
 use Rattle.std.proofs.Common.{true, ap, is_lt}
-use Rattle.product_orders.specs.Keys.{key}
-use Rattle.product_orders.specs.Listed.{value_at}
+use Rattle.product_orders.specs.Keys.{product_key}
+use Rattle.product_orders.specs.Listed.{product_value_at}
 use Rattle.product_orders.proofs.Texts.{text_itself}
 use Rattle.product_orders.proofs.Orders.{before_parted}
 use Rattle.product_orders.proofs.Live.{rises_taken, same_taken}
@@ -12,7 +12,7 @@ take-requires-clause-parted c =
 
 pub take-requires-clause-fails : goal.take-requires-clause-fails
 take-requires-clause-fails c =
-    rw (c.key_of-shape.ensures.shape, c.key_of-shape.ensures.body) (ap is_lt (text_itself (key c.args.end (value_at c.args.values.now c.args.number))))
+    rw (c.key_of-shape.ensures.shape, c.key_of-shape.ensures.body) (ap is_lt (text_itself (product_key c.args.end (product_value_at c.args.values.now c.args.number))))
 
 pub returns-clause-rises : goal.returns-clause-rises
 returns-clause-rises c = rises_taken c.args.end c.args.values.now c.args.number c.args.order.now.items c.take.new.self.items c.take.ensures c.requires.rises

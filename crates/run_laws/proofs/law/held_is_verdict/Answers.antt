@@ -5,4 +5,4 @@ pub returns-clause-in_turn : goal.returns-clause-in_turn
 returns-clause-in_turn c = lines_are_checked_in_turn
 
 pub returns-clause-verdict : goal.returns-clause-verdict
-returns-clause-verdict c = held_is_verdict c.good_proofs_are_right.ensures
+returns-clause-verdict c = held_is_verdict c.good_certificates_are_right.ensures

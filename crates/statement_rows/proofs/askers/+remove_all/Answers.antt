@@ -3,7 +3,7 @@ use Rattle.std.specs.List.{flat_map}
 use Rattle.cpe_rows.specs.declared.test.CheckKey.{CheckKey}
 use Rattle.cpe_rows.specs.Shape.{depth_of}
 use Rattle.cpe_rows.specs.declared.test.Test.{Test, Logic}
-use Rattle.cpe_inventory.specs.ticket_list.Rising.{IsRising}
+use Rattle.check_results.specs.ticket_list.Rising.{IsRising}
 use Rattle.statement_rows.specs.Askers.{askers_at}
 use Rattle.statement_rows.specs.Readings.{check_keys, is_asked}
 use Rattle.statement_rows.specs.Tickets.{without_if}

@@ -1,5 +1,5 @@
 use Rattle.std.proofs.Common.{ap, sym, ◌∙◌}
-use Rattle.cpe_inventory.specs.Results.{one_or_none}
+use Rattle.check_results.specs.Results.{one_or_none}
 use Rattle.statement_rows.specs.Rows.{has_row_id}
 use Rattle.statement_rows.proofs.ReadLemmas.{first_is, first_none}
 use Rattle.statement_rows.proofs.ids.place_by_id.Goals as goal

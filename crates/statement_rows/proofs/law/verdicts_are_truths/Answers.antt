@@ -1,4 +1,4 @@
-use Rattle.cpe_inventory.specs.Kept.{kept_truth}
+use Rattle.check_results.specs.Kept.{kept_truth}
 use Rattle.statement_rows.specs.Readings.{truths_of}
 use Rattle.statement_rows.proofs.NameTruths.{reading_named}
 use Rattle.statement_rows.proofs.law.verdicts_are_truths.Goals as goal

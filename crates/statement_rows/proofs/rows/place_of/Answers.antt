@@ -1,5 +1,5 @@
 use Rattle.std.proofs.Common.{◌∙◌}
-use Rattle.cpe_inventory.specs.ticket_list.TicketList.{has_ticket}
+use Rattle.check_results.specs.ticket_list.TicketList.{has_ticket}
 use Rattle.statement_rows.specs.Rows.{ticket_of}
 use Rattle.statement_rows.proofs.PlaceLemmas.{position_is}
 use Rattle.statement_rows.proofs.rows.place_of.Goals as goal

@@ -1,9 +1,9 @@
 use Rattle.std.proofs.Common.{ℕ, List, length, get_or, refl, sym, ap, subst, ◌∙◌, take_all, cond, vec_capacity}
 use Rattle.std.specs.Prelude.{nat_eq}
-use Rattle.statement_rows.specs.declared.row.Row.{Row}
-use Rattle.cpe_inventory.specs.ticket_list.Rising.{IsRisingBy}
+use Rattle.statement_rows.specs.declared.row.JudgedRow.{JudgedRow}
+use Rattle.check_results.specs.ticket_list.Rising.{IsRisingBy}
 use Rattle.statement_rows.specs.Rows.{at_rows, judge_row, ticket_of}
-use Rattle.statement_rows.proofs.ByResultLemmas.{anew_again}
+use Rattle.statement_rows.proofs.ByResultLemmas.{again_once_more}
 use Rattle.std.proofs.lemmas.List.{length-map}
 use Rattle.statement_rows.proofs.RowLemmas.{at_more, no_tickets, rising-at, still_room}
 use Rattle.statement_rows.proofs.rows.refresh_rows.Goals as goal
@@ -21,9 +21,9 @@ loop-ticket-preserved g c =
     let ts = c.args.list.now in
     let i = c.loop-ticket.ticket-index in
     let f = judge_row c.args.cause (g.T.FactTruth.fact_truth c.args.facts.now) c.args.results.now.list in
-    let again = anew_again c.args.cause (g.T.FactTruth.fact_truth c.args.facts.now) c.args.results.now.list in
+    let again = again_once_more c.args.cause (g.T.FactTruth.fact_truth c.args.facts.now) c.args.results.now.list in
     let t = get_or ts i 0 in
-    let as_long = ap length c.refresh_row.ensures.rows ∙ length-map c.loop-ticket.rows.items (λ (r : Row). cond (nat_eq t r.ticket) (f r) r) in
+    let as_long = ap length c.refresh_row.ensures.rows ∙ length-map c.loop-ticket.rows.items (λ (r : JudgedRow). cond (nat_eq t r.ticket) (f r) r) in
     record {
       rows = c.refresh_row.ensures.rows ∙ at_more f (λ r. refl) again ts i c.args.rows.now.items c.loop-ticket.rows.items c.loop-ticket-test.true c.loop-ticket.invariant.rows;
       ready = c.refresh_row.ensures.ready ∙ c.loop-ticket.invariant.ready;

@@ -1,7 +1,7 @@
 use Rattle.std.proofs.Common.{ℕ, List, ap, ◌∙◌}
 use Rattle.std.specs.Prelude.{nat_lt}
-use Rattle.cpe_inventory.specs.ticket_list.Rising.{prefix}
-use Rattle.cpe_inventory.proofs.ticket_list.RisingLemmas.{put_at}
+use Rattle.check_results.specs.ticket_list.Rising.{prefix}
+use Rattle.check_results.proofs.ticket_list.RisingLemmas.{put_at}
 use Rattle.statement_rows.proofs.tickets.add_ticket.Goals as goal
 
 pub returns-clause-items : goal.returns-clause-items

@@ -1,7 +1,7 @@
 use Rattle.std.proofs.Common.{ℕ, List, ap, ◌∙◌, sym, arith}
 use Rattle.std.specs.Prelude.{nat_lt}
 use Rattle.statement_rows.specs.Tickets.{is_at}
-use Rattle.cpe_inventory.specs.ticket_list.Rising.{prefix}
+use Rattle.check_results.specs.ticket_list.Rising.{prefix}
 use Rattle.statement_rows.proofs.TicketLemmas.{taken_at, absent_at, is_at_within}
 use Rattle.statement_rows.proofs.tickets.remove_ticket.Goals as goal
 

@@ -2,7 +2,7 @@ use Rattle.std.proofs.Common.{List, map, ap, sym, ◌∙◌, take_all}
 use Rattle.cpe_rows.specs.Evaluation.{joined, negated}
 use Rattle.cpe_rows.specs.declared.test.Test.{Test}
 use Rattle.cpe_rows.specs.declared.truth.Truth.{Truth}
-use Rattle.cpe_inventory.specs.Kept.{kept_truth}
+use Rattle.check_results.specs.Kept.{kept_truth}
 use Rattle.statement_rows.specs.Readings.{reading, truths_along, truths_of}
 use Rattle.statement_rows.proofs.ReadingLemmas.{reading-logic, truth_step, rest_step}
 use Rattle.statement_rows.proofs.truths.+test_truth.Goals as goal

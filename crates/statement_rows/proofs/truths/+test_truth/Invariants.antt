@@ -1,6 +1,6 @@
 use Rattle.std.proofs.Common.{◌≡◌, take, map}
 use Rattle.cpe_rows.specs.Evaluation.{joined}
-use Rattle.cpe_inventory.specs.Kept.{kept_truth}
+use Rattle.check_results.specs.Kept.{kept_truth}
 use Rattle.statement_rows.specs.Readings.{reading, truths_along, truths_of}
 use Rattle.statement_rows.proofs.truths.+test_truth.Given as goal
 

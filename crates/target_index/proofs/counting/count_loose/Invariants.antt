@@ -2,7 +2,7 @@ use Rattle.std.proofs.Common.{◌≡◌, ◌+◌, ◌≤◌, drop}
 use Rattle.std.specs.List.{AllByRecursion}
 use Rattle.name_index.specs.Table.{IsLive}
 use Rattle.target_index.specs.declared.parts.Loose.{Loose}
-use Rattle.target_index.specs.Targets.{maybe_count}
+use Rattle.target_index.specs.Targets.{maybe_pairs}
 use Rattle.target_index.specs.Parts.{pairs_of}
 use Rattle.target_index.proofs.counting.count_loose.Given as goal
 
@@ -10,6 +10,6 @@ abbrev pub invariant-loop-one : goal.invariant-loop-one
 invariant-loop-one g l = record {
   live : AllByRecursion (λ (x : Loose). IsLive l.table x.id) (drop l.one-index l.loose);
   looked : l.steps ≡ l.fn.steps + l.one-index;
-  counted : l.maybes + maybe_count l.table l.name (pairs_of (drop l.one-index l.loose)) ≡ maybe_count l.table l.name (pairs_of l.loose);
+  counted : l.maybes + maybe_pairs l.table l.name (pairs_of (drop l.one-index l.loose)) ≡ maybe_pairs l.table l.name (pairs_of l.loose);
   few : l.maybes ≤ l.one-index;
 }

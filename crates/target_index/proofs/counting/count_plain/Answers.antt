@@ -7,7 +7,7 @@ use Rattle.name_index.specs.declared.table.NameId.{NameId}
 use Rattle.name_index.specs.Table.{kept_at}
 use Rattle.name_index.specs.Index.{ids, is_covered, is_near}
 use Rattle.name_index.proofs.Covered.{walk_length, walk_live}
-use Rattle.target_index.specs.Targets.{is_loose, is_maybe}
+use Rattle.target_index.specs.Targets.{is_loose, is_maybe_target}
 use Rattle.target_index.proofs.Walks.{walk_few, walk_passing}
 use Rattle.target_index.proofs.counting.count_plain.Goals as goal
 
@@ -35,9 +35,9 @@ returns-clause-covered g c =
 pub returns-clause-maybe : goal.returns-clause-maybe
 returns-clause-maybe g c =
     let ends : c.loop-target.target-iterator ≡ [] = c.in-None.ensures.steps.0 in
-    let all : c.loop-target.maybes ≡ count_by (λ (x : NameId). c.args.some_open && is_maybe c.args.table.now c.args.name.now x) c.into_iter-target-iterator.result = omega (arith, c.loop-target.invariant.maybes, ap (count_by (λ (x : NameId). c.args.some_open && is_maybe c.args.table.now c.args.name.now x)) ends) in
+    let all : c.loop-target.maybes ≡ count_by (λ (x : NameId). c.args.some_open && is_maybe_target c.args.table.now c.args.name.now x) c.into_iter-target-iterator.result = omega (arith, c.loop-target.invariant.maybes, ap (count_by (λ (x : NameId). c.args.some_open && is_maybe_target c.args.table.now c.args.name.now x)) ends) in
     all
-    ∙ walk_passing (λ (x : NameId). c.args.some_open && is_maybe c.args.table.now c.args.name.now x) (is_near c.args.table.now side.Source c.args.name.now.product) (λ x. is_loose c.args.table.now x.0) (λ x h. c.maybe_laws.ensures.meet c.args.name.now (kept_at c.args.table.now x.0).name (inr (and_parts c.args.some_open (is_maybe c.args.table.now c.args.name.now x) h).1)) c.args.index.now.held c.into_iter-target-iterator.result c.requires.plain
+    ∙ walk_passing (λ (x : NameId). c.args.some_open && is_maybe_target c.args.table.now c.args.name.now x) (is_near c.args.table.now side.Source c.args.name.now.product) (λ x. is_loose c.args.table.now x.0) (λ x h. c.maybe_laws.ensures.meet c.args.name.now (kept_at c.args.table.now x.0).name (inr (and_parts c.args.some_open (is_maybe_target c.args.table.now c.args.name.now x) h).1)) c.args.index.now.held c.into_iter-target-iterator.result c.requires.plain
     (subst (SameElements (filter (is_near c.args.table.now side.Source c.args.name.now.product) (ids c.args.index.now.held))) (sym c.into_iter-target-iterator.ensures.into_iter_gives) c.near-target-items.ensures)
 
 pub returns-clause-steps : goal.returns-clause-steps

@@ -8,16 +8,16 @@ use Rattle.name_index.specs.cpe_name.Wildcards.{name_has_specials}
 use Rattle.cpe_relation.specs.NameRelation.{covers}
 use Rattle.name_index.specs.product_orders.Elements.{SameElements}
 use Rattle.name_index.specs.Table.{Names}
-use Rattle.name_index.specs.Index.{Fits, ids, is_covered}
+use Rattle.name_index.specs.Index.{FitsTable, ids, is_covered}
 use Rattle.target_index.specs.declared.meeting.Met.{Met}
 use Rattle.target_index.specs.declared.parts.Loose.{Loose}
-use Rattle.target_index.specs.Targets.{FitsTargets, held, is_maybe, Targets}
-use Rattle.target_index.specs.Parts.{pair_of, pairs_of, targets_of}
+use Rattle.target_index.specs.Targets.{FitsTargets, held, is_maybe_target, Targets}
+use Rattle.target_index.specs.Parts.{pair_of_loose, pairs_of, targets_of}
 use Rattle.target_index.proofs.Meetings.{covered_all, none_open}
 use Rattle.target_index.proofs.Walks.{met_count}
 use Rattle.target_index.proofs.meeting.meet.Goals as goal
 
--- what is covered has no special, so it is found among those that have none
+-- A covered target has no special, so it is among the targets whose product has none.
 all_covered : {E : Type 0} (names : Names) (name : Values) (t : Targets) → FitsTargets t names → ((a b : Values) → IsTrue (covers a b) → name_has_specials b ≡ false) → (r : Result Met E)
     → IfOk r (λ (m : Met). SameElements (filter (is_covered names name) (ids t.plain)) m.covered.items) → IfOk r (λ (m : Met). SameElements (filter (is_covered names name) (ids (held t))) m.covered.items)
 all_covered names name t fits law r plain =
@@ -36,7 +36,7 @@ returns-then-parts-eq0-clause-maybe g c =
     let t = targets_of c.args.parts.now in
     IfOk-weaker c.meet_whole.result
     (λ (m : Met). m.maybe.items ≡ [])
-    (λ (m : Met). SameElements (filter (is_maybe c.args.table.now c.args.name.now) (ids (held t))) m.maybe.items)
+    (λ (m : Met). SameElements (filter (is_maybe_target c.args.table.now c.args.name.now) (ids (held t))) m.maybe.items)
     (λ (m : Met) none. none_open c.args.table.now c.args.name.now t c.requires.fits c.maybe_laws.ensures.part c.if-parts-eq0.true m.maybe.items none)
     c.meet_whole.ensures.maybe
 
@@ -47,7 +47,7 @@ returns-then-parts-eq0-clause-steps g c = (
 )
 
 pub meet_each-requires-clause-loose : goal.meet_each-requires-clause-loose
-meet_each-requires-clause-loose g c = subst (λ (xs : List Loose). Fits (pairs_of xs) c.args.table.now) (sym c.deref.ensures.value) c.requires.fits.loose
+meet_each-requires-clause-loose g c = subst (λ (xs : List Loose). FitsTable (pairs_of xs) c.args.table.now) (sym c.deref.ensures.value) c.requires.fits.loose
 
 pub returns-clause-covered : goal.returns-clause-covered
 returns-clause-covered g c =
@@ -56,5 +56,5 @@ returns-clause-covered g c =
 pub returns-clause-steps : goal.returns-clause-steps
 returns-clause-steps g c = (
   c.meet_each.ensures.steps.0,
-  omega (arith, c.meet_each.ensures.steps.1, ap length c.deref.ensures.value, length-map c.args.parts.now.loose.items pair_of, met_count c.args.table.now c.args.name.now.product c.args.parts.now.plain.held (pairs_of c.args.parts.now.loose.items) c.requires.fits.all_loose),
+  omega (arith, c.meet_each.ensures.steps.1, ap length c.deref.ensures.value, length-map c.args.parts.now.loose.items pair_of_loose, met_count c.args.table.now c.args.name.now.product c.args.parts.now.plain.held (pairs_of c.args.parts.now.loose.items) c.requires.fits.all_loose),
 )

@@ -3,7 +3,7 @@ use Rattle.std.specs.List.{AllByRecursion, filter}
 use Rattle.name_index.specs.Table.{IsLive}
 use Rattle.name_index.specs.Index.{ids}
 use Rattle.target_index.specs.declared.parts.Loose.{Loose}
-use Rattle.target_index.specs.Targets.{is_maybe}
+use Rattle.target_index.specs.Targets.{is_maybe_target}
 use Rattle.target_index.specs.Parts.{pairs_of}
 use Rattle.target_index.proofs.meeting.meet_loose.Given as goal
 
@@ -11,5 +11,5 @@ abbrev pub invariant-loop-one : goal.invariant-loop-one
 invariant-loop-one g l = record {
   live : AllByRecursion (λ (x : Loose). IsLive l.table x.id) (drop l.one-index l.loose);
   looked : l.steps ≡ l.fn.steps + l.one-index;
-  found : l.maybes.items ++ filter (is_maybe l.table l.name) (ids (pairs_of (drop l.one-index l.loose))) ≡ l.fn.maybes.items ++ filter (is_maybe l.table l.name) (ids (pairs_of l.loose));
+  found : l.maybes.items ++ filter (is_maybe_target l.table l.name) (ids (pairs_of (drop l.one-index l.loose))) ≡ l.fn.maybes.items ++ filter (is_maybe_target l.table l.name) (ids (pairs_of l.loose));
 }

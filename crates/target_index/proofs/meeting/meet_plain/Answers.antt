@@ -6,7 +6,7 @@ use Rattle.name_index.specs.declared.table.NameId.{NameId}
 use Rattle.name_index.specs.Table.{kept_at}
 use Rattle.name_index.specs.Index.{ids, is_product_covered, is_covered}
 use Rattle.name_index.proofs.Covered.{walk_live, tail_live, found_all, found_more, walk_length, product_covered, fewer_covered}
-use Rattle.target_index.specs.Targets.{is_loose, is_maybe}
+use Rattle.target_index.specs.Targets.{is_loose, is_maybe_target}
 use Rattle.target_index.proofs.Meetings.{maybe_product, walk_found}
 use Rattle.target_index.proofs.meeting.meet_plain.Goals as goal
 
@@ -17,13 +17,13 @@ loop-target-init g c = record {
   later = omega arith;
   looked = refl;
   covered = ap (λ (xs : List NameId). xs ++ filter (is_covered c.args.table.now c.args.name.now) c.into_iter-target-iterator.result) c.requires.none;
-  maybe = ap (λ (xs : List NameId). xs ++ filter (is_maybe c.args.table.now c.args.name.now) c.into_iter-target-iterator.result) c.requires.none_maybe;
+  maybe = ap (λ (xs : List NameId). xs ++ filter (is_maybe_target c.args.table.now c.args.name.now) c.into_iter-target-iterator.result) c.requires.none_maybe;
 }
 
 pub loop-target-preserved : goal.loop-target-preserved
 loop-target-preserved g c =
     let q = is_covered c.args.table.now c.args.name.now in
-    let r = is_maybe c.args.table.now c.args.name.now in
+    let r = is_maybe_target c.args.table.now c.args.name.now in
     record {
       live = (tail_live c.args.table.now c.in-Some.target c.next.new.self c.loop-target.target-iterator c.in-Some.ensures.steps c.loop-target.invariant.live).1;
       later = omega (arith, c.loop-target.invariant.later, c.push_met.ensures.step);
@@ -50,7 +50,7 @@ returns-clause-covered g c =
 
 pub returns-clause-maybe : goal.returns-clause-maybe
 returns-clause-maybe g c =
-    let q = is_maybe c.args.table.now c.args.name.now in
+    let q = is_maybe_target c.args.table.now c.args.name.now in
     let p = is_product_covered c.args.table.now c.args.name.now.product in
     walk_found p q (λ x. is_loose c.args.table.now x.0) (λ x h. maybe_product c.relation_laws.ensures.undefined c.args.name.now (kept_at c.args.table.now x.0).name h) c.args.index.now.held c.into_iter-target-iterator.result c.loop-target.maybes.items c.requires.plain
     (subst (SameElements (filter p (ids c.args.index.now.held))) (sym c.into_iter-target-iterator.ensures.into_iter_gives) c.with_covered_product-target-items.ensures)

@@ -6,7 +6,7 @@ use Rattle.ticket_list.proofs.list.find_element.Goals as goal
 pub returns-in-Some : goal.returns-in-Some
 returns-in-Some g c =
     c.element_at.ensures
-    ∙ element_here g.T.Ticketed.ticket_of c.args.ticket c.args.slots.now c.in-Some.slot c.in-Some.ensures.slot c.in-Some.ensures.stands
+    ∙ element_here g.T.Ticketed.ticket_of c.args.ticket c.args.slots.now c.in-Some.slot c.in-Some.ensures.slot c.in-Some.ensures.present
 
 pub returns-in-None : goal.returns-in-None
 returns-in-None g c =

@@ -13,7 +13,7 @@ pub overflow_sub-result : goal.overflow_sub-result
 overflow_sub-result g c =
     let k = c.in-Some.slot in
     let slots = c.args.slots.now in
-    let within = found_within g.T.Ticketed.ticket_of c.args.ticket slots k c.in-Some.ensures.stands in
+    let within = found_within g.T.Ticketed.ticket_of c.args.ticket slots k c.in-Some.ensures.present in
     let count = c.count_before.ensures.count ∙ ap (λ (u : List ℕ). prefix (λ m. nat_lt m k) u) c.requires.marked in
     let total = ranked k slots (omega (arith, within)) in
     omega (arith, count, total)
@@ -22,10 +22,10 @@ pub returns-in-Some : goal.returns-in-Some
 returns-in-Some g c =
     let k = c.in-Some.slot in
     let slots = c.args.slots.now in
-    let within = found_within g.T.Ticketed.ticket_of c.args.ticket slots k c.in-Some.ensures.stands in
+    let within = found_within g.T.Ticketed.ticket_of c.args.ticket slots k c.in-Some.ensures.present in
     let count = c.count_before.ensures.count ∙ ap (λ (u : List ℕ). prefix (λ m. nat_lt m k) u) c.requires.marked in
     let total = ranked k slots (omega (arith, within)) in
-    place_here g.T.Ticketed.ticket_of c.args.ticket slots k _ c.in-Some.ensures.slot c.in-Some.ensures.stands (omega (arith, count, total))
+    place_here g.T.Ticketed.ticket_of c.args.ticket slots k _ c.in-Some.ensures.slot c.in-Some.ensures.present (omega (arith, count, total))
 
 pub returns-in-None : goal.returns-in-None
 returns-in-None g c =

@@ -1,12 +1,12 @@
 use Rattle.std.proofs.Common.{◌≡◌, ◌∙◌, false, ap, sym}
-use Rattle.ticket_list.specs.Slots.{elements, slot_for, stands_at}
+use Rattle.ticket_list.specs.Slots.{elements, slot_for, occurs_at}
 use Rattle.ticket_list.proofs.FoundLemmas.{absent_others, others_find, others_without}
 use Rattle.ticket_list.proofs.list.take_element.Given.{Over}
 use Rattle.ticket_list.proofs.list.take_element.Goals as goal
 use Rattle.ticket_list.proofs.list.take_element.Goals.{In-None}
 
-absent : (g : Over) (c : In-None g) → stands_at g.T.Ticketed.ticket_of c.args.slots.now.items (slot_for g.T.Ticketed.ticket_of c.args.ticket c.args.slots.now.items) c.args.ticket ≡ false
-absent g c = ap (λ u. stands_at g.T.Ticketed.ticket_of u (slot_for g.T.Ticketed.ticket_of c.args.ticket u) c.args.ticket) (sym c.deref.ensures.value) ∙ c.in-None.ensures.absent
+absent : (g : Over) (c : In-None g) → occurs_at g.T.Ticketed.ticket_of c.args.slots.now.items (slot_for g.T.Ticketed.ticket_of c.args.ticket c.args.slots.now.items) c.args.ticket ≡ false
+absent g c = ap (λ u. occurs_at g.T.Ticketed.ticket_of u (slot_for g.T.Ticketed.ticket_of c.args.ticket u) c.args.ticket) (sym c.deref.ensures.value) ∙ c.in-None.ensures.absent
 
 pub returns-in-None-clause-element : goal.returns-in-None-clause-element
 returns-in-None-clause-element g c =

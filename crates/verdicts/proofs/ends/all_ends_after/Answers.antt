@@ -3,8 +3,8 @@ use Rattle.name_index.specs.Table.{IsLive}
 use Rattle.name_index.specs.declared.table.NameId.{NameId}
 use Rattle.name_index.specs.Index.{name_id}
 use Rattle.cpe_dictionary.specs.Plans.{ends_by}
-use Rattle.kept_facts.proofs.Steps.{first_live, first_there}
-use Rattle.kept_facts.specs.Kept.{AreLive}
+use Rattle.fact_boards.proofs.Steps.{first_live, first_there}
+use Rattle.fact_boards.specs.Kept.{AreFactNames}
 use Rattle.facts.specs.fact_laws.Shown.{names_at}
 use Rattle.verdicts.proofs.NumberLemmas.{all_both, more_names}
 use Rattle.verdicts.proofs.ends.all_ends_after.Goals as goal
@@ -21,6 +21,6 @@ loop-name-preserved c =
     let is = c.in_ok-extend_from_slice.ensures.items ∙ ap (λ ns. all ++ ns) c.deref.ensures.value in
     record {
       rest = (first_live table x rest (drop i names) (first_there names i (name_id 0) c.loop-name-test.true) c.loop-name.invariant.rest).1;
-      live = subst (AreLive table) (sym is) (all_both (λ (y : NameId). IsLive table y.0) all more c.loop-name.invariant.live c.in_ok-ends.ensures.live);
+      live = subst (AreFactNames table) (sym is) (all_both (λ (y : NameId). IsLive table y.0) all more c.loop-name.invariant.live c.in_ok-ends.ensures.live);
       names = ap (names_at table) is ∙ more_names table (ends_by c.args.registry.now.entries (Some c.args.plan.now)) names all more i c.loop-name-test.true (name_id 0) c.loop-name.invariant.names c.in_ok-ends.ensures.names;
     }

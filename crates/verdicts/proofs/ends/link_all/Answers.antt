@@ -3,15 +3,15 @@ use Rattle.std.specs.List.{AllByRecursion}
 use Rattle.std.proofs.lemmas.List.{map-append, take_more}
 use Rattle.name_index.specs.declared.table.NameId.{NameId}
 use Rattle.name_index.specs.Index.{name_id}
-use Rattle.kept_facts.proofs.Steps.{first_live, first_there}
+use Rattle.fact_boards.proofs.Steps.{first_live, first_there}
 use Rattle.facts.specs.declared.lead.Led.{Led}
-use Rattle.verdicts.specs.Leads.{IsPlanned}
+use Rattle.verdicts.specs.Leads.{IsLinkedAhead}
 use Rattle.verdicts.proofs.NumberLemmas.{all_both}
 use Rattle.verdicts.proofs.LeadLemmas.{links_again, no_links, planned_still}
 use Rattle.verdicts.proofs.ends.link_all.Goals as goal
 
 pub loop-id-init : goal.loop-id-init
-loop-id-init c = record { rest = c.requires.live; more = no_links c.args.facts.now; facts = ap (map (λ (y : Led). y.fact)) c.new-all.ensures.items; planned = subst (AllByRecursion (IsPlanned c.args.registry.now.table c.args.registry.now.entries c.args.plan.now c.args.facts.now.follow)) (sym c.new-all.ensures.items) tt }
+loop-id-init c = record { rest = c.requires.live; more = no_links c.args.facts.now; facts = ap (map (λ (y : Led). y.fact)) c.new-all.ensures.items; planned = subst (AllByRecursion (IsLinkedAhead c.args.registry.now.table c.args.registry.now.entries c.args.plan.now c.args.facts.now.follow)) (sym c.new-all.ensures.items) tt }
 
 pub loop-id-preserved : goal.loop-id-preserved
 loop-id-preserved c =
@@ -33,5 +33,5 @@ loop-id-preserved c =
           ∙ map-append (λ (y : Led). y.fact) all (led ∷ [])
           ∙ (λ j. c.loop-id.invariant.facts j ++ c.in_ok-led.ensures.fact j ∷ [])
           ∙ sym (take_more ids i (name_id 0) c.loop-id-test.true);
-      planned = subst (AllByRecursion (IsPlanned table entries plan new.follow)) (sym is) (all_both (IsPlanned table entries plan new.follow) all (led ∷ []) (planned_still table entries plan c.loop-id.facts new c.link_one.ensures.more all c.loop-id.invariant.planned) (c.in_ok-led.ensures.planned, tt));
+      planned = subst (AllByRecursion (IsLinkedAhead table entries plan new.follow)) (sym is) (all_both (IsLinkedAhead table entries plan new.follow) all (led ∷ []) (planned_still table entries plan c.loop-id.facts new c.link_one.ensures.more all c.loop-id.invariant.planned) (c.in_ok-led.ensures.planned, tt));
     }

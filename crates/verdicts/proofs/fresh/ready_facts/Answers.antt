@@ -15,7 +15,7 @@ reserve_users-requires c =
 
 pub reserve_asked-requires : goal.reserve_asked-requires
 reserve_asked-requires c =
-    let s = c.requires.stood in
+    let s = c.requires.rows_before in
     let table = c.args.registry.now.table in
     let beside = beside_users c.args.facts.now c.add_all_fresh.new.facts c.reserve_users.new.self table c.args.mode c.args.ids.now c.args.fresh.now c.reserve_users.result c.add_all_fresh.ensures.beside c.reserve_users.ensures in
     subst (λ (n : Names). (rows : Rows) × (tickets : List ℕ) × IsLawful rows × HasFacts n c.reserve_users.new.self rows tickets) (sym c.table.ensures) (s.0, s.1, s.2, beside.facts s.0 s.1 s.3)

@@ -1,10 +1,10 @@
 use Rattle.std.proofs.Common.{count_by, filter, sym, ap, subst, ◌∙◌}
 use Rattle.std.specs.Prelude.{IfOk}
-use Rattle.name_index.specs.cpe_steps.Within.{StepsWithin}
+use Rattle.name_index.specs.step_count.Within.{StepsWithin}
 use Rattle.name_index.specs.product_orders.Elements.{SameElements}
 use Rattle.name_index.specs.Index.{ids, is_covered}
 use Rattle.facts.specs.target_index.declared.meeting.Met.{Met}
-use Rattle.facts.specs.target_index.Targets.{FitsTargets, held, is_maybe, is_met, Targets}
+use Rattle.facts.specs.target_index.Targets.{FitsTargets, held, is_maybe_target, is_met, Targets}
 use Rattle.facts.specs.level_board.Board.{Board}
 use Rattle.verdicts.proofs.items.met.Goals as goal
 
@@ -18,7 +18,7 @@ returns-clause-covered g c =
 
 pub returns-clause-maybe : goal.returns-clause-maybe
 returns-clause-maybe g c =
-    subst (λ (ts : Targets). IfOk c.met.result (λ (m : Met). SameElements (filter (is_maybe c.args.table.now c.args.name.now) (ids (held ts))) m.maybe.items))
+    subst (λ (ts : Targets). IfOk c.met.result (λ (m : Met). SameElements (filter (is_maybe_target c.args.table.now c.args.name.now) (ids (held ts))) m.maybe.items))
     (c.targets.ensures ∙ ap (λ (b : Board). b.target_index) c.board.ensures) c.met.ensures.maybe
 
 pub returns-clause-steps : goal.returns-clause-steps

@@ -1,4 +1,4 @@
-use Rattle.kept_facts.specs.Kept.{FitBoards, ShowRows}
+use Rattle.fact_boards.specs.Kept.{FitBoards, ShowRows}
 use Rattle.verdicts.proofs.TableLemmas.{released_verdicts}
 use Rattle.verdicts.proofs.law.released_names_keep_verdicts.Goals as goal
 

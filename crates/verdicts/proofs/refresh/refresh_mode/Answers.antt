@@ -4,7 +4,7 @@ use Rattle.std.proofs.lemmas.List.{take_all}
 use Rattle.name_index.specs.declared.table.NameId.{NameId}
 use Rattle.cpe_rows.specs.declared.test.CheckKey.{CheckKey}
 use Rattle.cpe_rows.specs.declared.truth.Truth.{Truth}
-use Rattle.facts.specs.fact_rows.Facts.{name_id, users_of}
+use Rattle.facts.specs.fact_rows.Facts.{fact_name_id, users_of}
 use Rattle.facts.specs.Facts.{table_of}
 use Rattle.statement_rows.specs.State.{at_tickets, judge}
 use Rattle.verdicts.specs.Verdicts.{truths_in}
@@ -33,7 +33,7 @@ loop-fact-preserved c =
           ∙ ap (λ (cs : List (CheckKey × Truth)). at_tickets users (judge (truths_in f) cs) c.loop-fact.statements.rows) inv.checks
           ∙ ap (at_tickets users by) inv.rows
           ∙ c.refreshes_add_up.ensures (truths_in f) first.checks so_far users first.rows
-          ∙ ap (λ (ts : List ℕ). at_tickets ts by first.rows) (ap (λ (us : List ℕ). so_far ++ us) c.users.ensures ∙ sym (flat_next g xs i (name_id 0) c.loop-fact-test.true));
+          ∙ ap (λ (ts : List ℕ). at_tickets ts by first.rows) (ap (λ (us : List ℕ). so_far ++ us) c.users.ensures ∙ sym (flat_next g xs i (fact_name_id 0) c.loop-fact-test.true));
       checks = r.checks ∙ inv.checks;
       room = room_again first c.loop-fact.statements c.refresh.new.self inv.room r.room;
     }

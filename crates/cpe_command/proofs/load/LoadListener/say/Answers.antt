@@ -1,7 +1,7 @@
 use Rattle.std.proofs.Common.{Some, [], sym, subst}
 use Rattle.cpe_rows.specs.Lawful.{IsLawful}
 use Rattle.cpe_rows.specs.Rows.{Rows}
-use Rattle.cpe_snapshot.specs.States.{Snap}
+use Rattle.snapshot_bytes.specs.States.{Snap}
 use Rattle.cpe_command.proofs.LoadLemmas.{Answers-refusal, Answers-state, first_left, state_left}
 use Rattle.cpe_command.proofs.load.LoadListener.say.Goals as goal
 

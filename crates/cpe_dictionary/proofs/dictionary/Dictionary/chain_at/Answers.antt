@@ -1,7 +1,7 @@
 use Rattle.std.proofs.Common.{map, subst, ◌∙◌}
 use Rattle.cpe_rows.specs.Answers.{row_of}
 use Rattle.cpe_dictionary.specs.Faults.{AreDifferent}
-use Rattle.entries_in_order.proofs.AtNumbers.{active_names}
+use Rattle.cpe_dictionary.proofs.AtNumbers.{active_names}
 use Rattle.cpe_dictionary.proofs.DictionaryLemmas.{at_chain, links_at, ends_at}
 use Rattle.cpe_dictionary.proofs.dictionary.Dictionary.chain_at.Goals as goal
 

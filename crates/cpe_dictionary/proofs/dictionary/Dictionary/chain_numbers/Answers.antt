@@ -16,4 +16,4 @@ pub returns-in-None : goal.returns-in-None
 returns-in-None c =
     let es = c.args.self.now in
     let n = c.args.name.now in
-    ap (entries_at es) c.new.ensures.items ∙ sym (c.absent_names_stand_alone.ensures.chains es n (no_entry es n (sym c.in-None.ensures)))
+    ap (entries_at es) c.new.ensures.items ∙ sym (c.absent_names_are_alone.ensures.chains es n (no_entry es n (sym c.in-None.ensures)))

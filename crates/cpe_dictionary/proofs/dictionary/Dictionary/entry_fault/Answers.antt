@@ -11,10 +11,10 @@ use Rattle.cpe_rows.specs.Step.{first_some}
 use Rattle.cpe_rows.specs.declared.entry.Entry.{Entry}
 use Rattle.cpe_rows.specs.declared.fault.EditFault.TheVariants as fault
 use Rattle.cpe_rows.specs.declared.fault.Which.TheVariants as limit
-use Rattle.entries_in_order.proofs.EntryLemmas.{there_by_name}
+use Rattle.cpe_dictionary.proofs.EntryLemmas.{there_by_name}
 use Rattle.cpe_dictionary.proofs.dictionary.Dictionary.entry_fault.Goals as goal
 
--- the causes of an entry of this name, one by one
+-- the causes to refuse an entry of this name, in order
 causes_are : (es : List Entry) (e : Entry) (n : Values) (a b c d : Bool) → e.name ≡ n → not (is_identifier n) ≡ a → has_wildcards n ≡ b → list_any (is_named n) es ≡ c → nat_lt (most limit.Entries) (length es + 1) ≡ d
     → first_some (when a fault.NotIdentifier ∷ when b fault.Wildcards ∷ when c fault.Exists ∷ when d (fault.Full limit.Entries) ∷ []) ≡ first_some (entry_causes es e)
 causes_are es e n a b c d same isnt wild there full =

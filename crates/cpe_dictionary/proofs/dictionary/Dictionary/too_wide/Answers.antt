@@ -5,7 +5,7 @@ use Rattle.cpe_rows.specs.declared.entry.Entry.{Entry}
 use Rattle.cpe_rows.specs.declared.fault.EditFault.TheVariants as fault
 use Rattle.cpe_dictionary.proofs.dictionary.Dictionary.too_wide.Goals as goal
 
--- the fault of an entry is that of its name
+-- the fault of an entry with too many ends has the entry's name
 by_name : (o : Option Entry) → option_map (λ (e : Entry). fault.TooWide e.name) o ≡ option_map (λ (n : Values). fault.TooWide n) (option_map (λ (e : Entry). e.name) o)
 by_name None = refl
 by_name (Some e) = refl

@@ -22,5 +22,5 @@ returns-in-None c =
     let es = c.self.inside.dictionary in
     let n = c.args.name.now in
     let to = c.self.inside.entry.now in
-    sym (leads_nowhere es n to (c.absent_names_stand_alone.ensures.chains es n (no_entry es n (sym c.in-None.ensures))))
+    sym (leads_nowhere es n to (c.absent_names_are_alone.ensures.chains es n (no_entry es n (sym c.in-None.ensures))))
     ∙ ap (λ (s : List Entry × Values). leads_to s.0 n s.1) c.self.view_is

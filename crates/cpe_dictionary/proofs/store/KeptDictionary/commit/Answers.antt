@@ -4,14 +4,14 @@ use Rattle.cpe_rows.specs.Lawful.{IsDictionary}
 use Rattle.deprecation_graph.specs.Graph.{changed_nodes}
 use Rattle.name_index.specs.declared.table.NameId.{NameId}
 use Rattle.name_index.specs.Table.{kept_at}
-use Rattle.entries_in_order.specs.names_in_order.InOrder.{AreInOrder, names_numbered, Roll}
-use Rattle.entries_in_order.specs.declared.kept.Details.{Details}
+use Rattle.cpe_dictionary.specs.names_in_order.InOrder.{AreInOrder, names_numbered, Roll}
+use Rattle.cpe_dictionary.specs.declared.kept.EntryDetails.{EntryDetails}
 use Rattle.cpe_dictionary.specs.Numbers.{nodes_of_entries}
 use Rattle.cpe_dictionary.specs.Kept.{entries_in, entries_of, FitsTable, rewritten, Stored, written}
-use Rattle.cpe_dictionary.specs.Plans.{numbered}
+use Rattle.cpe_dictionary.specs.Plans.{numbered_successors}
 use Rattle.cpe_dictionary.specs.Room.{MayChange}
 use Rattle.cpe_dictionary.proofs.DictionaryLemmas.{kept_change}
-use Rattle.entries_in_order.proofs.EntryLemmas.{length_written, written_beside}
+use Rattle.cpe_dictionary.proofs.EntryLemmas.{length_written, written_beside}
 use Rattle.cpe_dictionary.proofs.store.KeptDictionary.commit.Goals as goal
 
 pub rewrite_at-requires : goal.rewrite_at-requires
@@ -35,11 +35,11 @@ returns-clause-fits c =
     let is = (λ j. entries_of (names_numbered table (names j).numbers) (details j)) ∙ written_beside d note ns i.entries.details k even in
     record {
       order = subst (λ (r : Roll). AreInOrder table r.held r.numbers) (sym names) fits.order;
-      even = ap (λ (r : Roll). length r.numbers) names ∙ fits.even ∙ sym (length_written d note k i.entries.details) ∙ sym (ap (λ (ds : List Details). length ds) details);
+      even = ap (λ (r : Roll). length r.numbers) names ∙ fits.even ∙ sym (length_written d note k i.entries.details) ∙ sym (ap (λ (ds : List EntryDetails). length ds) details);
       kept =
           kept_change (entries_of ns i.entries.details) (entries_of (names_numbered table after.names.numbers) after.details) i.graph.nodes c.set_edges.new.self.nodes k d note next c.changes_by_number.ensures.changes fits.kept
           (subst (λ (s : Stored). k < length (nodes_of_entries (entries_in table s))) back c.requires.allowed.change.names.node)
-          (subst (λ (s : Stored). next ≡ numbered (entries_in table s) d) back c.requires.numbers)
+          (subst (λ (s : Stored). next ≡ numbered_successors (entries_in table s) d) back c.requires.numbers)
           (subst (λ (s : Stored). IsDictionary (written (rewritten d note) k (entries_in table s))) back c.requires.lawful)
           is
           (c.set_edges.ensures.nodes ∙ ap (changed_nodes i.graph.nodes k) c.next.ensures);

@@ -5,12 +5,12 @@ use Rattle.cpe_rows.specs.declared.entry.Deprecation.{Deprecation}
 use Rattle.cpe_rows.specs.declared.entry.Entry.{Entry}
 use Rattle.name_index.specs.declared.table.NameId.{NameId}
 use Rattle.name_index.specs.Table.{kept_at}
-use Rattle.entries_in_order.specs.names_in_order.InOrder.{AreInOrder, names_numbered, Roll}
-use Rattle.entries_in_order.specs.declared.kept.Details.{Details}
+use Rattle.cpe_dictionary.specs.names_in_order.InOrder.{AreInOrder, names_numbered, Roll}
+use Rattle.cpe_dictionary.specs.declared.kept.EntryDetails.{EntryDetails}
 use Rattle.cpe_dictionary.specs.Given.{each_deprecated}
-use Rattle.cpe_dictionary.specs.Kept.{entries_in, entries_of, FitsTable, IsKept, Stored}
-use Rattle.entries_in_order.proofs.EntryLemmas.{count_is}
-use Rattle.entries_in_order.proofs.GivenDetails.{given_beside, length_details}
+use Rattle.cpe_dictionary.specs.Kept.{entries_in, entries_of, FitsTable, IsDictionaryGraph, Stored}
+use Rattle.cpe_dictionary.proofs.EntryLemmas.{count_is}
+use Rattle.cpe_dictionary.proofs.GivenDetails.{given_beside, length_details}
 use Rattle.cpe_dictionary.proofs.store.KeptDictionary.deprecate_all.Goals as goal
 
 pub give_all-requires : goal.give_all-requires
@@ -37,8 +37,8 @@ returns-in-Ok-clause-fits c =
     ∙ ap (λ (os : List (Option Deprecation)). each_deprecated (entries_of ns i.entries.details) os) c.as_slice.ensures in
     record {
       order = subst (λ (r : Roll). AreInOrder table r.held r.numbers) (sym names) fits.order;
-      even = ap (λ (r : Roll). length r.numbers) names ∙ fits.even ∙ sym (length_details i.entries.details c.args.deprecations) ∙ sym (ap (λ (ds : List Details). length ds) details);
-      kept = subst (λ (es : List Entry). IsKept es c.in-Ok.graph.nodes) (given ∙ sym left) c.in-Ok.ensures.kept;
+      even = ap (λ (r : Roll). length r.numbers) names ∙ fits.even ∙ sym (length_details i.entries.details c.args.deprecations) ∙ sym (ap (λ (ds : List EntryDetails). length ds) details);
+      kept = subst (λ (es : List Entry). IsDictionaryGraph es c.in-Ok.graph.nodes) (given ∙ sym left) c.in-Ok.ensures.kept;
     }
 
 pub returns-in-Ok-clause-ok : goal.returns-in-Ok-clause-ok

@@ -8,7 +8,7 @@ use Rattle.name_index.specs.Table.{kept_at}
 use Rattle.cpe_dictionary.specs.Kept.{entries_in}
 use Rattle.cpe_dictionary.proofs.store.KeptDictionary.number_of.Goals as goal
 
--- the place of an entry is below their number
+-- the place of an entry is below the number of entries
 place_within : (n : Values) (es : List Entry) (k : ℕ) → Some k ≡ position (is_named n) es → k < length es
 place_within n [] k at = absurd (none-some k (sym at))
 place_within n (e ∷ es) k at = (position-Some (is_named n) (e ∷ es) k e (sym at)).0

@@ -2,7 +2,7 @@ use Rattle.std.proofs.Common.{◌≤◌, ℕ, List, length, ap, subst, ◌∙◌
 use Rattle.std.specs.Prelude.{Option}
 use Rattle.std.proofs.lemmas.Result.{IfOk-weaker}
 use Rattle.deprecation_graph.specs.Graph.{successors}
-use Rattle.entries_in_order.specs.Room.{HasNoteRoom}
+use Rattle.cpe_dictionary.specs.EntryRoom.{HasNoteRoom}
 use Rattle.cpe_dictionary.specs.Room.{MayChange, stored_of}
 use Rattle.cpe_dictionary.proofs.Rooms.{same_entries, same_fits, same_listed, same_stored}
 use Rattle.cpe_dictionary.proofs.store.KeptDictionary.reserve_change.Goals as goal

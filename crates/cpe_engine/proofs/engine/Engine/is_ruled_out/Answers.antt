@@ -1,5 +1,5 @@
 use Rattle.std.proofs.Common.{ap, sym, ◌∙◌}
-use Rattle.cpe_explain.specs.checked_certificates.Relates.{is_ruled_out}
+use Rattle.certificate_search.specs.certificate_check.Relates.{is_ruled_out}
 use Rattle.cpe_engine.proofs.FactLemmas.{ruled_out}
 use Rattle.cpe_engine.proofs.engine.Engine.is_ruled_out.Goals as goal
 

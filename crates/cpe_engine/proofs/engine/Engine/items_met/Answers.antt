@@ -1,5 +1,5 @@
 use Rattle.std.proofs.Common.{ℕ, refl, subst}
-use Rattle.name_index.specs.cpe_steps.Within.{StepsWithin}
+use Rattle.name_index.specs.step_count.Within.{StepsWithin}
 use Rattle.name_index.specs.product_orders.declared.products.Side.TheVariants as side
 use Rattle.cpe_rows.specs.Rows.{Rows}
 use Rattle.engine_edits.specs.Parts.{rows_in}

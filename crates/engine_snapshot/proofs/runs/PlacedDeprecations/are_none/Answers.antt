@@ -1,7 +1,7 @@
 use Rattle.std.proofs.Common.{◌≡◌, List, Option, ap, subst, sym, true, ◌∙◌}
 use Rattle.std.specs.Prelude.{is_none, nat_eq}
 use Rattle.std.specs.List.{list_all}
-use Rattle.cpe_snapshot.specs.declared.rows.PlacedDeprecation.{PlacedDeprecation}
+use Rattle.snapshot_bytes.specs.declared.rows.PlacedDeprecation.{PlacedDeprecation}
 use Rattle.engine_snapshot.proofs.RunLemmas.{none_given}
 use Rattle.engine_snapshot.proofs.runs.PlacedDeprecations.are_none.Goals as goal
 

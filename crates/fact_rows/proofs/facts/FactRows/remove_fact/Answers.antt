@@ -1,7 +1,7 @@
 use Rattle.std.proofs.Common.{◌≡◌, List, None, false, subst, refl, ap, ◌∙◌}
 use Rattle.name_index.specs.declared.table.NameId.{NameId}
 use Rattle.fact_rows.specs.Calls.{FactRemoved}
-use Rattle.fact_rows.specs.Facts.{FactTable, IsUnderNone, OthersStay, SameElsewhere, fact_at, facts_of, has_end, seen_fact}
+use Rattle.fact_rows.specs.Facts.{FactTable, IsUnderNone, OthersStay, SameElsewhere, fact_at, facts_with_end, has_end_of_fact, seen_fact}
 use Rattle.std.specs.Option.{option_map}
 use Rattle.fact_rows.proofs.TableLemmas.{linked_gone}
 use Rattle.fact_rows.proofs.LinkLemmas.{nat_differ}
@@ -10,7 +10,7 @@ use Rattle.fact_rows.proofs.facts.FactRows.remove_fact.Goals as goal
 
 pub invariant_of-self : goal.invariant_of-self
 invariant_of-self c =
-    let free : has_end c.self.inside.changed.items c.args.fact.0 ≡ false = ap (λ (t : FactTable). has_end t.changed c.args.fact.0) c.self.view_is ∙ c.requires in
+    let free : has_end_of_fact c.self.inside.changed.items c.args.fact.0 ≡ false = ap (λ (t : FactTable). has_end_of_fact t.changed c.args.fact.0) c.self.view_is ∙ c.requires in
     record {
       lists = record { tight = c.unlink.ensures.tight c.self.invariant.lists.tight; once = c.unlink.ensures.once c.self.invariant.lists.once };
       changes = changes_removed c.self.inside.rows.entries c.self.inside.changed c.self.invariant.changes c.remove_row.new.rows.entries c.args.fact.0 c.remove_row.ensures.here c.remove_row.ensures.others c.remove_row.ensures.many free;
@@ -26,8 +26,8 @@ returns c =
     subst (λ (t : FactTable). FactRemoved t new fact) c.self.view_is (record {
       here = none;
       stay = stay;
-      gone = subst (λ (ends : List NameId). IsUnderNone (facts_of new) fact ends) c.ends_of.ensures (c.unlink.ensures.gone c.self.invariant.lists.once);
-      elsewhere = subst (λ (ends : List NameId). SameElsewhere ends (facts_of old) (facts_of new)) c.ends_of.ensures c.unlink.ensures.elsewhere;
+      gone = subst (λ (ends : List NameId). IsUnderNone (facts_with_end new) fact ends) c.ends_of.ensures (c.unlink.ensures.gone c.self.invariant.lists.once);
+      elsewhere = subst (λ (ends : List NameId). SameElsewhere ends (facts_with_end old) (facts_with_end new)) c.ends_of.ensures c.unlink.ensures.elsewhere;
       others = c.unlink.ensures.others;
       linked = linked_gone old new fact stay c.unlink.ensures.others none;
       changed = refl;

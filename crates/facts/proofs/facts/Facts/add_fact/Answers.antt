@@ -1,7 +1,7 @@
 use Rattle.std.proofs.Common.{◌≡◌, ◌∷◌, None, refl, sym, subst}
 use Rattle.cpe_rows.specs.declared.statement.Mode.{Mode}
 use Rattle.cpe_rows.specs.declared.statement.Mode.TheVariants.{Plain, Follow}
-use Rattle.fact_rows.specs.Facts.{fact_at, name_id}
+use Rattle.fact_rows.specs.Facts.{fact_at, fact_name_id}
 use Rattle.facts.specs.Facts.{FactsNow, table_of}
 use Rattle.facts.specs.Room.{UnusedAdded}
 use Rattle.facts.proofs.RoomLemmas.{only_follow, only_plain, used_but_follow, used_but_plain, used_with, with_unused}
@@ -21,10 +21,10 @@ returns-in-Plain c =
     let added = c.add_fact.ensures in
     let none = subst (λ (m : Mode). fact_at (table_of inside m) fact ≡ None) c.in-Plain.is (subst (λ (f : FactsNow). fact_at (table_of f c.args.mode) fact ≡ None) (sym c.self.view_is) c.requires) in
     let core : UnusedAdded inside new Plain fact its_ends result = record {
-      facts = λ names rows tickets live stood. record { plain = with_unused plain next fact its_ends result none added names boards.plain Plain rows tickets live stood.plain; follow = stood.follow; settled = stood.settled; numbered = stood.numbered };
+      facts = λ names rows tickets live rows_before. record { plain = with_unused plain next fact its_ends result none added names boards.plain Plain rows tickets live rows_before.plain; follow = rows_before.follow; settled = rows_before.settled; numbered = rows_before.numbered };
       table = added;
       only = only_plain inside new refl refl;
-      used = λ fresh used. used_but_plain new (name_id fact ∷ fresh) (used_with plain next fact its_ends result none added fresh (used Plain)) (used Follow);
+      used = λ fresh used. used_but_plain new (fact_name_id fact ∷ fresh) (used_with plain next fact its_ends result none added fresh (used Plain)) (used Follow);
     } in
     subst (λ (f : FactsNow). UnusedAdded f new c.args.mode c.args.fact.0 c.args.ends.items c.add_fact.result) c.self.view_is (subst (λ (m : Mode). UnusedAdded inside new m c.args.fact.0 c.args.ends.items c.add_fact.result) (sym c.in-Plain.is) core)
 
@@ -42,9 +42,9 @@ returns-in-Follow c =
     let added = c.add_fact-in-Follow.ensures in
     let none = subst (λ (m : Mode). fact_at (table_of inside m) fact ≡ None) c.in-Follow.is (subst (λ (f : FactsNow). fact_at (table_of f c.args.mode) fact ≡ None) (sym c.self.view_is) c.requires) in
     let core : UnusedAdded inside new Follow fact its_ends result = record {
-      facts = λ names rows tickets live stood. record { follow = with_unused follow next fact its_ends result none added names boards.follow Follow rows tickets live stood.follow; plain = stood.plain; settled = stood.settled; numbered = stood.numbered };
+      facts = λ names rows tickets live rows_before. record { follow = with_unused follow next fact its_ends result none added names boards.follow Follow rows tickets live rows_before.follow; plain = rows_before.plain; settled = rows_before.settled; numbered = rows_before.numbered };
       table = added;
       only = only_follow inside new refl refl;
-      used = λ fresh used. used_but_follow new (name_id fact ∷ fresh) (used Plain) (used_with follow next fact its_ends result none added fresh (used Follow));
+      used = λ fresh used. used_but_follow new (fact_name_id fact ∷ fresh) (used Plain) (used_with follow next fact its_ends result none added fresh (used Follow));
     } in
     subst (λ (f : FactsNow). UnusedAdded f new c.args.mode c.args.fact.0 c.args.ends.items c.add_fact-in-Follow.result) c.self.view_is (subst (λ (m : Mode). UnusedAdded inside new m c.args.fact.0 c.args.ends.items c.add_fact-in-Follow.result) (sym c.in-Follow.is) core)

@@ -17,11 +17,11 @@ returns c =
     let new : FactsNow = record { boards = boards; plain = plain; follow = next } in
     let linked = c.link.ensures in
     subst (λ (f : FactsNow). EndsLinked f new c.args.fact.0 c.args.ends.now c.link.result) c.self.view_is (record {
-      facts = λ names rows tickets stood. record {
-        plain = stood.plain;
-        follow = alike names boards.follow Follow rows tickets follow next stood.follow (λ q is. stood.follow.live q (sym (ap is_some (linked.stay q)) ∙ is)) (λ q. ap users_or_none (linked.stay q)) (λ q used. ap ends_or_none (linked.stay q)) (λ q used. ap truth_or_unknown (linked.stay q)) (linked.linked stood.follow.linked);
-        settled = stood.settled;
-        numbered = stood.numbered;
+      facts = λ names rows tickets rows_before. record {
+        plain = rows_before.plain;
+        follow = alike names boards.follow Follow rows tickets follow next rows_before.follow (λ q is. rows_before.follow.live q (sym (ap is_some (linked.stay q)) ∙ is)) (λ q. ap users_or_none (linked.stay q)) (λ q used. ap ends_or_none (linked.stay q)) (λ q used. ap truth_or_unknown (linked.stay q)) (linked.linked rows_before.follow.linked);
+        settled = rows_before.settled;
+        numbered = rows_before.numbered;
       };
       table = linked;
       boards = refl;

@@ -18,7 +18,7 @@ returns-in-Plain c =
     let result = c.reserve_users.result in
     let reserved = c.reserve_users.ensures in
     let core : RoomForUsers inside new Plain ids result = record {
-      facts = λ names rows tickets stood. record { plain = reserved_facts names boards.plain Plain rows tickets plain next reserved.same reserved.truths stood.plain; follow = stood.follow; settled = stood.settled; numbered = stood.numbered };
+      facts = λ names rows tickets rows_before. record { plain = reserved_facts names boards.plain Plain rows tickets plain next reserved.same reserved.truths rows_before.plain; follow = rows_before.follow; settled = rows_before.settled; numbered = rows_before.numbered };
       table = reserved;
       only = only_plain inside new refl refl;
     } in
@@ -36,7 +36,7 @@ returns-in-Follow c =
     let result = c.reserve_users-in-Follow.result in
     let reserved = c.reserve_users-in-Follow.ensures in
     let core : RoomForUsers inside new Follow ids result = record {
-      facts = λ names rows tickets stood. record { follow = reserved_facts names boards.follow Follow rows tickets follow next reserved.same reserved.truths stood.follow; plain = stood.plain; settled = stood.settled; numbered = stood.numbered };
+      facts = λ names rows tickets rows_before. record { follow = reserved_facts names boards.follow Follow rows tickets follow next reserved.same reserved.truths rows_before.follow; plain = rows_before.plain; settled = rows_before.settled; numbered = rows_before.numbered };
       table = reserved;
       only = only_follow inside new refl refl;
     } in

@@ -1,7 +1,7 @@
 use Rattle.std.proofs.Common.{◌≡◌, ◌<◌, ◌≤◌, ℕ, List, sym, ap, ◌∙◌, inl, inr, arith}
 use Rattle.std.proofs.lemmas.Bool.{cases_Bool, cases_eq}
-use Rattle.kept_facts.specs.level_board.declared.level.Level.TheVariants.{Covered, Free}
-use Rattle.kept_facts.specs.level_board.Board.{Board, is_marked, probe_times, target_times, find_times, or_none}
+use Rattle.fact_boards.specs.level_board.declared.level.Level.TheVariants.{Covered, Free}
+use Rattle.fact_boards.specs.level_board.Board.{Board, is_probe_marked, probe_times, target_times, find_times, or_none}
 use Rattle.library_tests.proofs.Levels.{is_covered, is_free}
 use Rattle.library_tests.proofs.boards.pairs.drop_two_targets.Goals as goal
 
@@ -69,7 +69,7 @@ returns-clause-marked g c =
     let last = c.drop_target-2.new.self in
     let one : 0 < probe_times c.drop_target.new.self p = omega (arith, c.drop_target.ensures.changes.probes p, c.add_probe.ensures.changes.times_now) in
     let still : 0 < probe_times last p = omega (arith, one, c.drop_target-2.ensures.changes.probes p) in
-    elim (cases_Bool (is_marked last p)) [
+    elim (cases_Bool (is_probe_marked last p)) [
       | inl on ↦ on
       | inr off ↦ absurd (let same : Free ≡ Covered = sym (returns-clause-none_left g c) ∙ c.level.ensures.value ∙ c.drop_target-2.ensures.changes.levels.levels p one still off ∙ sym c.level-one_left.ensures.value ∙ returns-clause-one_left g c in cc)
     ]

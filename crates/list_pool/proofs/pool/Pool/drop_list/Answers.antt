@@ -1,7 +1,7 @@
 use Rattle.std.proofs.Common.{None, sym, ap, ◌∙◌, arith, refl, length}
 use Rattle.list_pool.specs.Pool.{Lists, Updates}
 use Rattle.list_pool.specs.Store.{lists_of}
-use Rattle.list_pool.specs.declared.store.Slot.TheVariants.{Head}
+use Rattle.list_pool.specs.declared.store.PoolSlot.TheVariants.{Head}
 use Rattle.list_pool.proofs.SlotWalks.{live_head}
 use Rattle.list_pool.proofs.SlotCells.{head_fits}
 use Rattle.list_pool.proofs.SlotRemoves.{prefix_step, empty_prefix, drop_pool, drop_lists, updates_after}

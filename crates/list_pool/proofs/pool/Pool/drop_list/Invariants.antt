@@ -1,10 +1,10 @@
 use Rattle.std.proofs.Common.{◌≡◌, ◌≢◌, ℕ, ◌+◌, length}
-use Rattle.list_pool.specs.Pool.{IsLive, find_list, list_at}
+use Rattle.list_pool.specs.Pool.{IsLiveList, find_list, list_at}
 use Rattle.list_pool.proofs.pool.Pool.drop_list.Given as goal
 
 abbrev pub invariant-loop-cell : goal.invariant-loop-cell
 invariant-loop-cell l = record {
-  live : IsLive l.self.lists l.list.0;
+  live : IsLiveList l.self.lists l.list.0;
   others : (other : ℕ) → other ≢ l.list.0 → find_list l.self.lists other ≡ find_list l.fn.self.lists other;
   spare : l.self.spare + length (list_at l.self.lists l.list.0) ≡ l.fn.self.spare + length (list_at l.fn.self.lists l.list.0);
 }

@@ -1,5 +1,5 @@
 use Rattle.std.proofs.Common.{arith}
-use Rattle.list_pool.specs.declared.store.Slot.TheVariants.{Cell}
+use Rattle.list_pool.specs.declared.store.PoolSlot.TheVariants.{Cell}
 use Rattle.list_pool.proofs.SlotCells.{cell_lies, row_of}
 use Rattle.list_pool.proofs.SlotWrites.{write_pool, write_lists}
 use Rattle.list_pool.proofs.pool.Pool.set_value.Goals as goal

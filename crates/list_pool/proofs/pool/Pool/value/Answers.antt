@@ -1,5 +1,5 @@
 use Rattle.std.proofs.Common.{◌≡◌, Some, sym, ap, ◌∙◌, arith}
-use Rattle.list_pool.specs.declared.store.Slot.TheVariants.{Cell}
+use Rattle.list_pool.specs.declared.store.PoolSlot.TheVariants.{Cell}
 use Rattle.list_pool.proofs.SlotCells.{cell_lies, value_row}
 use Rattle.list_pool.proofs.pool.Pool.value.Goals as goal
 

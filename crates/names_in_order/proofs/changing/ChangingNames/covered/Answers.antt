@@ -3,7 +3,7 @@ use Rattle.std.specs.List.{filter}
 use Rattle.std.proofs.lemmas.Result.{IfOk-weaker}
 use Rattle.cpe_relation.specs.NameRelation.{covers}
 use Rattle.name_index.specs.Index.{is_covered}
-use Rattle.names_in_order.specs.InOrder.{AreLive, Roll, names_numbered}
+use Rattle.names_in_order.specs.InOrder.{AreListedNames, Roll, names_numbered}
 use Rattle.names_in_order.proofs.ChangeLemmas.{covered_live, covered_names}
 use Rattle.names_in_order.proofs.changing.ChangingNames.covered.Goals as goal
 
@@ -12,11 +12,11 @@ returns-clause-live g c =
     let table = c.args.table.now in
     let name = c.args.name.now in
     let numbers = c.self.inside.numbers.numbers in
-    let live = subst (λ (r : Roll). AreLive table r.numbers) (sym c.self.view_is) c.requires.order.live in
+    let live = subst (λ (r : Roll). AreListedNames table r.numbers) (sym c.self.view_is) c.requires.order.live in
     IfOk-weaker c.find_covered.result
     (λ v. v.items ≡ filter (is_covered table name) numbers)
-    (λ v. AreLive table v.items)
-    (λ v is. subst (AreLive table) (sym is) (covered_live table numbers (is_covered table name) live))
+    (λ v. AreListedNames table v.items)
+    (λ v is. subst (AreListedNames table) (sym is) (covered_live table numbers (is_covered table name) live))
     c.find_covered.ensures.covered
 
 pub returns-clause-covered : goal.returns-clause-covered

@@ -1,6 +1,6 @@
 use Rattle.std.proofs.Common.{true, false, List, sym, ap, subst, ◌∙◌, ◌<◌, length}
 use Rattle.number_blocks.specs.Blocks.{Numbers, AllAre}
-use Rattle.number_blocks.specs.Places.{Block, before, behind}
+use Rattle.number_blocks.specs.Places.{Block, before, numbers_behind}
 use Rattle.number_blocks.proofs.BlockLemmas.{whole}
 use Rattle.number_blocks.proofs.blocks.Blocks.put.Goals as goal
 
@@ -13,9 +13,9 @@ returns g c =
     let value = c.deref.ensures.value in
     record {
       front = before bs i at;
-      back = behind bs i at;
+      back = numbers_behind bs i at;
       whole = ap (λ (n : Numbers). n.items) (sym c.self.view_is) ∙ whole bs i at (subst (λ (u : List Block). i < length u) value c.find-place.ensures.inside);
       passing = subst (λ (u : List Block). AllAre p true (before u i at)) value c.find-place.ensures.passing;
-      failing = subst (λ (u : List Block). AllAre p false (behind u i at)) value c.find-place.ensures.failing;
+      failing = subst (λ (u : List Block). AllAre p false (numbers_behind u i at)) value c.find-place.ensures.failing;
       put = c.put_at.ensures.put;
     }

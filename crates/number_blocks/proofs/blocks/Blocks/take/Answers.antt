@@ -1,7 +1,7 @@
 use Rattle.std.proofs.Common.{ℕ, ◌+◌, ◌∷◌, ◌++◌, List, sym, ap, subst, ◌∙◌, ◌<◌, length, true, ◌≡◌}
 use Rattle.std.specs.List.{Contains, list_any}
 use Rattle.number_blocks.specs.Blocks.{Numbers, AllAre}
-use Rattle.number_blocks.specs.Places.{Block, flat, before, behind}
+use Rattle.number_blocks.specs.Places.{Block, flat, before, numbers_behind}
 use Rattle.number_blocks.proofs.BlockLemmas.{whole}
 use Rattle.number_blocks.proofs.Taken.{is, is_behind}
 use Rattle.number_blocks.proofs.blocks.Blocks.take.Goals as goal
@@ -15,7 +15,7 @@ place_of-place-requires g c =
     let inside = subst (λ (u : List Block). i < length u) c.deref.ensures.value c.find_block-from.ensures.inside in
     let passing = subst (λ (u : List Block). AllAre p true (before u i 0)) c.deref.ensures.value c.find_block-from.ensures.passing in
     let there = subst (λ (u : Numbers). Contains u.items n) (sym c.self.view_is) c.requires.there in
-    subst (λ (u : List Block). list_any (is n) (behind u i 0) ≡ true) (sym c.deref-2.ensures.value) (is_behind p n (flat bs) (before bs i 0) (behind bs i 0) (whole bs i 0 inside) c.requires.fails passing there)
+    subst (λ (u : List Block). list_any (is n) (numbers_behind u i 0) ≡ true) (sym c.deref-2.ensures.value) (is_behind p n (flat bs) (before bs i 0) (numbers_behind bs i 0) (whole bs i 0 inside) c.requires.fails passing there)
 
 pub returns : goal.returns
 returns g c =
@@ -27,7 +27,7 @@ returns g c =
     let inside = subst (λ (u : List Block). i < length u) value c.place_of-place.ensures.inside in
     record {
       front = before bs i at;
-      back = behind bs i (at + 1);
-      whole = ap (λ (u : Numbers). u.items) (sym c.self.view_is) ∙ whole bs i at inside ∙ ap (λ (u : List ℕ). before bs i at ++ u) (subst (λ (u : List Block). behind u i at ≡ n ∷ behind u i (at + 1)) value c.place_of-place.ensures.is);
+      back = numbers_behind bs i (at + 1);
+      whole = ap (λ (u : Numbers). u.items) (sym c.self.view_is) ∙ whole bs i at inside ∙ ap (λ (u : List ℕ). before bs i at ++ u) (subst (λ (u : List Block). numbers_behind u i at ≡ n ∷ numbers_behind u i (at + 1)) value c.place_of-place.ensures.is);
       left = c.take_and_join.ensures.taken;
     }

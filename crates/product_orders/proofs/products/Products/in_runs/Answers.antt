@@ -2,7 +2,7 @@ use Rattle.std.proofs.Common.{◌≡◌, ◌++◌, subst, arith}
 use Rattle.std.specs.List.{sum_by}
 use Rattle.std.proofs.lemmas.List.Sums.{sum_by-append}
 use Rattle.product_orders.specs.Elements.{SameElements}
-use Rattle.product_orders.specs.Listed.{live, Listed}
+use Rattle.product_orders.specs.Listed.{live, ProductList}
 use Rattle.product_orders.specs.Walk.{all_runs}
 use Rattle.product_orders.proofs.NearRuns.{all_same}
 use Rattle.product_orders.proofs.products.Products.in_runs.Goals as goal
@@ -17,5 +17,5 @@ returns c f =
     let head = c.args.first ++ c.args.second ++ c.args.third in
     let listed : SameElements (live values) order = c.self.invariant.front_all in
     let same = all_same values (live values) order text k m listed f in
-    subst (λ (vs : Listed). sum_by f (head ++ all_runs vs (live vs) text k m) ≡ sum_by f (head ++ all_runs values order text k m)) c.self.view_is
+    subst (λ (vs : ProductList). sum_by f (head ++ all_runs vs (live vs) text k m) ≡ sum_by f (head ++ all_runs values order text k m)) c.self.view_is
     (omega (arith, same, sum_by-append f head (all_runs values (live values) text k m), sum_by-append f head (all_runs values order text k m)))

@@ -1,10 +1,10 @@
 use Rattle.std.proofs.Common.{◌≡◌, subst}
 use Rattle.cpe_relation.specs.cpe_values.Lower.{lower_value}
-use Rattle.product_orders.specs.Listed.{Listed, value_at}
+use Rattle.product_orders.specs.Listed.{ProductList, product_value_at}
 use Rattle.product_orders.proofs.Live.{all_lower}
 use Rattle.product_orders.proofs.products.Products.lawful.Goals as goal
 
 pub returns-clause-lower : goal.returns-clause-lower
 returns-clause-lower c number =
     let i = c.self.inside in
-    subst (λ (l : Listed). lower_value (value_at l number) ≡ value_at l number) c.self.view_is (all_lower i.values i.fronts.items i.backs.items c.self.invariant number)
+    subst (λ (l : ProductList). lower_value (product_value_at l number) ≡ product_value_at l number) c.self.view_is (all_lower i.values i.fronts.items i.backs.items c.self.invariant number)

@@ -5,7 +5,7 @@ use Rattle.product_orders.specs.declared.keys.End.TheVariants as end
 use Rattle.product_orders.specs.declared.keys.Shape.TheVariants as shape
 use Rattle.product_orders.specs.Elements.{SameElements}
 use Rattle.product_orders.specs.Keys.{body_of, in_run}
-use Rattle.product_orders.specs.Listed.{value_at, live, Listed}
+use Rattle.product_orders.specs.Listed.{product_value_at, live, ProductList}
 use Rattle.product_orders.proofs.Lower.{same_plain}
 use Rattle.product_orders.proofs.Sums.{tests_agree}
 use Rattle.product_orders.proofs.products.Products.same_text.Goals as goal
@@ -14,7 +14,7 @@ pub returns : goal.returns
 returns c =
     let values = c.self.inside.values in
     let asked = c.args.asked.now in
-    let is_asked = λ (n : ℕ). in_run end.Front shape.Plain (body_of asked) true (value_at values n) in
-    subst (λ (vs : Listed). SameElements (filter (λ n. in_run end.Front shape.Plain (body_of asked) true (value_at vs n)) (live vs)) c.of.result) c.self.view_is
-    (tests_agree is_asked (λ n. same_value asked (value_at values n)) (λ n. same_plain asked (value_at values n) c.requires) (live values) c.of.result
+    let is_asked = λ (n : ℕ). in_run end.Front shape.Plain (body_of asked) true (product_value_at values n) in
+    subst (λ (vs : ProductList). SameElements (filter (λ n. in_run end.Front shape.Plain (body_of asked) true (product_value_at vs n)) (live vs)) c.of.result) c.self.view_is
+    (tests_agree is_asked (λ n. same_value asked (product_value_at values n)) (λ n. same_plain asked (product_value_at values n) c.requires) (live values) c.of.result
     (λ f. c.find_alone.ensures f ∙ ap (sum_by f) (sym c.of.ensures)))

@@ -9,12 +9,12 @@ use Rattle.cpe_rows.specs.Limits.{most}
 use Rattle.cpe_rows.specs.declared.fault.Which.TheVariants as which
 use Rattle.cpe_rows.specs.declared.statement.Statement.{Statement}
 use Rattle.statement_rows.specs.declared.row.NumberedStatement.{NumberedStatement}
-use Rattle.statement_rows.specs.declared.row.Row.{Row}
+use Rattle.statement_rows.specs.declared.row.JudgedRow.{JudgedRow}
 use Rattle.statement_rows.specs.Askers.{askers_at}
 use Rattle.statement_rows.specs.Invariant.{new_row}
 use Rattle.statement_rows.specs.Readings.{check_keys, is_asked}
 use Rattle.statement_rows.specs.Rows.{asks}
-use Rattle.statement_rows.specs.State.{IsReadyRow, State, StatementAdded, has_room, is_of, new_statement_row, statements_of, view_of}
+use Rattle.statement_rows.specs.State.{IsReadyRow, State, StatementStored, has_statement_room, is_of, new_statement_row, statements_of, view_of}
 use Rattle.statement_rows.specs.Tickets.{IsBelow, with_last_if}
 use Rattle.statement_rows.proofs.AskerLemmas.{with_last_new}
 use Rattle.statement_rows.proofs.CountLemmas.{counted_last}
@@ -31,8 +31,8 @@ invariant_of-self g c =
     let s = c.requires.0 in
     let h = c.requires.2 in
     let rows = inside.rows.items in
-    let r : Row = new_row truth inside.results.list ready.ticket ready.numbered in
-    let are : c.push.new.self.items ≡ rows ++ r ∷ [] = c.push.ensures ∙ ap (λ (r : Row). rows ++ r ∷ []) c.row_of-row.ensures in
+    let r : JudgedRow = new_row truth inside.results.list ready.ticket ready.numbered in
+    let are : c.push.new.self.items ≡ rows ++ r ∷ [] = c.push.ensures ∙ ap (λ (r : JudgedRow). rows ++ r ∷ []) c.row_of-row.ensures in
     let ticket = h.ticket.0 ∙ sym (ap (λ (a : State). a.next) c.self.view_is) in
     let view = c.self.view_is in (
       AreRows-put rows c.push.new.self.items inside.changed inside.by_id.entries c.insert_id.new.by_id.entries inside.askers.entries c.add_all.new.askers.entries inside.next inv.0 r
@@ -46,7 +46,7 @@ invariant_of-self g c =
           (subst (λ (n : ℕ). IsBelow n (askers_at inside.askers.entries k)) (sym ticket) (below_next (asks k) inside.next rows (askers_at inside.askers.entries k) inv.0.noted.rising inv.0.below (inv.0.asked k)))))
           (room_of inside.rows.ready (length rows) (vec_capacity inside.changed) (spare inside.by_id) inside.next (ap (λ (a : State). a.ready) view ∙ h.ticket.1)),
       counted_last inside.facts c.with_facts_of-self-inside.result (statements_of (map view_of rows)) (statements_of (map view_of c.push.new.self.items)) ready.numbered.value.statement
-          (ap (λ (rs : List Row). statements_of (map view_of rs)) are ∙ statements-last rows r) inv.1
+          (ap (λ (rs : List JudgedRow). statements_of (map view_of rs)) are ∙ statements-last rows r) inv.1
           (c.with_facts_of-self-inside.ensures ∙ ap (λ (u : NumberedStatement). min (inside.facts + length (fact_names u.statement.test)) (2 ^ 64 - 1)) c.deref.ensures)
           (ap (λ (a : State). nat_lt (most which.Facts) (number_of_facts (statements_of a.rows ++ ready.numbered.value.statement ∷ []))) view
           ∙ (ap (λ (u : Statement). nat_lt (most which.Facts) (number_of_facts (statements_of c.args.self.now.rows ++ u ∷ []))) h.numbered.0 ∙ h.few)),
@@ -58,11 +58,11 @@ returns g c s ids is_ready =
     let truth = g.T.FactTruth.fact_truth c.args.facts.now in
     let ready = c.args.ready in
     let rows = inside.rows.items in
-    let r : Row = new_row truth inside.results.list ready.ticket ready.numbered in
-    let are : c.push.new.self.items ≡ rows ++ r ∷ [] = c.push.ensures ∙ ap (λ (r : Row). rows ++ r ∷ []) c.row_of-row.ensures in
-    let old : State = record { rows = map view_of rows; checks = inside.results.list; askers = inside.askers.entries; next = inside.next; ready = has_room inside.rows.ready (length rows) (vec_capacity inside.changed) (spare inside.by_id) inside.next; result_room = inside.results.ready } in
-    let new : State = record { rows = map view_of c.push.new.self.items; checks = inside.results.list; askers = c.add_all.new.askers.entries; next = inside.next + 1; ready = has_room c.push.new.self.ready (length c.push.new.self.items) (vec_capacity inside.changed) (spare c.insert_id.new.by_id) (inside.next + 1); result_room = inside.results.ready } in
-    subst (λ (a : State). IsReadyRow a s ids ready → StatementAdded a new s ids truth) c.self.view_is
+    let r : JudgedRow = new_row truth inside.results.list ready.ticket ready.numbered in
+    let are : c.push.new.self.items ≡ rows ++ r ∷ [] = c.push.ensures ∙ ap (λ (r : JudgedRow). rows ++ r ∷ []) c.row_of-row.ensures in
+    let old : State = record { rows = map view_of rows; checks = inside.results.list; askers = inside.askers.entries; next = inside.next; ready = has_statement_room inside.rows.ready (length rows) (vec_capacity inside.changed) (spare inside.by_id) inside.next; result_room = inside.results.ready } in
+    let new : State = record { rows = map view_of c.push.new.self.items; checks = inside.results.list; askers = c.add_all.new.askers.entries; next = inside.next + 1; ready = has_statement_room c.push.new.self.ready (length c.push.new.self.items) (vec_capacity inside.changed) (spare c.insert_id.new.by_id) (inside.next + 1); result_room = inside.results.ready } in
+    subst (λ (a : State). IsReadyRow a s ids ready → StatementStored a new s ids truth) c.self.view_is
     (λ (h : IsReadyRow old s ids ready).
     let put : new.rows ≡ old.rows ++ new_statement_row truth old s ids ∷ [] =
     ap (map view_of) are ∙ (map-last view_of rows r ∙ (λ i. map view_of rows ++ new_statement_row truth (record old { next = h.ticket.0 i }) (h.numbered.0 i) (h.numbered.1 i) ∷ [])) in

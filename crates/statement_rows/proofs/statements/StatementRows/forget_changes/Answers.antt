@@ -1,6 +1,6 @@
 use Rattle.std.proofs.Common.{List, map, sym, ap, subst, ◌∙◌}
-use Rattle.cpe_inventory.specs.Kept.{IsCounted}
-use Rattle.statement_rows.specs.declared.row.Row.{Row}
+use Rattle.check_results.specs.Kept.{IsCounted}
+use Rattle.statement_rows.specs.declared.row.JudgedRow.{JudgedRow}
 use Rattle.statement_rows.specs.State.{State, forget_row_change, statements_of, view_of}
 use Rattle.statement_rows.proofs.RemovalLemmas.{AreRows-known, judged-known, statements-known}
 use Rattle.statement_rows.proofs.statements.StatementRows.forget_changes.Goals as goal
@@ -12,7 +12,7 @@ invariant_of-self c =
     let are = c.forget_changes.ensures.rows in (
       AreRows-known rows c.forget_changes.new.rows.items inside.changed c.forget_changes.new.changed inside.by_id.entries inside.askers.entries inside.next c.self.invariant.0
           are c.forget_changes.ensures.changed c.forget_changes.ensures.capacity,
-      subst (IsCounted inside.facts) (sym (ap (λ (rs : List Row). statements_of (map view_of rs)) are ∙ statements-known rows)) c.self.invariant.1,
+      subst (IsCounted inside.facts) (sym (ap (λ (rs : List JudgedRow). statements_of (map view_of rs)) are ∙ statements-known rows)) c.self.invariant.1,
     )
 
 pub returns-clause-rows : goal.returns-clause-rows

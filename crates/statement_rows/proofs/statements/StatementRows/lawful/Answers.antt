@@ -1,6 +1,6 @@
 use Rattle.std.proofs.Common.{◌<◌, subst}
 use Rattle.std.specs.List.{AllByRecursion}
-use Rattle.cpe_inventory.specs.ticket_list.Rising.{IsRisingBy}
+use Rattle.check_results.specs.ticket_list.Rising.{IsRisingBy}
 use Rattle.statement_rows.specs.State.{State, StatementRow}
 use Rattle.statement_rows.proofs.CheckLemmas.{all_of_view, rising_view}
 use Rattle.statement_rows.proofs.statements.StatementRows.lawful.Goals as goal

@@ -2,15 +2,15 @@ use Rattle.std.proofs.Common.{List, [], ◌∷◌, ◌++◌, length, map, refl, 
 use Rattle.std.specs.Prelude.{nat_lt}
 use Rattle.std.specs.List.{list_any}
 use Rattle.std.specs.HashMap.{spare}
-use Rattle.cpe_inventory.specs.Kept.{IsCounted}
+use Rattle.check_results.specs.Kept.{IsCounted}
 use Rattle.cpe_rows.specs.FactNames.{number_of_facts}
 use Rattle.cpe_rows.specs.Limits.{most}
 use Rattle.cpe_rows.specs.declared.fault.Which.TheVariants as which
 use Rattle.cpe_rows.specs.declared.statement.Statement.{Statement}
 use Rattle.statement_rows.specs.declared.row.NumberedStatement.{NumberedStatement}
-use Rattle.statement_rows.specs.declared.row.Row.{Row}
+use Rattle.statement_rows.specs.declared.row.JudgedRow.{JudgedRow}
 use Rattle.statement_rows.specs.Room.{RowRoom}
-use Rattle.statement_rows.specs.State.{State, StatementReady, has_room, is_of, statements_of, view_of}
+use Rattle.statement_rows.specs.State.{State, StatementReady, has_statement_room, is_of, statements_of, view_of}
 use Rattle.statement_rows.proofs.StateLemmas.{AreRows-same, ready_by}
 use Rattle.statement_rows.proofs.statements.StatementRows.ready_statement.Goals as goal
 
@@ -21,7 +21,7 @@ invariant_of-self c =
     let same = c.ready_row-id.ensures in (
       AreRows-same inside.rows.items after.rows.items inside.changed after.changed inside.by_id.entries after.by_id.entries inside.askers.entries after.askers.entries inside.next c.self.invariant.0
           same.rows same.changed same.capacity same.ids same.ready.tickets,
-      subst (λ (rs : List Row). IsCounted inside.facts (statements_of (map view_of rs))) (sym same.rows) c.self.invariant.1,
+      subst (λ (rs : List JudgedRow). IsCounted inside.facts (statements_of (map view_of rs))) (sym same.rows) c.self.invariant.1,
     )
 
 pub returns : goal.returns
@@ -32,8 +32,8 @@ returns c =
     let s = c.args.statement in
     let ids = c.args.ids.now in
     let numbered = c.in_ok-numbered.numbered in
-    let old : State = record { rows = map view_of inside.rows.items; checks = inside.results.list; askers = inside.askers.entries; next = inside.next; ready = has_room inside.rows.ready (length inside.rows.items) (vec_capacity inside.changed) (spare inside.by_id) inside.next; result_room = inside.results.ready } in
-    let new : State = record { rows = map view_of after.rows.items; checks = inside.results.list; askers = after.askers.entries; next = inside.next; ready = has_room after.rows.ready (length after.rows.items) (vec_capacity after.changed) (spare after.by_id) inside.next; result_room = inside.results.ready } in
+    let old : State = record { rows = map view_of inside.rows.items; checks = inside.results.list; askers = inside.askers.entries; next = inside.next; ready = has_statement_room inside.rows.ready (length inside.rows.items) (vec_capacity inside.changed) (spare inside.by_id) inside.next; result_room = inside.results.ready } in
+    let new : State = record { rows = map view_of after.rows.items; checks = inside.results.list; askers = after.askers.entries; next = inside.next; ready = has_statement_room after.rows.ready (length after.rows.items) (vec_capacity after.changed) (spare after.by_id) inside.next; result_room = inside.results.ready } in
     subst (λ (a : State). StatementReady a new s ids c.with_id.result) c.self.view_is
     (ready_by old new s ids numbered after.rows.ready (length after.rows.items) (vec_capacity after.changed) (spare after.by_id)
     (record { rows = ap (map view_of) same.rows; checks = refl; next = refl; askers = same.ready.tickets }) refl c.in_ok-numbered.ensures.statement c.in_ok-numbered.ensures.ids

@@ -5,11 +5,11 @@ use Rattle.std.specs.Str.{bytes_eq}
 use Rattle.cpe_rows.specs.FactNames.{fact_names}
 use Rattle.cpe_rows.specs.declared.statement.Mode.{Mode}
 use Rattle.name_index.specs.declared.table.NameId.{NameId}
-use Rattle.cpe_inventory.specs.ticket_list.Rising.{IsRising}
-use Rattle.cpe_inventory.proofs.ticket_list.RisingLemmas.{rising_passing}
+use Rattle.check_results.specs.ticket_list.Rising.{IsRising}
+use Rattle.check_results.proofs.ticket_list.RisingLemmas.{rising_passing}
 use Rattle.statement_rows.specs.declared.row.NumberedStatement.{NumberedStatement}
-use Rattle.statement_rows.specs.declared.row.Row.{Row}
-use Rattle.statement_rows.specs.Askers.{AreAsked, askers_at}
+use Rattle.statement_rows.specs.declared.row.JudgedRow.{JudgedRow}
+use Rattle.statement_rows.specs.Askers.{AreAskers, askers_at}
 use Rattle.statement_rows.specs.Readings.{check_keys, is_asked}
 use Rattle.statement_rows.specs.Rows.{asks, is_changed, ticket_of}
 use Rattle.statement_rows.specs.State.{State, StatementRow, statements_of, use_of, view_of}
@@ -20,7 +20,7 @@ use Rattle.statement_rows.proofs.ReadLemmas.{get-map}
 use Rattle.statement_rows.proofs.TakeLemmas.{map-removed}
 use Rattle.statement_rows.proofs.statements.StatementRows.remove_at.Goals as goal
 
-statement_at : (rows : List Row) (k : ℕ) (r : Row) → slice_get rows k ≡ Some r → slice_get (statements_of (map view_of rows)) k ≡ Some r.numbered.value.statement
+statement_at : (rows : List JudgedRow) (k : ℕ) (r : JudgedRow) → slice_get rows k ≡ Some r → slice_get (statements_of (map view_of rows)) k ≡ Some r.numbered.value.statement
 statement_at rows k r at =
     get-map (λ (j : StatementRow). j.statement) (map view_of rows) k
     ∙ ap (option_map (λ (j : StatementRow). j.statement)) (get-map view_of rows k ∙ ap (option_map view_of) at)
@@ -28,7 +28,7 @@ statement_at rows k r at =
 pub overflow_sub-self : goal.overflow_sub-self
 overflow_sub-self c =
     let inside = c.self.inside in
-    let r : Row = c.in-Some.row in
+    let r : JudgedRow = c.in-Some.row in
     few_gone inside.facts c.with_facts_of.result c.args.place (statements_of (map view_of inside.rows.items)) r.numbered.value.statement (statement_at inside.rows.items c.args.place r (sym c.in-Some.ensures.row)) c.self.invariant.1
     (c.with_facts_of.ensures ∙ ap (λ (h : NumberedStatement). min (0 + length (fact_names h.statement.test)) (2 ^ 64 - 1)) c.deref.ensures)
 
@@ -45,7 +45,7 @@ invariant_of-self c =
     let inside = c.self.inside in
     let rows = inside.rows.items in
     let k = c.args.place in
-    let r : Row = c.in-Some.row in
+    let r : JudgedRow = c.in-Some.row in
     let at = sym c.in-Some.ensures.row in
     let are = c.take_row.ensures.rows in (
       AreRows-removed rows c.take_row.new.rows.items inside.changed c.remove_changed.new.changed inside.by_id.entries c.remove_id.new.by_id.entries inside.askers.entries c.remove_all.new.askers.entries inside.next c.self.invariant.0
@@ -54,7 +54,7 @@ invariant_of-self c =
           (λ key. c.remove_all.ensures.tickets key ∙ ap (λ (h : NumberedStatement). without_if (is_asked (check_keys h.statement.test) key) r.ticket (askers_at inside.askers.entries key)) c.deref-3.ensures)
           c.remove_changed.ensures.items c.remove_changed.ensures.capacity,
       counted_gone inside.facts c.with_facts_of.result k (statements_of (map view_of rows)) (statements_of (map view_of c.take_row.new.rows.items)) r.numbered.value.statement
-          (ap (λ (rs : List Row). statements_of (map view_of rs)) are ∙ (ap statements_of (map-removed view_of k rows) ∙ map-removed (λ (j : StatementRow). j.statement) k (map view_of rows)))
+          (ap (λ (rs : List JudgedRow). statements_of (map view_of rs)) are ∙ (ap statements_of (map-removed view_of k rows) ∙ map-removed (λ (j : StatementRow). j.statement) k (map view_of rows)))
           (statement_at rows k r at) c.self.invariant.1
           (c.with_facts_of.ensures ∙ ap (λ (h : NumberedStatement). min (0 + length (fact_names h.statement.test)) (2 ^ 64 - 1)) c.deref.ensures),
     )
@@ -74,4 +74,4 @@ returns-clause-rows c =
     ∙ (map-removed view_of k c.self.inside.rows.items ∙ ap (λ (b : State). take k b.rows ++ drop (k + 1) b.rows) c.self.view_is)
 
 pub returns-clause-asked : goal.returns-clause-asked
-returns-clause-asked c h = c.remove_all.ensures.lists (subst (λ (b : State). AreAsked b.askers) (sym c.self.view_is) h)
+returns-clause-asked c h = c.remove_all.ensures.lists (subst (λ (b : State). AreAskers b.askers) (sym c.self.view_is) h)

@@ -12,9 +12,9 @@ use Rattle.verdicts.proofs.verdicts.Verdicts.add_item.Goals as goal
 pub add_item-requires : goal.add_item-requires
 add_item-requires g c =
     let table = c.args.table.now in
-    let stood = c.requires.stood in
-    let rows = stood.0 in
-    let h = subst (λ (w : VerdictsNow). HasVerdicts table w rows) (sym c.self.view_is) stood.2 in
+    let rows_before = c.requires.rows_before in
+    let rows = rows_before.0 in
+    let h = subst (λ (w : VerdictsNow). HasVerdicts table w rows) (sym c.self.view_is) rows_before.2 in
     let room = subst (λ (w : VerdictsNow). HasRoomForItem w.facts table (length c.args.ends.now)) (sym c.self.view_is) c.requires.room in
     record {
       live = c.requires.live;
@@ -22,14 +22,14 @@ add_item-requires g c =
       wide_follow = room.wide_follow;
       room = room.room;
       room_follow = room.room_follow;
-      stood = (rows, tickets_in c.self.inside.statements.rows, stood.1, h.facts, stood.3);
+      rows_before = (rows, tickets_in c.self.inside.statements.rows, rows_before.1, h.facts, rows_before.3);
     }
 
 pub returns-clause-verdicts : goal.returns-clause-verdicts
-returns-clause-verdicts g c rows stood leads =
+returns-clause-verdicts g c rows rows_before leads =
     let v : VerdictsNow = record { facts = c.self.inside.facts; statements = c.self.inside.statements } in
     let table = c.args.table.now in
-    let h = subst (λ (w : VerdictsNow). HasVerdicts table w rows) (sym c.self.view_is) stood in
+    let h = subst (λ (w : VerdictsNow). HasVerdicts table w rows) (sym c.self.view_is) rows_before in
     let next : Rows = after rows (edit.Item (name_at table c.args.item)) in
     let new = c.add_item.new.self in
     let moved = c.add_item.ensures in
@@ -43,7 +43,7 @@ returns-clause-same g c =
     record { statements = same.0 ∙ ap statements_in c.self.view_is; checks = c.refresh.ensures.checks ∙ ap checks_in c.self.view_is; known = same.1 ∙ ap known_in c.self.view_is }
 
 pub returns-clause-steps : goal.returns-clause-steps
-returns-clause-steps g c rows stood leads =
+returns-clause-steps g c rows rows_before leads =
     let table = c.args.table.now in
-    let h = subst (λ (w : VerdictsNow). HasVerdicts table w rows) (sym c.self.view_is) stood in
+    let h = subst (λ (w : VerdictsNow). HasVerdicts table w rows) (sym c.self.view_is) rows_before in
     c.add_item.ensures.steps rows (tickets_in c.self.inside.statements.rows) h.facts leads

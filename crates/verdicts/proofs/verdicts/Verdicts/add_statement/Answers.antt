@@ -2,7 +2,7 @@ use Rattle.std.proofs.Common.{ℕ, List, ap, sym, subst, ◌∙◌}
 use Rattle.name_index.specs.declared.table.NameId.{NameId}
 use Rattle.cpe_rows.specs.declared.statement.Mode.{Mode}
 use Rattle.cpe_rows.specs.declared.statement.Statement.{Statement}
-use Rattle.facts.specs.Calls.{StatementAdded as FactsAdded}
+use Rattle.facts.specs.Calls.{StatementUsed as FactsAdded}
 use Rattle.verdicts.specs.Addition.{IsAddition, StatementAdded}
 use Rattle.verdicts.specs.Verdicts.{tickets_in, VerdictsNow}
 use Rattle.verdicts.proofs.AdditionLemmas.{added_known, added_verdicts}

@@ -8,9 +8,9 @@ use Rattle.verdicts.proofs.VerdictLemmas.{all_verdicts, verdicts_map}
 use Rattle.verdicts.proofs.verdicts.Verdicts.changes.Goals as goal
 
 pub returns : goal.returns
-returns c names next stood =
+returns c names next rows_before =
     let v : VerdictsNow = record { facts = c.self.inside.facts; statements = c.self.inside.statements } in
-    let h = subst (λ (w : VerdictsNow). HasVerdicts names w next) (sym c.self.view_is) stood in
+    let h = subst (λ (w : VerdictsNow). HasVerdicts names w next) (sym c.self.view_is) rows_before in
     let js = v.statements.rows in
     let now = verdicts_map next js (all_verdicts c.verdicts_are_truths.ensures names v next h) ∙ ap (map (verdict next)) h.statements in
     c.into_list.ensures

@@ -5,8 +5,8 @@ use Rattle.std.specs.Option.{option_copied}
 use Rattle.cpe_rows.specs.Rows.{is_named}
 use Rattle.cpe_rows.specs.declared.entry.Entry.{Entry}
 use Rattle.facts.specs.level_board.Board.{probe_times, target_times}
-use Rattle.cpe_registry.specs.Registered.{name_in}
-use Rattle.kept_facts.specs.Kept.{Boards}
+use Rattle.name_registry.specs.Registered.{name_in}
+use Rattle.fact_boards.specs.Kept.{Boards}
 use Rattle.verdicts.specs.Verdicts.{HasVerdicts, VerdictsNow}
 use Rattle.verdicts.proofs.UnledLemmas.{active_at, off_boards}
 use Rattle.verdicts.proofs.verdicts.Verdicts.is_unled.Goals as goal

@@ -1,5 +1,5 @@
 use Rattle.std.proofs.Common.{◌∙◌, count_by, sym, subst}
-use Rattle.name_index.specs.cpe_steps.Within.{StepsWithin}
+use Rattle.name_index.specs.step_count.Within.{StepsWithin}
 use Rattle.cpe_rows.specs.cpe_relation.Maybe.{maybe}
 use Rattle.cpe_rows.specs.cpe_relation.NameRelation.{covers}
 use Rattle.name_index.specs.product_orders.declared.products.Side.TheVariants as side
@@ -10,9 +10,9 @@ use Rattle.facts.specs.target_index.Targets.{is_met}
 use Rattle.facts.specs.level_board.Board.{FitsBoard, target_ids}
 use Rattle.cpe_rows.specs.Rows.{Rows}
 use Rattle.cpe_rows.specs.declared.statement.Mode.TheVariants.{Plain}
-use Rattle.facts.specs.fact_laws.Asked.{there}
+use Rattle.facts.specs.fact_laws.Asked.{target_names}
 use Rattle.facts.specs.fact_laws.Shown.{near_names}
-use Rattle.kept_facts.specs.Kept.{AreLive, Boards}
+use Rattle.fact_boards.specs.Kept.{AreFactNames, Boards}
 use Rattle.verdicts.specs.Rows.{AreOfRows}
 use Rattle.verdicts.specs.Verdicts.{HasVerdicts, VerdictsNow}
 use Rattle.verdicts.proofs.ItemsTo.{found_live, items_near, items_ordered, items_passing, passing_there}
@@ -23,7 +23,7 @@ use Rattle.verdicts.proofs.verdicts.Verdicts.items_met.Goals.{After-met}
 pub met-requires-clause-fits : goal.met-requires-clause-fits
 met-requires-clause-fits g c =
     let table = c.args.registry.now.table in
-    let h = subst (λ (v : VerdictsNow). HasVerdicts table v c.requires.stood.0) (sym c.self.view_is) c.requires.stood.1.verdicts in
+    let h = subst (λ (v : VerdictsNow). HasVerdicts table v c.requires.rows_before.0) (sym c.self.view_is) c.requires.rows_before.1.verdicts in
     subst (λ (b : Boards). FitsBoard b.plain c.table-table.result.now) (sym c.boards.ensures) (subst (FitsBoard c.self.inside.facts.boards.plain) (sym c.table-table.ensures) h.facts.plain.fits)
 
 module _ (g : Over) (c : After-met g) (rows : Rows) (are : AreOfRows c.args.registry.now c.args.self.now rows) where
@@ -48,11 +48,11 @@ items_in_order-requires g c =
     let table = c.args.registry.now.table in
     let boards = c.self.inside.facts.boards in
     let n = c.args.name.now in
-    let rows = c.requires.stood.0 in
-    let h = shown g (goal.at.items_in_order-requires g c).After-met rows c.requires.stood.1 in
+    let rows = c.requires.rows_before.0 in
+    let h = shown g (goal.at.items_in_order-requires g c).After-met rows c.requires.rows_before.1 in
     let found = c.in_ok-found.found.covered.items in
-    subst (AreLive table) (sym c.deref.ensures.value)
-    (found_live table boards.plain (there rows Plain) (λ (id : NameId). covers n (kept_at table id.0).name) found (c.lawful-2.ensures.on Plain) h.facts.plain.shows.there
+    subst (AreFactNames table) (sym c.deref.ensures.value)
+    (found_live table boards.plain (target_names rows Plain) (λ (id : NameId). covers n (kept_at table id.0).name) found (c.lawful-2.ensures.on Plain) h.facts.plain.shows.there
     (passing_there c.table-table.result.now table c.boards.result.now boards Plain (covers n) found c.table-table.ensures c.boards.ensures c.in_ok-found.ensures.covered))
 
 pub returns-in_err-covered-clause-steps : goal.returns-in_err-covered-clause-steps
@@ -63,11 +63,11 @@ items_in_order-requires-2 g c =
     let table = c.args.registry.now.table in
     let boards = c.self.inside.facts.boards in
     let n = c.args.name.now in
-    let rows = c.requires.stood.0 in
-    let h = shown g (goal.at.items_in_order-requires-2 g c).After-met rows c.requires.stood.1 in
+    let rows = c.requires.rows_before.0 in
+    let h = shown g (goal.at.items_in_order-requires-2 g c).After-met rows c.requires.rows_before.1 in
     let found = c.in_ok-found.found.maybe.items in
-    subst (AreLive table) (sym c.deref-2.ensures.value)
-    (found_live table boards.plain (there rows Plain) (λ (id : NameId). maybe n (kept_at table id.0).name) found (c.lawful-2.ensures.on Plain) h.facts.plain.shows.there
+    subst (AreFactNames table) (sym c.deref-2.ensures.value)
+    (found_live table boards.plain (target_names rows Plain) (λ (id : NameId). maybe n (kept_at table id.0).name) found (c.lawful-2.ensures.on Plain) h.facts.plain.shows.there
     (passing_there c.table-table.result.now table c.boards.result.now boards Plain (maybe n) found c.table-table.ensures c.boards.ensures c.in_ok-found.ensures.maybe))
 
 pub returns-in_err-maybes-clause-steps : goal.returns-in_err-maybes-clause-steps

@@ -23,7 +23,7 @@ lead-requires g c =
     record {
       ready = lent_lists (AreReadyEnds facts table) lead.items_from.items lead.items_to.items lead.facts_from.items lead.facts_to.items c.deref.result.now c.deref-2.result.now c.deref-3.result.now c.deref-4.result.now
           c.deref.ensures.value c.deref-2.ensures.value c.deref-3.ensures.value c.deref-4.ensures.value r.ready;
-      stood = (
+      rows_before = (
         rows,
         tickets_in c.self.inside.statements.rows,
         e,
@@ -37,11 +37,11 @@ lead-requires g c =
     }
 
 pub returns-clause-verdicts : goal.returns-clause-verdicts
-returns-clause-verdicts g c rows e n touches stood led =
+returns-clause-verdicts g c rows e n touches rows_before led =
     let v : VerdictsNow = record { facts = c.self.inside.facts; statements = c.self.inside.statements } in
     let table = c.args.table.now in
     let lead = c.args.lead in
-    let h = subst (λ (w : VerdictsNow). HasVerdicts table w rows) (sym c.self.view_is) stood in
+    let h = subst (λ (w : VerdictsNow). HasVerdicts table w rows) (sym c.self.view_is) rows_before in
     let next : Rows = after rows e in
     let l = lent_lists (λ (a b x y : List NameId). IsLead v.facts table rows next.entries n a b x y lead.facts.items) lead.items_from.items lead.items_to.items lead.facts_from.items lead.facts_to.items c.deref.result.now c.deref-2.result.now c.deref-3.result.now c.deref-4.result.now
     c.deref.ensures.value c.deref-2.ensures.value c.deref-3.ensures.value c.deref-4.ensures.value (subst (λ (w : VerdictsNow). HasLead w table rows next.entries n lead) (sym c.self.view_is) led) in
@@ -59,10 +59,10 @@ returns-clause-same g c =
     record { statements = same.0 ∙ ap statements_in c.self.view_is; checks = c.refresh.ensures.checks ∙ ap checks_in c.self.view_is; known = same.1 ∙ ap known_in c.self.view_is }
 
 pub returns-clause-steps : goal.returns-clause-steps
-returns-clause-steps g c rows e n touches stood led =
+returns-clause-steps g c rows e n touches rows_before led =
     let table = c.args.table.now in
     let lead = c.args.lead in
-    let h = subst (λ (w : VerdictsNow). HasVerdicts table w rows) (sym c.self.view_is) stood in
+    let h = subst (λ (w : VerdictsNow). HasVerdicts table w rows) (sym c.self.view_is) rows_before in
     let l = lent_lists (λ (a b x y : List NameId). IsLead c.self.inside.facts table rows (after rows e).entries n a b x y lead.facts.items) lead.items_from.items lead.items_to.items lead.facts_from.items lead.facts_to.items c.deref.result.now c.deref-2.result.now c.deref-3.result.now c.deref-4.result.now
     c.deref.ensures.value c.deref-2.ensures.value c.deref-3.ensures.value c.deref-4.ensures.value (subst (λ (w : VerdictsNow). HasLead w table rows (after rows e).entries n lead) (sym c.self.view_is) led) in
     c.lead.ensures.steps rows (tickets_in c.self.inside.statements.rows) e n touches h.facts l

@@ -5,9 +5,9 @@ use Rattle.verdicts.proofs.ResultLemmas.{with_result_room}
 use Rattle.verdicts.proofs.verdicts.Verdicts.ready_result.Goals as goal
 
 pub returns-clause-verdicts : goal.returns-clause-verdicts
-returns-clause-verdicts c names rows stood =
+returns-clause-verdicts c names rows rows_before =
     let v : VerdictsNow = record { facts = c.self.inside.facts; statements = c.self.inside.statements } in
-    let h = subst (λ (w : VerdictsNow). HasVerdicts names w rows) (sym c.self.view_is) stood in
+    let h = subst (λ (w : VerdictsNow). HasVerdicts names w rows) (sym c.self.view_is) rows_before in
     subst (λ (b : State). HasVerdicts names (record { facts = v.facts; statements = b }) rows) (sym c.ready_result.ensures.same) (with_result_room names v c.ready_result.new.self.result_room rows h)
 
 pub returns-clause-same : goal.returns-clause-same

@@ -11,16 +11,16 @@ use Rattle.verdicts.proofs.verdicts.Verdicts.remove_item.Goals as goal
 pub remove_item-requires : goal.remove_item-requires
 remove_item-requires g c =
     let table = c.args.table.now in
-    let stood = c.requires.stood in
-    let rows = stood.0 in
-    let h = subst (λ (w : VerdictsNow). HasVerdicts table w rows) (sym c.self.view_is) stood.1 in
-    record { live = c.requires.live; stood = (rows, tickets_in c.self.inside.statements.rows, h.facts, stood.2, stood.3) }
+    let rows_before = c.requires.rows_before in
+    let rows = rows_before.0 in
+    let h = subst (λ (w : VerdictsNow). HasVerdicts table w rows) (sym c.self.view_is) rows_before.1 in
+    record { live = c.requires.live; rows_before = (rows, tickets_in c.self.inside.statements.rows, h.facts, rows_before.2, rows_before.3) }
 
 pub returns-clause-verdicts : goal.returns-clause-verdicts
-returns-clause-verdicts g c rows stood leads has =
+returns-clause-verdicts g c rows rows_before leads has =
     let v : VerdictsNow = record { facts = c.self.inside.facts; statements = c.self.inside.statements } in
     let table = c.args.table.now in
-    let h = subst (λ (w : VerdictsNow). HasVerdicts table w rows) (sym c.self.view_is) stood in
+    let h = subst (λ (w : VerdictsNow). HasVerdicts table w rows) (sym c.self.view_is) rows_before in
     let next : Rows = after rows (edit.DropItem (name_at table c.args.item)) in
     let new = c.remove_item.new.self in
     let moved = c.remove_item.ensures in
@@ -34,7 +34,7 @@ returns-clause-same g c =
     record { statements = same.0 ∙ ap statements_in c.self.view_is; checks = c.refresh.ensures.checks ∙ ap checks_in c.self.view_is; known = same.1 ∙ ap known_in c.self.view_is }
 
 pub returns-clause-steps : goal.returns-clause-steps
-returns-clause-steps g c rows stood leads =
+returns-clause-steps g c rows rows_before leads =
     let table = c.args.table.now in
-    let h = subst (λ (w : VerdictsNow). HasVerdicts table w rows) (sym c.self.view_is) stood in
+    let h = subst (λ (w : VerdictsNow). HasVerdicts table w rows) (sym c.self.view_is) rows_before in
     c.remove_item.ensures.steps rows (tickets_in c.self.inside.statements.rows) h.facts leads

@@ -11,7 +11,7 @@ use Rattle.cpe_rows.specs.declared.edit.Edit.TheVariants as edit
 use Rattle.cpe_rows.specs.declared.statement.Mode.{Mode}
 use Rattle.cpe_rows.specs.declared.statement.Statement.{Statement}
 use Rattle.facts.specs.fact_laws.Shown.{names_at}
-use Rattle.kept_facts.specs.Kept.{AreLive}
+use Rattle.fact_boards.specs.Kept.{AreFactNames}
 use Rattle.facts.specs.fact_rows.Tickets.{without}
 use Rattle.facts.specs.Facts.{HasFacts}
 use Rattle.statement_rows.specs.State.{is_of, StatementRow, use_in, use_of}
@@ -33,12 +33,12 @@ remove_statement-requires-2 g c =
     let table = c.args.table.now in
     let id = c.args.id.now in
     let r = c.args.removal in
-    let stood = c.requires.stood in
-    let h = subst (λ (w : VerdictsNow). HasVerdicts table w stood.0) (sym c.self.view_is) stood.2 in
+    let rows_before = c.requires.rows_before in
+    let h = subst (λ (w : VerdictsNow). HasVerdicts table w rows_before.0) (sym c.self.view_is) rows_before.2 in
     let removal = subst (λ (w : VerdictsNow). IsRemoval w id r) (sym c.self.view_is) c.requires.removal in
     let at = use_found (find (is_of id) v.statements.rows) (use_in c.in-Some.used) c.in-Some.ensures.row in
     let last = subst (λ (o : Option StatementRow). RemovesWith v.facts (option_map use_of o) r) at.1 removal in
-    may_remove table v stood.0 h id at.0 at.1 c.lawful.ensures r last (use_in c.in-Some.used) at.2 c.deref.result.now c.deref-2.result.now c.deref-3.result.now c.deref.ensures.value c.deref-2.ensures.value c.deref-3.ensures.value
+    may_remove table v rows_before.0 h id at.0 at.1 c.lawful.ensures r last (use_in c.in-Some.used) at.2 c.deref.result.now c.deref-2.result.now c.deref-3.result.now c.deref.ensures.value c.deref-2.ensures.value c.deref-3.ensures.value
 
 pub returns : goal.returns
 returns g c =
@@ -47,8 +47,8 @@ returns g c =
     let table = c.args.table.now in
     let id = c.args.id.now in
     let r = c.args.removal in
-    let stood = c.requires.stood in
-    let h = subst (λ (w : VerdictsNow). HasVerdicts table w stood.0) (sym c.self.view_is) stood.2 in
+    let rows_before = c.requires.rows_before in
+    let h = subst (λ (w : VerdictsNow). HasVerdicts table w rows_before.0) (sym c.self.view_is) rows_before.2 in
     let removal = subst (λ (w : VerdictsNow). IsRemoval w id r) (sym c.self.view_is) c.requires.removal in
     let u = use_in c.in-Some.used in
     let at = use_found (find (is_of id) v.statements.rows) u c.in-Some.ensures.row in
@@ -56,7 +56,7 @@ returns g c =
     let last = subst (λ (o : Option StatementRow). RemovesWith v.facts (option_map use_of o) r) at.1 removal in
     let ids : c.in-Some.used.ids.items ≡ j.ids = ap (λ (w : Mode × List NameId × ℕ). w.1) at.2 in
     let ticket : c.in-Some.used.ticket ≡ j.ticket = ap (λ (w : Mode × List NameId × ℕ). w.2) at.2 in
-    let numbered = row_numbered table v stood.0 h id j at.1 in
+    let numbered = row_numbered table v rows_before.0 h id j at.1 in
     let taken = c.remove_statement.ensures in
     let moved = c.remove_statement-2.ensures in
     let core : StatementRemoved table v new id c.in-Some.used.ids.items c.args.steps.now c.remove_statement-2.new.steps = record {
@@ -67,7 +67,7 @@ returns g c =
           (ap (λ (t : ℕ). without t tickets) ticket ∙ sym (tickets_without id v.statements.rows j has.facts.numbered.rising at.1))
           (moved.facts rows tickets id j.statement has.facts old) in
           left_verdicts c.same_truths_judge_the_same.ensures table v new.facts rows has id facts moved.truths new.statements (moved.used has.needed.facts) (taken.asked has.needed.askers) c.lawful-2.ensures taken.rows taken.checks;
-      live = subst (AreLive table) (sym ids) numbered.live;
+      live = subst (AreFactNames table) (sym ids) numbered.live;
       named = λ s found.
           let same = same_Some j.statement s (sym (found_statement id v.statements.rows j at.1) ∙ found) in
           ap (names_at table) ids ∙ numbered.named ∙ ap (λ (t : Statement). fact_names t.test) same;

@@ -1,0 +1,14 @@
+pub mod Elements
+pub mod Links
+pub mod TraceEnds
+pub mod GoodLevels
+pub mod Right
+pub mod Worked
+pub mod Walks
+pub mod Visits
+pub mod Facts
+pub mod Levels
+pub mod TestedLemmas
+pub mod Loops
+pub mod Given
+pub mod Children

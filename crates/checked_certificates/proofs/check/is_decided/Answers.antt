@@ -1,8 +1,0 @@
-use Rattle.std.proofs.Common.{◌∙◌}
-use Rattle.cpe_rows.specs.Truth.{same_truth}
-use Rattle.checked_certificates.specs.Good.{deciding}
-use Rattle.checked_certificates.proofs.Given.{given_any}
-use Rattle.checked_certificates.proofs.check.is_decided.Goals as goal
-
-pub returns : goal.returns
-returns c = c.some_decides.ensures ∙ given_any (same_truth (deciding c.args.operator)) c.args.given.now

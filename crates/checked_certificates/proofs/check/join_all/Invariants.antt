@@ -1,7 +1,0 @@
-use Rattle.std.proofs.Common.{◌≡◌, take}
-use Rattle.cpe_rows.specs.Evaluation.{joined}
-use Rattle.checked_certificates.specs.Certificates.{given_truths}
-use Rattle.checked_certificates.proofs.check.join_all.Given as goal
-
-abbrev pub invariant-loop-why : goal.invariant-loop-why
-invariant-loop-why l = l.truth ≡ joined l.operator (given_truths (take l.why-index l.given))

@@ -1,9 +1,0 @@
--- Names of which none stands twice.
-use Rattle.std.specs.Prelude.{List, [], ◌∷◌, ◌++◌, if◌then◌else◌}
-use Rattle.std.specs.List.{list_any}
-use Rattle.cpe_rows.specs.cpe_name.Eleven.{Values}
-use Rattle.cpe_rows.specs.Names.{is_same}
-
--- the name goes last, unless it is there
-abbrev pub with_name : List Values → Values → List Values
-with_name names n = if list_any (is_same n) names then names else names ++ n ∷ []

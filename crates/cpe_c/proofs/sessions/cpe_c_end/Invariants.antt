@@ -1,4 +1,0 @@
-use Rattle.cpe_c.proofs.sessions.cpe_c_end.Given as goal
-
-abbrev pub ghosts-end_counted : goal.ghosts-end_counted
-ghosts-end_counted a = record { name = a.blank.name; parts = a.blank.parts }

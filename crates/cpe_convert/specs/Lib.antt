@@ -1,4 +1,0 @@
-pub mod Convert
-pub mod Growing
-pub use Rattle.cpe_records.specs as cpe_records
-pub use Rattle.cpe_replies.specs as cpe_replies

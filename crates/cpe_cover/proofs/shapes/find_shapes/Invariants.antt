@@ -1,6 +1,0 @@
-use Rattle.std.proofs.Common.{take}
-use Rattle.cpe_cover.specs.Shapes.{AreShapes}
-use Rattle.cpe_cover.proofs.shapes.find_shapes.Given as goal
-
-abbrev pub invariant-loop-place : goal.invariant-loop-place
-invariant-loop-place l = AreShapes (take l.place l.names) l.shapes.items

@@ -1,7 +1,0 @@
-use Rattle.std.proofs.Common.{◌≡◌, ◌++◌, take}
-use Rattle.std.specs.List.{flat_map}
-use Rattle.cpe_drill.specs.Summary.{number_line}
-use Rattle.cpe_drill.proofs.summary.push_number_lines.Given as goal
-
-abbrev pub invariant-loop-line : goal.invariant-loop-line
-invariant-loop-line l = l.page ≡ l.fn.page ++ flat_map (λ line. number_line line.0.now line.1) (take l.line-index l.lines)

@@ -1,6 +1,0 @@
-use Rattle.std.proofs.Common.{◌≡◌, drop}
-use Rattle.cpe_grammar.specs.Scanners.{literal}
-use Rattle.cpe_grammar.proofs.scan.scan_literal.Given as goal
-
-abbrev pub invariant-loop-byte : goal.invariant-loop-byte
-invariant-loop-byte l = literal (drop l.byte-index l.expected) l.rest ≡ literal l.expected l.bytes

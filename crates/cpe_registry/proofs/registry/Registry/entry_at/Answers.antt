@@ -1,6 +1,0 @@
-use Rattle.std.proofs.Common.{ap, slice_get, ◌∙◌}
-use Rattle.cpe_registry.specs.Registered.{Registered}
-use Rattle.cpe_registry.proofs.registry.Registry.entry_at.Goals as goal
-
-pub returns : goal.returns
-returns c = c.entry_at.ensures ∙ ap (λ (r : Registered). slice_get r.entries c.args.k) c.self.view_is

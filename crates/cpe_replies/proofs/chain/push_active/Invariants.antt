@@ -1,8 +1,0 @@
-use Rattle.std.proofs.Common.{◌≡◌, ◌++◌, take}
-use Rattle.std.specs.List.{flat_map}
-use Rattle.cpe_rows.specs.Lent.{entry_lent}
-use Rattle.cpe_replies.specs.Chains.{end_line}
-use Rattle.cpe_replies.proofs.chain.push_active.Given as goal
-
-abbrev pub invariant-loop-link : goal.invariant-loop-link
-invariant-loop-link l = l.page ≡ l.fn.page ++ flat_map (λ e. end_line (entry_lent e)) (take l.link-index l.links)

@@ -1,8 +1,0 @@
-use Rattle.std.proofs.Common.{length, ◌+◌, ◌-◌, arith}
-use Rattle.std.proofs.lemmas.Slice.{drop-put_mid}
-use Rattle.cpe_room.proofs.put.Goals as goal
-
--- nothing after what was put is touched
-pub returns-clause-behind : goal.returns-clause-behind
-returns-clause-behind c =
-    drop-put_mid c.args.at (c.args.at + length c.args.bytes.now - c.args.at) c.args.room.now c.copy_from_slice.new.self (c.args.at + length c.args.bytes.now) (omega arith) (omega arith) (omega arith)

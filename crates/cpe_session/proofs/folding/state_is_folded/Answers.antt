@@ -1,5 +1,0 @@
-use Rattle.cpe_session.proofs.SessionLemmas.{state-folded}
-use Rattle.cpe_session.proofs.folding.state_is_folded.Goals as goal
-
-pub returns : goal.returns
-returns g c = state-folded

@@ -1,8 +1,0 @@
-use Rattle.cpe_snapshot.proofs.RowsReader.{clear, read_again}
-use Rattle.cpe_snapshot.proofs.law.snapshots_are_clear.Goals as goal
-
-pub returns-clause-clear : goal.returns-clause-clear
-returns-clause-clear c = clear
-
-pub returns-clause-read : goal.returns-clause-read
-returns-clause-read c = read_again

@@ -1,6 +1,0 @@
-use Rattle.std.proofs.Common.{arith}
-use Rattle.cpe_snapshot.proofs.RowsReader.{reads}
-use Rattle.cpe_snapshot.proofs.load.read_rows.Goals as goal
-
-pub returns : goal.returns
-returns c = reads c.args.bytes.now c.all.result (λ i. omega (arith, c.type_inv.bytes i)) c.all.ensures

@@ -1,6 +1,0 @@
--- Bounds on the steps of a call.
-use Rattle.std.specs.Prelude.{ℕ, ◌+◌, ◌≤◌}
-
--- steps were counted, at most so many
-abbrev pub StepsWithin : ℕ → ℕ → ℕ → Type 0
-StepsWithin steps steps_now most = (steps ≤ steps_now) × (steps_now ≤ steps + most)

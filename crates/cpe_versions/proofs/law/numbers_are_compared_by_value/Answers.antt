@@ -1,5 +1,0 @@
-use Rattle.cpe_versions.proofs.NumberLemmas.{numbers_by_value}
-use Rattle.cpe_versions.proofs.law.numbers_are_compared_by_value.Goals as goal
-
-pub returns : goal.returns
-returns c = numbers_by_value

@@ -1,6 +1,0 @@
-use Rattle.std.proofs.Common.{length, ap, ◌∙◌}
-use Rattle.entries_in_order.proofs.EntryLemmas.{count_is}
-use Rattle.entries_in_order.proofs.entries.Entries.len.Goals as goal
-
-pub returns : goal.returns
-returns c = c.len.ensures ∙ count_is c.self.inside.names c.self.inside.details.now c.self.invariant ∙ ap length c.self.view_is

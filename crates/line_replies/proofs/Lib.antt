@@ -1,0 +1,2 @@
+pub mod ChainTexts
+pub use Rattle.line_session.proofs.cpe_io as cpe_io

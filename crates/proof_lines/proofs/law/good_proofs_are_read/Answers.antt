@@ -1,9 +1,0 @@
-use Rattle.proof_lines.proofs.GoodForms.{good_is_formed, good_has_names}
-use Rattle.proof_lines.proofs.law.good_proofs_are_read.Goals as goal
-
-pub returns-clause-formed : goal.returns-clause-formed
-returns-clause-formed c = good_is_formed
-
-pub returns-clause-read : goal.returns-clause-read
-returns-clause-read c rows lawful s there w good u =
-    c.written_is_read.ensures (record { id = s.id; why = w }) (good_has_names rows lawful s there w good) (good_is_formed rows lawful s there w good) u

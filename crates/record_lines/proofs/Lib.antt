@@ -1,5 +1,0 @@
-pub mod Edits
-mod TableRows
-mod WatchLemmas
-mod CheckLemmas
-mod CertificateRows

@@ -1,0 +1,9 @@
+-- The JSON value of a line.
+use Rattle.std.specs.Prelude.{ℕ, List, Option, None, if◌then◌else◌}
+use Rattle.std.specs.Str.{is_utf8}
+use Rattle.serde_json.specs.Data.{Data}
+use Rattle.serde_json.specs.Read.{read}
+
+-- the value of JSON (RFC 8259) that the line is, if there is one
+abbrev pub json_value_of : List ℕ → Option Data
+json_value_of line = if is_utf8 line then read line else None

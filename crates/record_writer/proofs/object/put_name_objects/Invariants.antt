@@ -1,0 +1,7 @@
+use Rattle.std.proofs.Common.{◌≡◌, ◌++◌, flat_map, take}
+use Rattle.json.specs.Tree.{json_tokens}
+use Rattle.record_writer.specs.NameObject.{name_object}
+use Rattle.record_writer.proofs.object.put_name_objects.Given as goal
+
+abbrev pub invariant-loop-name : goal.invariant-loop-name
+invariant-loop-name l = (l.writer.before ≡ l.fn.writer.before) × (l.writer.tokens ≡ l.fn.writer.tokens ++ flat_map (λ n. json_tokens (name_object n)) (take l.name-index l.names))

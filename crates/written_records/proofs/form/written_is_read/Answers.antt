@@ -1,5 +1,0 @@
-use Rattle.written_records.proofs.RecordsRead.{record_read}
-use Rattle.written_records.proofs.form.written_is_read.Goals as goal
-
-pub returns : goal.returns
-returns c r h k u = record_read c.read_component_is.ensures.named r h k u

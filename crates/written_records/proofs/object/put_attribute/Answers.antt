@@ -1,7 +1,0 @@
-use Rattle.std.proofs.Common.{subst, sym, ◌∙◌}
-use Rattle.std.specs.Str.{IsAscii}
-use Rattle.written_records.proofs.Printed.{IsAscii-component}
-use Rattle.written_records.proofs.object.put_attribute.Goals as goal
-
-pub ascii_str-requires : goal.ascii_str-requires
-ascii_str-requires c = subst IsAscii (sym (c.as_slice.ensures.value ∙ c.in_ok-text.ensures)) (IsAscii-component c.get-value.result.now c.lawful.ensures)
