@@ -1,6 +1,7 @@
 #!/usr/bin/env python3
 """Measures `cpe explain` beside `cpe evaluate`, which keeps the same rows and writes a table, and `cpe check` beside
 `cpe explain`; and how what they do at the end, and for each certificate, grows with items that are near no fact.
+Also how the certificate of a fact grows with the chain of deprecations from the fact to the item.
 
 Prints a table, and says of each target whether it is met. README.md beside this file says how to read it.
 """
@@ -16,6 +17,9 @@ import run
 
 # The targets: of the time of `evaluate`, of the time that making takes beside reading the records, and of the growth.
 MOST_OF_EVALUATE, MOST_OF_MAKING, MOST_GROWTH = 3.0, 3.0, 1.3
+# Of the time for each entry of a chain.
+MOST_CHAIN_GROWTH = 2.0
+SHORT, LONG = 20_000, 160_000
 STATEMENTS = 1000
 FEW, MANY = 10_000, 100_000
 # Many statements share the near names: a thousand certificates take less than what reading 100,000 items differs by
@@ -61,6 +65,25 @@ def led_lines(far):
             yield make_lines.record(b"deprecate", old, b',"kind":"NAME_CORRECTION","successors":[%s],"date":"2024-01-01"' % make_lines.spelled(new))
             yield make_lines.record(b"item", old)
     yield from statements(b"near", b"follow")
+
+
+def chain_lines(entries):
+    """Entries of which each but the last is deprecated in favour of the next, and a statement whose fact is the first and
+    whose item is the last."""
+    names = [fs(b"p%d" % number, b"1") for number in range(entries)]
+    yield from (make_lines.record(b"entry", name, b',"title":"entry"') for name in names)
+    for old, new in reversed(list(zip(names, names[1:]))):
+        yield make_lines.record(b"deprecate", old, b',"kind":"NAME_CORRECTION","successors":[%s],"date":"2024-01-01"' % make_lines.spelled(new))
+    yield make_lines.record(b"item", names[-1])
+    yield b'{"do":"statement","id":"s","mode":"follow","test":{"op":"OR","of":[{"fact":%s}]}}' % make_lines.spelled(names[0])
+
+
+def seconds_of_chain(program, entries, rounds):
+    """What the certificate of a fact at the beginning of a chain takes for each entry, beside reading the records."""
+    path = file_of(f"chain-{entries}.txt", chain_lines(entries))
+    best = run.best_times({word: [program, word] for word in ("resolve", "explain")}, path, rounds)
+    print(f"{path.name:<28}{best['resolve']:>9.3f}{'':>10}{best['explain']:>9.3f}", flush=True)
+    return (best["explain"] - best["resolve"]) / entries
 
 
 def file_of(name, lines):
@@ -123,6 +146,8 @@ def main():
         few, many = grown[name]
         targets.append((f"making in mode {mode}: growth from {FEW:,} to {MANY:,} items", MOST_GROWTH, many[2] / few[2]))
         targets.append((f"checking in mode {mode}: growth from {FEW:,} to {MANY:,} items", MOST_GROWTH, many[3] / few[3]))
+    short, long = (seconds_of_chain(program, entries, given.rounds) for entries in (SHORT, LONG))
+    targets.append((f"an entry of a chain: growth from {SHORT:,} to {LONG:,} entries", MOST_CHAIN_GROWTH, long / short))
     print(f"\n{'target':<58}{'bound':>9}{'measured':>10}")
     for name, bound, figure in targets:
         print(f"{name:<58}{bound:>9}{figure:>10.2f}  {'met' if figure <= bound else 'MISSED'}")

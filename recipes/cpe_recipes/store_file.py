@@ -28,6 +28,8 @@ ADD_AGAIN = "run store.py add --store FOLDER as one who can write there"
 # This number in SQLite's header marks the file as a store.
 _APPLICATION = 0x43504553
 _SECONDS_TO_WAIT = 10
+# Kilobytes of the file that a run keeps in memory. A scan reads most of the file only once.
+_WRITER_CACHE, _READER_CACHE = 65_536, 8_192
 # A query over many values is split into queries over this many.
 _AT_ONCE = 500
 # SQLite can't keep half a surrogate pair, which JSON and names of files can have; it is kept as its number after this
@@ -162,7 +164,7 @@ class StoreFile:
             )
         # (if the machine loses its power, the last commits may be lost; the file stays whole)
         self._connection.execute("PRAGMA synchronous = NORMAL")
-        self._connection.execute("PRAGMA cache_size = -65536")
+        self._connection.execute(f"PRAGMA cache_size = -{_WRITER_CACHE if is_made else _READER_CACHE}")
 
     def _make(self) -> None:
         """Creates all tables, or none."""
