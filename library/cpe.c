@@ -7,7 +7,7 @@
 #include <stdlib.h>
 #include <string.h>
 
-/* As crates/c_library declares them, of types of crates/c_calls. A slice is its pointer and its length. */
+/* As crates/c_library declares them. A slice is its pointer and its length. */
 struct answer {
     uint32_t code;
     size_t number;

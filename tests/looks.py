@@ -25,14 +25,14 @@ RELATING = {
     "advise_ranges/src/advised.rt": "an advisory has its names itself",
     "certificate_check/src/relates.rt": "a certificate is tested by names that are lent to it",
     "level_board/src/counting.rt": LOOK,
+    "level_board/src/meeting.rt": LOOK,
+    "level_board/src/target_counts.rt": LOOK,
     "library_tests/src/names.rt": "a test",
+    "name_index/src/cover.rt": "products are compared, and no names",
     "name_index/src/near.rt": LOOK,
     "cpe_command/src/pairs.rt": "a line has both names",
     "names_in_order/src/growing.rt": LOOK,
-    "product_orders/src/covered.rt": "products are compared, and no names",
-    "c_calls/src/pairs.rt": "a call has both names",
-    "target_index/src/counting.rt": LOOK,
-    "target_index/src/meeting.rt": LOOK,
+    "c_library/src/pairs.rt": "a call has both names",
 }
 # The sources that call `name` or `get` of a table, and what for.
 NAMING = {
@@ -48,7 +48,7 @@ NAMING = {
     "cpe_dictionary/src/growing.rt": "an answer by place",
     "name_index/src/table.rt": "their definition",
     "names_in_order/src/growing.rt": "an answer by place",
-    "target_index/src/parts.rt": "whether a name or its product has a special",
+    "level_board/src/target_parts.rt": "whether a name or its product has a special",
 }
 RELATION = re.compile(r"\b(covers|maybe|compare_names|compare_lent|compare_values|covers_in_order|is_covering|may_cover|may_cover_where)\(")
 NAMED = re.compile(r"\b(?:table|self\.table|registry|self\.registry)\.(?:name|get)\(|\bself\.name\(\*?(?:id|number)")
@@ -75,7 +75,7 @@ def faults() -> list[str]:
     for path in sorted(CRATES.glob("*/src/**/*.rt")):
         name = str(path.relative_to(CRATES))
         text = code(path)
-        if re.search(r"^use cpe_relation::\{?[^;]*\b(?:covers|maybe|compare_|covers_in_order)|^use target_index::[^;]*\bmay_cover\b", text, re.MULTILINE):
+        if re.search(r"^use cpe_relation::\{?[^;]*\b(?:covers|maybe|compare_|covers_in_order)|^use crate::target_counts::[^;]*\bmay_cover\b", text, re.MULTILINE):
             relating.add(name)
         if NAMED.search(text) and "fn name<" not in text:
             naming.add(name)

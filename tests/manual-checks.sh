@@ -107,7 +107,7 @@ compares_lists() {
     heads RECORDS Kinds > "$room/page"
     are_one 'the kinds of records on the manual page are those of the code'
 
-    codes key_of crates/record_members/specs/Keys.antt > "$room/code"
+    codes key_of crates/cpe_records/specs/Keys.antt > "$room/code"
     heads RECORDS Members > "$room/page"
     are_one 'the members of records on the manual page are those of the code'
 
@@ -120,7 +120,7 @@ compares_lists() {
     are_one 'the members of records of advise on the manual page are those of the code'
 
     for kind in kind_word note_kind_word mode_word operator_word truth_word; do
-        codes "$kind" crates/record_members/specs/Words.antt
+        codes "$kind" crates/cpe_records/specs/Words.antt
     done | sort > "$room/code"
     while read -r word; do
         sed -n '/^\.SS Members/,/^\.SH /p' "$page" | grep -qE "^\.[BIR]+ $word( |\$)" || continue

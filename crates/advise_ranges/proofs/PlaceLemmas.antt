@@ -17,8 +17,8 @@ use Rattle.cpe_rows.specs.cpe_name.Eleven.{Values}
 use Rattle.advise_ranges.specs.declared.advisory.Advisory.{Advisory}
 use Rattle.names_in_order.specs.Places.{rows_at}
 use Rattle.names_in_order.proofs.Rows.{rows_from}
-use Rattle.name_index.specs.product_orders.Elements.{SameElements}
-use Rattle.name_index.proofs.product_orders.Sums.{if_passes, sum_filter}
+use Rattle.name_index.specs.Elements.{SameElements}
+use Rattle.name_index.proofs.Sums.{if_passes, sum_filter}
 use Rattle.advise_ranges.specs.Answers.{ids_affecting}
 use Rattle.advise_ranges.specs.Found.{affecting_there, is_beside, own_group, passes_at, advice_place_in, places_where}
 use Rattle.advise_ranges.specs.Groups.{AreAdvisoriesGrouped, Grouped, group, group_of, ids_in_group, is_in_group, is_plain}

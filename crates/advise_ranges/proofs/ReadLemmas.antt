@@ -6,14 +6,14 @@ use Rattle.std.proofs.lemmas.Bool.{and_from, and_parts}
 use Rattle.serde_json.specs.Data.{Data}
 use Rattle.serde_json.specs.Find.{as_str, get}
 use Rattle.cpe_rows.specs.cpe_name.Eleven.{Values}
-use Rattle.record_members.specs.cpe_uri.EitherBinding.{read_any}
+use Rattle.cpe_records.specs.cpe_uri.EitherBinding.{read_any}
 use Rattle.cpe_rows.specs.Names.{is_lower}
 use Rattle.cpe_rows.specs.Valid.{is_id}
-use Rattle.record_members.specs.FirstFault.{Yields}
-use Rattle.record_members.specs.Forms.{or_default, tested, text_in}
-use Rattle.record_members.specs.Line.{json_value_of}
-use Rattle.record_members.proofs.LowerNames.{lowered_is_lower}
-use Rattle.record_members.proofs.YieldLemmas.{then_yields, behind, tested_yields}
+use Rattle.cpe_records.specs.FirstFault.{Yields}
+use Rattle.cpe_records.specs.Forms.{or_default, tested, text_in}
+use Rattle.cpe_records.specs.Line.{json_value_of}
+use Rattle.cpe_records.proofs.LowerNames.{lowered_is_lower}
+use Rattle.cpe_records.proofs.YieldLemmas.{then_yields, behind, tested_yields}
 use Rattle.advise_ranges.specs.Gives.{ReadsAdvice}
 use Rattle.advise_ranges.specs.Reading.{advice_by, advice_of, advisory_in, bound_of, bounds_in, flag_at, advisory_id_at, advice_json_of, advice_key_of, name_at, advice_named, required_advice, record_kind_at, version_at, version_in}
 use Rattle.advise_ranges.specs.Valid.{is_bound, is_valid_advice, is_valid_advisory}

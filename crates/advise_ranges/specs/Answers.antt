@@ -1,4 +1,4 @@
--- The answers to questions, and the most looks at names that an answer takes.
+-- The answers to questions, and how often an answer looks at an item's name, at most.
 use Rattle.std.specs.Prelude.{ℕ, List, map, filter, option_map}
 use Rattle.std.specs.Option.{option_map_or}
 use Rattle.cpe_rows.specs.cpe_name.Eleven.{Values}

@@ -1,6 +1,6 @@
 -- How a record is read, up to its first fault: a function gives what the definition gives, unless memory runs out.
 use Rattle.std.specs.Prelude.{Bool, true, false, Result}
-use Rattle.record_members.specs.FirstFault.{GivesUnless}
+use Rattle.cpe_records.specs.FirstFault.{GivesUnless}
 use Rattle.advise_ranges.specs.declared.member.AdviceReadFault.{AdviceReadFault}
 use Rattle.advise_ranges.specs.declared.member.AdviceReadFault.TheVariants as fault
 

@@ -3,13 +3,13 @@ use Rattle.std.specs.Prelude.{ℕ, List, [], ◌∷◌, codes, Bool, Option, Som
 use Rattle.serde_json.specs.Data.{Data}
 use Rattle.serde_json.specs.Find.{as_str, get}
 use Rattle.cpe_rows.specs.cpe_name.Eleven.{Values}
-use Rattle.record_members.specs.cpe_uri.EitherBinding.{read_any}
+use Rattle.cpe_records.specs.cpe_uri.EitherBinding.{read_any}
 use Rattle.cpe_rows.specs.Valid.{is_id}
-use Rattle.record_members.specs.FirstFault.{◌>>=◌}
-use Rattle.record_members.specs.Forms.{or_default, tested, text_in, flag_in}
-use Rattle.record_members.specs.Line.{json_value_of}
-use Rattle.record_members.specs.Names.{lowered}
-use Rattle.record_members.specs.Words.{spelled_word}
+use Rattle.cpe_records.specs.FirstFault.{◌>>=◌}
+use Rattle.cpe_records.specs.Forms.{or_default, tested, text_in, flag_in}
+use Rattle.cpe_records.specs.Line.{json_value_of}
+use Rattle.cpe_records.specs.Names.{lowered}
+use Rattle.cpe_records.specs.Words.{spelled_word}
 use Rattle.advise_ranges.specs.declared.advisory.Bound.{Bound}
 use Rattle.advise_ranges.specs.declared.advisory.Advisory.{Advisory}
 use Rattle.advise_ranges.specs.declared.edit.AdviceEdit.TheVariants as edit

@@ -29,14 +29,14 @@ pub(crate) struct Terms {
     pub(crate) end: Option<Bound>,
 }
 
-/// Advisories of different ids, in the order in which they were added. Their names are in lower case. Contracts see the list of
-/// these advisories.
+/// Advisories of different ids, in the order in which they were added. Their names are in lower case. Contracts see the
+/// list of these advisories.
 #[derive(Drop)]
 pub(crate) struct Advised {
     alloc: Global,
     by_id: IndexMap<Text, Terms>,
-    // The ids of the advisories, by the products of their names. A question about a name tests only the advisories of its
-    // product, and those without a plain product.
+    // The ids of the advisories, by the products of their names. A question about a name tests only the advisories of
+    // its product, and those without a plain product.
     groups: Groups,
 }
 
@@ -128,7 +128,7 @@ fn add_to_group(
 }
 
 // Adds an advisory at the end. If there is room for it, memory doesn't run out.
-fn put_last(by_id: &mut IndexMap<Text, Terms>, advisory: Advisory) -> Result<(), Memory>
+fn append_advisory(by_id: &mut IndexMap<Text, Terms>, advisory: Advisory) -> Result<(), Memory>
     requires fresh { list_any (has_advisory_id advisory.id) (advisories_in by_id.old.entries) ≡ false }
     requires lower { IsLower advisory.name }
     requires all { AreLower by_id.old.entries }
@@ -230,7 +230,8 @@ fn push_own_places(
     }
 }
 
-// The places, in rising order, of the advisories of this product, if it is plain, and of all advisories without a plain product.
+// The places, in rising order, of the advisories of this product, if it is plain, and of all advisories without a plain
+// product.
 fn find_places(
     alloc: Global,
     by_id: &IndexMap<Text, Terms>,
@@ -240,7 +241,7 @@ fn find_places(
     requires { AreAdvisoriesGrouped (advisories_in by_id.now.entries) groups.now }
     ensures { IfOk result (λ places. places.items ≡ places_where (is_beside product.now) by_id.now.entries) }
 {
-    // Any call of the map gives the proof that its ids are different.
+    // This call is only for the proof: after a call of any method of the map, its ids are known to be different.
     let _count = by_id.len();
     let mut places = Vec::new(alloc);
     push_places(by_id, groups.of(&Value::Any), &mut places)?;
@@ -315,8 +316,8 @@ impl Advised {
         find_terms(&self.by_id, id)
     }
 
-    /// Adds an advisory of a new id at the end. Its name is in lower case. The advisory is moved. Its id is copied once, and its
-    /// product if the product has no group yet.
+    /// Adds an advisory of a new id at the end. Its name is in lower case. The advisory is moved. Its id is copied
+    /// once, and its product if the product has no group yet.
     ///
     /// # Errors
     /// Only that memory ran out. The advisories are then unchanged.
@@ -328,7 +329,7 @@ impl Advised {
     {
         match add_to_group(self.alloc, &mut self.by_id, &mut self.groups, &advisory) {
             Ok(()) => {
-                if put_last(&mut self.by_id, advisory).is_err() {
+                if append_advisory(&mut self.by_id, advisory).is_err() {
                     unreachable!();
                 }
                 Ok(())
@@ -337,8 +338,8 @@ impl Advised {
         }
     }
 
-    /// Removes the advisory of this id, if there is one. Time is proportional to the number of advisories after it, and of its
-    /// group.
+    /// Removes the advisory of this id, if there is one. Time is proportional to the number of advisories after it, and
+    /// of its group.
     pub(crate) fn remove(&mut self, id: &Text)
         ensures { self.new ≡ without_first (has_advisory_id id.now) self.old }
     {
@@ -348,8 +349,8 @@ impl Advised {
         }
     }
 
-    /// The ids of the advisories that affect an item of this name, in their order. The name is in lower case. It tests only the
-    /// advisories of the name's product, and those without a plain product.
+    /// The ids of the advisories that affect an item of this name, in their order. The name is in lower case. It tests
+    /// only the advisories of the name's product, and those without a plain product.
     ///
     /// # Errors
     /// Only that memory ran out.

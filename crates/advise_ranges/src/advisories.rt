@@ -242,12 +242,12 @@ impl Advisories {
         let weight = with_advisory(self.weight, &advisory);
         match self.advisory_fault(&advisory, weight) {
             Some(fault) => refused_advisory(advisory, fault),
-            None => self.put_last(advisory, weight),
+            None => self.append_advisory(advisory, weight),
         }
     }
 
     // Adds an advisory without a fault at the end.
-    fn put_last(&mut self, advisory: Advisory, weight: u64) -> Result<(), AdviceFault>
+    fn append_advisory(&mut self, advisory: Advisory, weight: u64) -> Result<(), AdviceFault>
         requires lower { is_lower advisory.name ≡ true }
         requires none { first_some (advice_faults self.old (AdviceEdit.Put advisory)) ≡ None }
         requires weight { weight ≡ capped (weight_of (after_advice self.old (AdviceEdit.Put advisory))) }
@@ -281,11 +281,12 @@ impl Advisories {
         Ok(())
     }
 
-    /// Makes a valid edit. What it adds is moved. The id of an advisory is also copied once, and its product if the product has
-    /// no group yet. It takes no step.
+    /// Makes a valid edit. What it adds is moved. The id of an advisory is also copied once, and its product if the
+    /// product has no group yet. It takes no step.
     ///
     /// # Errors
-    /// The first fault of the edit in the order of [`AdviceFault`], or that memory ran out. The rows are then unchanged.
+    /// The first fault of the edit in the order of [`AdviceFault`], or that memory ran out. The rows are then
+    /// unchanged.
     pub fn apply<L: Ledger>(
         &mut self,
         edit: AdviceEdit,
@@ -306,8 +307,8 @@ impl Advisories {
 
     /// The answer to a valid question. The name or id is moved into the answer.
     ///
-    /// A step is a look at the name of an item through the index. An answer about an advisory takes at most as many steps as
-    /// there are items to whose product the product of its name is near. An answer about a name takes none.
+    /// A step is a look at the name of an item through the index. An answer about an advisory takes at most as many
+    /// steps as there are items to whose product the product of its name is near. An answer about a name takes none.
     ///
     /// # Errors
     /// Only that memory ran out.

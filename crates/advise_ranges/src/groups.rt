@@ -15,7 +15,7 @@ use std::mem::replace;
 /// Lists of ids, one for each product.
 #[derive(Drop)]
 pub(crate) struct Groups {
-    lists: IndexMap<Value, List<Text>>,
+    ids_by_product: IndexMap<Value, List<Text>>,
 }
 
 impl Model for Groups {
@@ -23,7 +23,7 @@ impl Model for Groups {
 
     ghost Value = { Grouped };
 
-    ghost view = { λ g. g.lists.entries };
+    ghost view = { λ g. g.ids_by_product.entries };
 }
 
 // The list of ids without the first id that is equal to this one.
@@ -47,16 +47,16 @@ fn place_of(ids: &[Text], id: &Text) -> Option<usize>
 }
 
 // Adds an id at the end of a product's list. The product has a list.
-fn push_kept(
-    lists: &mut IndexMap<Value, List<Text>>,
+fn push_id_of(
+    ids_by_product: &mut IndexMap<Value, List<Text>>,
     product: &Value,
     id: Text,
 ) -> Result<(), Memory>
-    requires { is_some (lookup (same_value product.now) lists.old.entries) ≡ true }
-    ensures ok { OnOk result ((v : Value) → group lists.new.entries v ≡ (if same_value product.now v then group lists.old.entries v ++ id ∷ [] else group lists.old.entries v)) }
-    ensures err { OnErr result ((v : Value) → group lists.new.entries v ≡ group lists.old.entries v) }
+    requires { is_some (lookup (same_value product.now) ids_by_product.old.entries) ≡ true }
+    ensures ok { OnOk result ((v : Value) → group ids_by_product.new.entries v ≡ (if same_value product.now v then group ids_by_product.old.entries v ++ id ∷ [] else group ids_by_product.old.entries v)) }
+    ensures err { OnErr result ((v : Value) → group ids_by_product.new.entries v ≡ group ids_by_product.old.entries v) }
 {
-    match lists.get_mut(product) {
+    match ids_by_product.get_mut(product) {
         Some(ids) => match ids.push(id) {
             Ok(()) => Ok(()),
             Err(memory) => Err(memory),
@@ -72,64 +72,69 @@ fn remove_id(alloc: Global, ids: &mut List<Text>, id: &Text)
     *ids = without(all, id);
 }
 
-fn remove_kept(alloc: Global, lists: &mut IndexMap<Value, List<Text>>, product: &Value, id: &Text)
-    ensures { (v : Value) → group lists.new.entries v ≡ (if same_value product.now v then without_first (bytes_eq id.now) (group lists.old.entries v) else group lists.old.entries v) }
+fn remove_id_of(
+    alloc: Global,
+    ids_by_product: &mut IndexMap<Value, List<Text>>,
+    product: &Value,
+    id: &Text,
+)
+    ensures { (v : Value) → group ids_by_product.new.entries v ≡ (if same_value product.now v then without_first (bytes_eq id.now) (group ids_by_product.old.entries v) else group ids_by_product.old.entries v) }
 {
-    if let Some(ids) = lists.get_mut(product) {
+    if let Some(ids) = ids_by_product.get_mut(product) {
         remove_id(alloc, ids, id);
     }
 }
 
-fn is_empty(lists: &IndexMap<Value, List<Text>>, product: &Value) -> bool
-    ensures { result ≡ true → group lists.now.entries product.now ≡ [] }
+fn is_empty(ids_by_product: &IndexMap<Value, List<Text>>, product: &Value) -> bool
+    ensures { result ≡ true → group ids_by_product.now.entries product.now ≡ [] }
 {
-    match lists.get(product) {
+    match ids_by_product.get(product) {
         Some(ids) => ids.as_slice().is_empty(),
         None => false,
     }
 }
 
 // Removes the list of a product, if the list is empty.
-fn drop_empty(lists: &mut IndexMap<Value, List<Text>>, product: &Value)
-    ensures { (v : Value) → group lists.new.entries v ≡ group lists.old.entries v }
+fn drop_empty(ids_by_product: &mut IndexMap<Value, List<Text>>, product: &Value)
+    ensures { (v : Value) → group ids_by_product.new.entries v ≡ group ids_by_product.old.entries v }
 {
-    if is_empty(lists, product) {
-        drop(lists.swap_remove(product));
+    if is_empty(ids_by_product, product) {
+        drop(ids_by_product.swap_remove(product));
     }
 }
 
-fn has_list(lists: &IndexMap<Value, List<Text>>, product: &Value) -> bool
-    ensures { result ≡ is_some (lookup (same_value product.now) lists.now.entries) }
+fn has_list(ids_by_product: &IndexMap<Value, List<Text>>, product: &Value) -> bool
+    ensures { result ≡ is_some (lookup (same_value product.now) ids_by_product.now.entries) }
 {
-    lists.contains_key(product)
+    ids_by_product.contains_key(product)
 }
 
 // Adds a list with its first id for a product. The product has no list.
 fn put_first(
     alloc: Global,
-    lists: &mut IndexMap<Value, List<Text>>,
+    ids_by_product: &mut IndexMap<Value, List<Text>>,
     product: Value,
     id: Text,
 ) -> Result<(), Memory>
-    requires { is_some (lookup (same_value product) lists.old.entries) ≡ false }
-    ensures ok { OnOk result ((v : Value) → group lists.new.entries v ≡ (if same_value product v then group lists.old.entries v ++ id ∷ [] else group lists.old.entries v)) }
-    ensures err { OnErr result ((v : Value) → group lists.new.entries v ≡ group lists.old.entries v) }
+    requires { is_some (lookup (same_value product) ids_by_product.old.entries) ≡ false }
+    ensures ok { OnOk result ((v : Value) → group ids_by_product.new.entries v ≡ (if same_value product v then group ids_by_product.old.entries v ++ id ∷ [] else group ids_by_product.old.entries v)) }
+    ensures err { OnErr result ((v : Value) → group ids_by_product.new.entries v ≡ group ids_by_product.old.entries v) }
 {
     let mut ids = List::new(alloc);
     ids.push(id)?;
-    match lists.insert(product, ids) {
+    match ids_by_product.insert(product, ids) {
         Ok(_) => Ok(()),
         Err(_) => Err(Memory),
     }
 }
 
 impl Groups {
-    /// No lists. Allocates: no.
+    /// No ids_by_product. Allocates: no.
     pub(crate) fn new(alloc: Global) -> Groups
         ensures { result ≡ [] }
     {
         Groups {
-            lists: IndexMap::new(alloc),
+            ids_by_product: IndexMap::new(alloc),
         }
     }
 
@@ -137,7 +142,7 @@ impl Groups {
     pub(crate) fn of(&self, product: &Value) -> &[Text]
         ensures { result.now ≡ group self.now product.now }
     {
-        match self.lists.get(product) {
+        match self.ids_by_product.get(product) {
             Some(list) => list.as_slice(),
             None => &[],
         }
@@ -152,10 +157,10 @@ impl Groups {
         ensures err { OnErr result ((v : Value) → group self.new v ≡ group self.old v) }
     {
         let id = id.copy(alloc)?;
-        if has_list(&self.lists, product) {
-            push_kept(&mut self.lists, product, id)
+        if has_list(&self.ids_by_product, product) {
+            push_id_of(&mut self.ids_by_product, product, id)
         } else {
-            put_first(alloc, &mut self.lists, product.copy(alloc)?, id)
+            put_first(alloc, &mut self.ids_by_product, product.copy(alloc)?, id)
         }
     }
 
@@ -163,7 +168,7 @@ impl Groups {
     pub(crate) fn remove(&mut self, alloc: Global, product: &Value, id: &Text)
         ensures { (v : Value) → group self.new v ≡ (if same_value product.now v then without_first (bytes_eq id.now) (group self.old v) else group self.old v) }
     {
-        remove_kept(alloc, &mut self.lists, product, id);
-        drop_empty(&mut self.lists, product);
+        remove_id_of(alloc, &mut self.ids_by_product, product, id);
+        drop_empty(&mut self.ids_by_product, product);
     }
 }

@@ -14,8 +14,8 @@ use names_in_order::{ChangingNames, add_name};
 use std::alloc::Global;
 use std::marker::Model;
 
-/// Names in lower case, in the order in which they were added. Nothing else uses their table. Contracts see the list of these
-/// names.
+/// Names in lower case, in the order in which they were added. Nothing else uses their table. Contracts see the list of
+/// these names.
 #[derive(Drop)]
 pub(crate) struct Items {
     table: NameTable,

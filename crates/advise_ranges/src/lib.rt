@@ -22,7 +22,6 @@ mod run;
 mod speaker;
 mod view;
 
-pub use advise_versions::version_cmp;
 pub use advisories::Advisories;
 pub use advisory::{Advisory, Bound};
 pub use edit::{AdviceEdit, AdviceFault, AdviceQuery, AdviceReply, AdviceWhich};

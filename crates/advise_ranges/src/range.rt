@@ -61,8 +61,8 @@ fn is_text_in(start: &Option<Bound>, end: &Option<Bound>, text: &Pattern) -> boo
     !text.has_wildcards() && meets_start(start, text.stem()) && meets_end(end, text.stem())
 }
 
-/// Whether a version is in the range of these bounds: there is no bound, or the version is a text without specials that meets
-/// them. Allocates: no.
+/// Whether a version is in the range of these bounds: there is no bound, or the version is a text without specials that
+/// meets them. Allocates: no.
 pub(crate) fn is_in_range(start: &Option<Bound>, end: &Option<Bound>, version: &Value) -> bool
     ensures { result ≡ is_in_range start.now end.now version.now }
 {

@@ -13,9 +13,11 @@ use name_index::Steps;
 use std::alloc::Global;
 use std::sync::ledger::Ledger;
 
-/// The status of a run of the command. It answers each line of the source as a record, and begins without items and advisories.
+/// The status of a run of the command. It answers each line of the source as a record, and begins without items and
+/// advisories.
 ///
-/// [`answer_from`] says what is written at each status. A step is a look at the name of an item. Only a question takes steps.
+/// [`answer_from`] says what is written at each status. A step is a look at the name of an item. Only a question takes
+/// steps.
 pub fn advise<S: Source, K: Sink, L: Ledger>(
     alloc: Global,
     source: &mut S,

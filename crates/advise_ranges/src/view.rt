@@ -12,8 +12,8 @@ use std::alloc::Global;
 use std::marker::Model;
 use std::sync::ledger::Ledger;
 
-/// Items with the table of their names: names in lower case, in the order in which they were added. Contracts see the list of
-/// these names.
+/// Items with the table of their names: names in lower case, in the order in which they were added. Contracts see the
+/// list of these names.
 #[derive(Drop)]
 pub(crate) struct ItemView<'t> {
     table: &'t NameTable,
@@ -60,8 +60,8 @@ impl<'t> ItemView<'t> {
 
     /// The items that a name in lower case covers (NIST IR 7696), in their order.
     ///
-    /// A step is a look at an item. Each item whose product the name's product covers is looked at once, and no other item. The
-    /// product of the name is near to the product of each of these.
+    /// A step is a look at an item. Each item whose product the name's product covers is looked at once, and no other
+    /// item. The product of the name is near to the product of each of these.
     ///
     /// # Errors
     /// Only that memory ran out. The bound on steps then holds too.

@@ -1,10 +1,13 @@
 // Sessions that C keeps. C passes to these calls only what they left in `kept`.
 ghost use Rattle.std.specs.Prelude.{◌≡◌, ◌<◌, IsSome, None};
-ghost use Rattle.c_calls.specs.CallResults.{ReturnsCode};
-ghost use Rattle.c_calls.specs.Holding.{BeginsCall, Moves};
-ghost use Rattle.c_calls.specs.Talk.{Repeats, TakesEnd, TakesLine};
+ghost use Rattle.c_library.specs.CallResults.{ReturnsCode};
+ghost use Rattle.c_library.specs.Holding.{BeginsCall, Moves};
+ghost use Rattle.c_library.specs.Talk.{Repeats, TakesEnd, TakesLine};
 
-use c_calls::{Answer, CallResult, KeptTalk, Steps, Talk, discard, end, keep_begun, repeat, say};
+use crate::call_result::{Answer, CallResult};
+use crate::kept::{KeptTalk, discard, keep_begun};
+use crate::talk::{Talk, end, repeat, say};
+use line_session::Steps;
 use std::alloc::Global;
 use std::marker::Brand;
 use std::mem::replace;

@@ -4,8 +4,8 @@
 //! has the certificates of these children. For a fact that is TRUE, it names an item that the fact covers, and the
 //! deprecations that lead to the compared names. For a fact that is UNKNOWN, it names in the same way an item that the
 //! fact may cover. For a fact that is FALSE, and for a check, it has only the truth, and the rows show whether this is
-//! right. [`check_certificate`] tests a certificate over any [`PlainRows`]. By [`law::good_certificates_are_right`], the truth of a
-//! good certificate is the verdict.
+//! right. [`check_certificate`] tests a certificate over any [`PlainRows`]. By [`law::good_certificates_are_right`], the
+//! truth of a good certificate is the verdict.
 //!
 //! `certificate_search` finds certificates. Nobody who tests a certificate has to trust that crate.
 #![tactic(auto)]
@@ -22,5 +22,6 @@ mod trace;
 
 pub use certificate::{Certificate, Checked, Why};
 pub use check::{check_certificate, deciding, is_truth, join_all, negate_if};
+pub use name_set::NameSet;
 pub use relates::Relates;
 pub use rows::PlainRows;

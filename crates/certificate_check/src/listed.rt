@@ -36,7 +36,10 @@ fn visit<'a>(
 {
     match deprecation_in(entries, name) {
         Some(deprecation) => met.insert_all(deprecation.successors.as_slice()),
-        None => ends.insert(name),
+        None => {
+            ends.insert(name)?;
+            Ok(())
+        }
     }
 }
 

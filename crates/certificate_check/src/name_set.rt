@@ -1,6 +1,7 @@
 // A set of different names that are stored elsewhere, in the order of their addition.
-ghost use Rattle.std.specs.Prelude.{◌≡◌, ◌<◌, ◌^◌, [], fold, IsSome, OnOk, slice_get, option_copied};
+ghost use Rattle.std.specs.Prelude.{◌≡◌, ◌<◌, ◌^◌, [], fold, IfOk, IsSome, OnOk, not, slice_get, option_copied};
 ghost use Rattle.std.specs.List.{list_any};
+ghost use Rattle.cpe_rows.specs.Prelude.{is_same};
 ghost use Rattle.certificate_check.specs.Relates.{related};
 ghost use Rattle.certificate_check.specs.Seen.{with_seen_name};
 
@@ -10,9 +11,10 @@ use indexmap::IndexSet;
 use std::alloc::Global;
 use std::marker::Model;
 
-/// Different names, each found by its place. In contracts the set is the list of these names.
+/// Different names, stored elsewhere, in the order of their addition. Each is found by its place. In contracts the set
+/// is the list of these names.
 #[derive(Drop)]
-pub(crate) struct NameSet<'a> {
+pub struct NameSet<'a> {
     names: IndexSet<&'a Wfn>,
 }
 
@@ -27,7 +29,7 @@ impl<'a> Model for NameSet<'a> {
 
 impl<'a> NameSet<'a> {
     /// An empty set. Allocates: no.
-    pub(crate) fn new(alloc: Global) -> NameSet<'a>
+    pub fn new(alloc: Global) -> NameSet<'a>
         ensures { result ≡ [] }
     {
         NameSet {
@@ -35,12 +37,16 @@ impl<'a> NameSet<'a> {
         }
     }
 
-    /// Appends the name, unless the set has it.
-    pub(crate) fn insert(&mut self, name: &'a Wfn) -> Result<(), Memory>
-        ensures { OnOk result (self.new ≡ with_seen_name self.old name.now) }
+    /// Appends the name, unless the set has it. Returns whether the name is new.
+    ///
+    /// # Errors
+    /// Only that memory ran out.
+    pub fn insert(&mut self, name: &'a Wfn) -> Result<bool, Memory>
+        ensures new { IfOk result (λ is_new. is_new ≡ not (list_any (is_same name.now) self.old)) }
+        ensures names { OnOk result (self.new ≡ with_seen_name self.old name.now) }
     {
         match self.names.insert(name) {
-            Ok(_) => Ok(()),
+            Ok(is_new) => Ok(is_new),
             Err(_) => Err(Memory),
         }
     }

@@ -6,9 +6,9 @@ use Rattle.std.proofs.lemmas.Bool.{and_parts}
 use Rattle.serde_json.specs.Data.{Data}
 use Rattle.cpe_rows.specs.Valid.{is_id}
 use Rattle.cpe_rows.specs.declared.limits.TheConstants.{MOST_LEVELS}
-use Rattle.record_members.specs.FirstFault.{◌>>=◌}
-use Rattle.record_members.specs.Forms.{tested}
-use Rattle.record_members.proofs.LineLemmas.{line_read}
+use Rattle.cpe_records.specs.FirstFault.{◌>>=◌}
+use Rattle.cpe_records.specs.Forms.{tested}
+use Rattle.cpe_records.proofs.LineLemmas.{line_read}
 use Rattle.record_writer.proofs.ReadBack.{data_of, read-printed}
 use Rattle.certificate_check.specs.declared.certificate.Certificate.{Certificate}
 use Rattle.certificate_records.specs.declared.fault.CertificateFault.TheVariants as fault

@@ -5,10 +5,10 @@ use Rattle.std.specs.Ordering.{nat_cmp, match_ordering}
 use Rattle.std.specs.Cmp.Lexicographic.{slice_cmp}
 use Rattle.serde_json.specs.Data.{Data, null, boolean, number, string, array, object, Items, no_items, item, Members, no_members, member}
 use Rattle.serde_json.specs.Find.{get, get_member, as_array, as_null}
-use Rattle.record_members.specs.FirstFault.{◌>>=◌, all_from, FailsUnless}
-use Rattle.record_members.specs.Forms.{list_of_items}
+use Rattle.cpe_records.specs.FirstFault.{◌>>=◌, all_from, FailsUnless}
+use Rattle.cpe_records.specs.Forms.{list_of_items}
 use Rattle.certificate_check.specs.declared.certificate.Why.{Why}
-use Rattle.record_members.proofs.AllFrom.{carried}
+use Rattle.cpe_records.proofs.AllFrom.{carried}
 use Rattle.certificate_records.specs.declared.fault.CertificateFault.{CertificateFault}
 use Rattle.certificate_records.specs.declared.fault.CertificateFault.TheVariants as fault
 use Rattle.certificate_records.specs.Gives.{is_certificate_memory}

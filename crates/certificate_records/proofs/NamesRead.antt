@@ -12,9 +12,9 @@ use Rattle.cpe_rows.specs.cpe_fs.Grammar.{fs_text}
 use Rattle.cpe_uri.specs.EitherBinding.{UriOrFs, read_any}
 use Rattle.cpe_rows.specs.Names.{is_lower}
 use Rattle.cpe_rows.proofs.NameTests.{is_lower_is}
-use Rattle.record_members.specs.FirstFault.{◌>>=◌, all_from}
-use Rattle.record_members.specs.Forms.{list_of_items}
-use Rattle.record_members.specs.Names.{lowered}
+use Rattle.cpe_records.specs.FirstFault.{◌>>=◌, all_from}
+use Rattle.cpe_records.specs.Forms.{list_of_items}
+use Rattle.cpe_records.specs.Names.{lowered}
 use Rattle.record_writer.specs.Written.{items_by, name_json}
 use Rattle.record_writer.proofs.ReadBack.{data_of, data_items}
 use Rattle.certificate_records.specs.Reading.{formed, certificate_named, certificate_name, some_whys, names_at}

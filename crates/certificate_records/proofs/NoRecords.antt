@@ -4,14 +4,14 @@ use Rattle.std.specs.Prelude.{Ok, Err, Option, Some, None, option_and_then}
 use Rattle.std.specs.Option.{option_map_or}
 use Rattle.std.proofs.lemmas.Slice.Eq.{bytes_eq-Decides}
 use Rattle.serde_json.specs.Data.{Data}
-use Rattle.record_members.specs.Gives.{◌>>=◌}
-use Rattle.record_members.specs.Forms.{required_member, text_in, word_at}
-use Rattle.record_members.specs.Formats.{format_at}
-use Rattle.record_members.specs.Line.{json_value_of}
-use Rattle.record_members.specs.declared.member.Member.TheVariants as member
-use Rattle.record_members.specs.declared.member.RecordFault.TheVariants as fault
-use Rattle.record_writer.specs.cpe_records.Reading.{record_by, record_json_of, record_of}
-use Rattle.record_writer.specs.cpe_records.RecordKinds.{record_kind_of}
+use Rattle.cpe_records.specs.Gives.{◌>>=◌}
+use Rattle.cpe_records.specs.Forms.{required_member, text_in, word_at}
+use Rattle.cpe_records.specs.Formats.{format_at}
+use Rattle.cpe_records.specs.Line.{json_value_of}
+use Rattle.cpe_records.specs.declared.member.Member.TheVariants as member
+use Rattle.cpe_records.specs.declared.member.RecordFault.TheVariants as fault
+use Rattle.cpe_records.specs.Reading.{record_by, record_json_of, record_of}
+use Rattle.cpe_records.specs.RecordKinds.{record_kind_of}
 use Rattle.certificate_records.specs.Reading.{certificate_in, certificate_by, certificate_read_of}
 
 -- the line is read as a certificate or as a fault; `b` says whether `do` is `proof`

@@ -7,7 +7,7 @@ use Rattle.serde_json.specs.Data.{Data}
 use Rattle.cpe_rows.specs.cpe_name.Eleven.{Values}
 use Rattle.cpe_rows.specs.cpe_name.Names.{IsName}
 use Rattle.cpe_rows.specs.declared.truth.Truth.{Truth}
-use Rattle.record_members.specs.FirstFault.{◌>>=◌}
+use Rattle.cpe_records.specs.FirstFault.{◌>>=◌}
 use Rattle.record_writer.specs.Written.{items_by}
 use Rattle.record_writer.proofs.ReadBack.{data_of, data_items}
 use Rattle.record_writer.proofs.WordForms.{truth_read}

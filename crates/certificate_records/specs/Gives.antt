@@ -1,6 +1,6 @@
 -- Reading a certificate, up to its first fault.
 use Rattle.std.specs.Prelude.{Bool, true, false, Result}
-use Rattle.record_members.specs.FirstFault.{GivesUnless}
+use Rattle.cpe_records.specs.FirstFault.{GivesUnless}
 use Rattle.certificate_records.specs.declared.fault.CertificateFault.{CertificateFault}
 use Rattle.certificate_records.specs.declared.fault.CertificateFault.TheVariants as fault
 

@@ -13,11 +13,11 @@ use Rattle.cpe_uri.specs.EitherBinding.{read_any}
 use Rattle.cpe_rows.specs.Valid.{is_id}
 use Rattle.cpe_rows.specs.declared.limits.TheConstants.{MOST_LEVELS}
 use Rattle.cpe_rows.specs.declared.truth.Truth.{Truth}
-use Rattle.record_members.specs.FirstFault.{◌>>=◌, all_from}
-use Rattle.record_members.specs.Forms.{list_of_items, tested, text_in}
-use Rattle.record_members.specs.Line.{json_value_of}
-use Rattle.record_members.specs.Names.{lowered}
-use Rattle.record_members.specs.Words.{truth_of_word}
+use Rattle.cpe_records.specs.FirstFault.{◌>>=◌, all_from}
+use Rattle.cpe_records.specs.Forms.{list_of_items, tested, text_in}
+use Rattle.cpe_records.specs.Line.{json_value_of}
+use Rattle.cpe_records.specs.Names.{lowered}
+use Rattle.cpe_records.specs.Words.{truth_of_word}
 use Rattle.certificate_check.specs.declared.certificate.Certificate.{Certificate}
 use Rattle.certificate_check.specs.declared.certificate.Why.{Why}
 use Rattle.certificate_check.specs.declared.certificate.Why as why

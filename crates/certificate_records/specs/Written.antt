@@ -6,7 +6,7 @@ use Rattle.json.specs.Tree.{json_tokens}
 use Rattle.json.specs.Print.{print}
 use Rattle.cpe_rows.specs.cpe_name.Eleven.{Values}
 use Rattle.cpe_rows.specs.declared.truth.Truth.{Truth}
-use Rattle.record_members.specs.Words.{truth_word}
+use Rattle.cpe_records.specs.Words.{truth_word}
 use Rattle.record_writer.specs.Written.{items_by, name_json}
 use Rattle.certificate_check.specs.declared.certificate.Certificate.{Certificate}
 use Rattle.certificate_check.specs.declared.certificate.Why.{Why}

@@ -1,8 +1,8 @@
 // Laws of the lines of certificates. These functions do nothing: their clauses are the laws.
 ghost use Rattle.std.specs.Prelude.{◌≡◌, true, Ok, Err, Some, None, List, ℕ, IsUtf8};
-ghost use Rattle.record_members.specs.declared.member.Member.TheVariants as member;
-ghost use Rattle.record_members.specs.declared.member.RecordFault.TheVariants as record_fault;
-ghost use Rattle.record_writer.specs.cpe_records.Reading.{record_of};
+ghost use Rattle.cpe_records.specs.declared.member.Member.TheVariants as member;
+ghost use Rattle.cpe_records.specs.declared.member.RecordFault.TheVariants as record_fault;
+ghost use Rattle.cpe_records.specs.Reading.{record_of};
 ghost use Rattle.cpe_rows.specs.Prelude.{IsLawful, Rows};
 ghost use Rattle.cpe_rows.specs.Reach.{Among};
 ghost use Rattle.cpe_rows.specs.declared.statement.Statement.{Statement};

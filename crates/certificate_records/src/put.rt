@@ -4,9 +4,9 @@ ghost use Rattle.record_writer.specs.Puts.{AppendsTokens};
 ghost use Rattle.certificate_records.specs.Written.{truth_end, pair_json, plain_json, why_json, certificate_json};
 
 use certificate_check::{Certificate, Why};
+use cpe_records::truth_word;
 use cpe_rows::{Memory, Truth, Wfn};
 use json::{Token, Writer};
-use record_members::truth_word;
 use record_writer::{put, put_names};
 use std::alloc::Global;
 

@@ -7,15 +7,15 @@ ghost use Rattle.certificate_records.specs.Reading.{certificate_id_at, certifica
 use crate::CertificateFault;
 use crate::why::why_at;
 use certificate_check::Certificate;
+use cpe_records::{text_in, value_of};
 use cpe_rows::{Text, is_id};
-use record_members::{text_in, value_of};
 use serde_json::Value;
 use std::alloc::Global;
 
-fn id_at(alloc: Global, source: &Value) -> Result<Text, CertificateFault>
-    ensures { ReadsCertificate result (certificate_id_at (view source.now)) }
+fn id_at(alloc: Global, json: &Value) -> Result<Text, CertificateFault>
+    ensures { ReadsCertificate result (certificate_id_at (view json.now)) }
 {
-    match text_in(source, "id") {
+    match text_in(json, "id") {
         Some(text) => {
             if is_id(text) {
                 Ok(Text::new(alloc, text)?)
@@ -28,18 +28,18 @@ fn id_at(alloc: Global, source: &Value) -> Result<Text, CertificateFault>
 }
 
 #[tactic(auto, unfolding(crate::specs::Reading::certificate_in))]
-fn certificate_in(alloc: Global, source: &Value) -> Result<Certificate, CertificateFault>
-    ensures { ReadsCertificate result (certificate_in (view source.now)) }
+fn certificate_in(alloc: Global, json: &Value) -> Result<Certificate, CertificateFault>
+    ensures { ReadsCertificate result (certificate_in (view json.now)) }
 {
-    let id = id_at(alloc, source)?;
-    let why = why_at(alloc, source)?;
+    let id = id_at(alloc, json)?;
+    let why = why_at(alloc, json)?;
     Ok(Certificate { id, why })
 }
 
-fn is_certificate(source: &Value) -> bool
-    ensures { result ≡ is_certificate (view source.now) }
+fn is_certificate(json: &Value) -> bool
+    ensures { result ≡ is_certificate (view json.now) }
 {
-    match text_in(source, "do") {
+    match text_in(json, "do") {
         Some(word) => word == "proof",
         None => false,
     }

@@ -12,7 +12,6 @@ mod fits;
 pub mod law;
 mod paths;
 mod rows;
-mod seen_names;
 
 pub use certificate::explain;
 pub use certificate_check::{Certificate, Checked, PlainRows, Relates};

@@ -7,7 +7,7 @@ ghost use Rattle.certificate_search.specs.Choices.{trace_to};
 ghost use Rattle.certificate_search.specs.Steps.{lent_step, step_to, with_step};
 
 use crate::rows::ExplainedRows;
-use crate::seen_names::SeenNames;
+use certificate_check::NameSet;
 use cpe_rows::{List, Memory, Mode, Wfn, is_same};
 use std::alloc::Global;
 
@@ -52,7 +52,7 @@ fn push_step<'a, R: ExplainedRows>(
 fn try_name<'a, R: ExplainedRows>(
     rows: &'a R,
     steps: &mut Vec<StepRef<'a>>,
-    seen: &mut SeenNames<'a>,
+    seen: &mut NameSet<'a>,
     name: &'a Wfn,
 ) -> Result<(), Memory>
     ensures steps { OnOk result (map lent_step steps.new.items ≡ with_step (R.rows rows.now).entries seen.old (map lent_step steps.old.items) name.now) }
@@ -96,7 +96,7 @@ fn path<R: ExplainedRows>(
     ensures { IfOk result (λ names. names ≡ trace_to (R.rows rows.now).entries to.now from.now) }
 {
     rows.lawful();
-    let mut seen = SeenNames::new(alloc);
+    let mut seen = NameSet::new(alloc);
     let mut steps = Vec::new(alloc);
     push_step(rows, &mut steps, from)?;
     while let Some(step) = steps.pop() {

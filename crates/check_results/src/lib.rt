@@ -19,4 +19,3 @@ pub use checks::Checks;
 pub use faults::check_fault;
 pub use ready_result::ReadyResult;
 pub use slots::ItemSlots;
-pub use ticket_list::{Change, TicketList, Ticketed};

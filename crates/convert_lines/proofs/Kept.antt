@@ -9,7 +9,7 @@ use Rattle.line_replies.specs.line_session.Folding.{folded_lines}
 use Rattle.line_replies.specs.line_session.Session.{Stage, after_next, next_writes, out_from, printed, keeping, refusal, writes, start}
 use Rattle.line_replies.specs.line_session.Task.{speech, spoken}
 use Rattle.cpe_rows.specs.Rows.{Rows}
-use Rattle.cpe_records.specs.record_members.declared.member.RecordFault.{RecordFault}
+use Rattle.cpe_records.specs.declared.member.RecordFault.{RecordFault}
 use Rattle.cpe_records.specs.Edited.{edited, line_edited}
 use Rattle.cpe_records.specs.Reading.{record_of}
 use Rattle.cpe_records.specs.Taken.{IsFormedRecord, is_valid_record}

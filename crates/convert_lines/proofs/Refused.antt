@@ -12,21 +12,21 @@ use Rattle.cpe_rows.specs.cpe_name.Text.{attribute_name}
 use Rattle.cpe_rows.specs.cpe_name.declared.attribute.Attribute.{Attribute}
 use Rattle.cpe_rows.specs.cpe_name.declared.attribute.Attribute.TheVariants as attribute
 use Rattle.cpe_rows.specs.Rows.{Rows}
-use Rattle.cpe_records.specs.record_members.Keys.{key_of}
-use Rattle.cpe_records.specs.record_members.Forms.{word_at}
-use Rattle.cpe_records.specs.record_members.Formats.{format_at}
-use Rattle.cpe_records.specs.record_members.Gives.{◌>>=◌}
-use Rattle.cpe_records.specs.record_members.declared.member.Member.{Member}
-use Rattle.cpe_records.specs.record_members.declared.member.Member.TheVariants as member
-use Rattle.cpe_records.specs.record_members.declared.member.NameSpot.{NameSpot}
-use Rattle.cpe_records.specs.record_members.declared.member.NameSpot.TheVariants.{Name, Successor, Fact}
-use Rattle.cpe_records.specs.record_members.declared.member.RecordFault.{RecordFault}
-use Rattle.cpe_records.specs.record_members.declared.member.RecordFault.TheVariants as fault
+use Rattle.cpe_records.specs.Keys.{key_of}
+use Rattle.cpe_records.specs.Forms.{word_at}
+use Rattle.cpe_records.specs.Formats.{format_at}
+use Rattle.cpe_records.specs.Gives.{◌>>=◌}
+use Rattle.cpe_records.specs.declared.member.Member.{Member}
+use Rattle.cpe_records.specs.declared.member.Member.TheVariants as member
+use Rattle.cpe_records.specs.declared.member.NameSpot.{NameSpot}
+use Rattle.cpe_records.specs.declared.member.NameSpot.TheVariants.{Name, Successor, Fact}
+use Rattle.cpe_records.specs.declared.member.RecordFault.{RecordFault}
+use Rattle.cpe_records.specs.declared.member.RecordFault.TheVariants as fault
 use Rattle.cpe_records.specs.Edited.{edited, line_edited}
 use Rattle.cpe_records.specs.Reading.{record_json_of, record_by, record_of}
 use Rattle.cpe_records.specs.RecordKinds.{record_kind_of}
 use Rattle.cpe_records.specs.declared.read.Record.{Record}
-use Rattle.cpe_records.proofs.record_members.LineLemmas.{line_refused}
+use Rattle.cpe_records.proofs.LineLemmas.{line_refused}
 use Rattle.line_replies.specs.Reasons.{record_fault_text, spot_text}
 use Rattle.convert_lines.proofs.Clean.{Clean, clean-append, clean-cons}
 

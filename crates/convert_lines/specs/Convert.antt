@@ -1,7 +1,7 @@
 -- What `convert` writes for a line.
 use Rattle.std.specs.Prelude.{ℕ, nat_le, List, ◌++◌, length, Result, Ok, Err, codes, if◌then◌else◌}
 use Rattle.line_replies.specs.cpe_io.declared.line.TheConstants.{LONGEST}
-use Rattle.cpe_records.specs.record_members.declared.member.RecordFault.{RecordFault}
+use Rattle.cpe_records.specs.declared.member.RecordFault.{RecordFault}
 use Rattle.cpe_records.specs.Reading.{record_of}
 use Rattle.record_writer.specs.WrittenRecord.{record_text}
 use Rattle.cpe_records.specs.declared.read.Record.{Record}

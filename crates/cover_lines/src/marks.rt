@@ -76,8 +76,8 @@ fn mark_by_place<L: Ledger>(
     }
 }
 
-/// A mark for each name, by place: whether some name with a special covers it. A step is a look at a name. Only a name with a
-/// special takes steps.
+/// A mark for each name, by place: whether some name with a special covers it. A step is a look at a name. Only a name
+/// with a special takes steps.
 ///
 /// # Errors
 /// Only that memory ran out. The bound on steps then holds too.

@@ -23,8 +23,8 @@ use std::sync::ledger::Ledger;
 
 /// Different names in lower case. Contracts see their list, in the order in which they were added.
 ///
-/// There are at most [`MOST_NAMES`]. Their weight is at most [`cpe_rows::MOST_WEIGHT`]: 32 for each name, and 1 for each byte of
-/// its formatted string.
+/// There are at most [`MOST_NAMES`]. Their weight is at most [`cpe_rows::MOST_WEIGHT`]: 32 for each name, and 1 for
+/// each byte of its formatted string.
 #[derive(Drop)]
 pub struct Names {
     alloc: Global,
@@ -129,8 +129,8 @@ impl Names {
     /// Adds a name in lower case. If the name is there already, nothing changes. A name is found by its hash.
     ///
     /// # Errors
-    /// [`NamesFault::Full`] exactly if the name is new, and with it the names would be too many or, else, too heavy; or that
-    /// memory ran out. The names are then unchanged.
+    /// [`NamesFault::Full`] exactly if the name is new, and with it the names would be too many or, else, too heavy; or
+    /// that memory ran out. The names are then unchanged.
     pub fn add(&mut self, name: &Wfn) -> Result<(), NamesFault>
         requires { IsLower name.now }
         ensures { AddsToCover self.old self.new name.now result }
@@ -154,11 +154,11 @@ impl Names {
 
     /// The cover: the names that no other of them covers, sorted by the bytes of their formatted strings.
     ///
-    /// A step is a look at a name. Each name with a special takes at most one step for each name to whose product its own product
-    /// is near. A name without specials takes none.
+    /// A step is a look at a name. Each name with a special takes at most one step for each name to whose product its
+    /// own product is near. A name without specials takes none.
     ///
-    /// A shape is the set of attributes at which a name is ANY. For a name without specials, each wider shape is tried: the name
-    /// with ANY at these attributes is looked up by its hash.
+    /// A shape is the set of attributes at which a name is ANY. For a name without specials, each wider shape is tried:
+    /// the name with ANY at these attributes is looked up by its hash.
     ///
     /// # Errors
     /// Only that memory ran out. The bound on steps then holds too.

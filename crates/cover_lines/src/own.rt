@@ -11,8 +11,8 @@ use names_in_order::{GrowingNames, NamesInOrder, add_name};
 use std::alloc::Global;
 use std::marker::Model;
 
-/// Different names in lower case, in the order in which they were added. Nothing else uses their table. Contracts see the list of
-/// these names.
+/// Different names in lower case, in the order in which they were added. Nothing else uses their table. Contracts see
+/// the list of these names.
 #[derive(Drop)]
 pub(crate) struct OwnNames {
     table: NameTable,

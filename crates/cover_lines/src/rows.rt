@@ -18,12 +18,12 @@ use std::marker::Model;
 
 /// A name and its formatted string. Contracts see it as the name.
 #[derive(Drop)]
-pub(crate) struct Spelled {
+pub(crate) struct SpelledName {
     text: Vec<u8>,
     name: Wfn,
 }
 
-impl Model for Spelled {
+impl Model for SpelledName {
     ghost use Rattle.std.specs.Prelude.{◌≡◌};
     ghost use Rattle.cpe_rows.specs.cpe_name.Eleven.{Values};
     ghost use Rattle.cpe_fs.specs.Grammar.{fs_text};
@@ -35,17 +35,17 @@ impl Model for Spelled {
     ghost invariant = { λ s. s.text.items ≡ fs_text s.name };
 }
 
-impl Spelled {
-    fn new(alloc: Global, name: &Wfn) -> Result<Spelled, Memory>
+impl SpelledName {
+    fn new(alloc: Global, name: &Wfn) -> Result<SpelledName, Memory>
         ensures { IfOk result (λ spelled. spelled ≡ name.now) }
     {
         let text = bind_fs(alloc, name)?;
         let name = name.copy(alloc)?;
-        Ok(Spelled { text, name })
+        Ok(SpelledName { text, name })
     }
 
     #[tactic(auto, unfolding(crate::specs::Cover::fs_order))]
-    fn compare(&self, other: &Spelled) -> Ordering
+    fn compare(&self, other: &SpelledName) -> Ordering
         ensures { result ≡ fs_order self.now other.now }
     {
         self.text.as_slice().cmp(other.text.as_slice())
@@ -54,7 +54,7 @@ impl Spelled {
     fn into_name(self) -> Wfn
         ensures { result ≡ self }
     {
-        let Spelled { text, name } = self;
+        let SpelledName { text, name } = self;
         drop(text);
         name
     }
@@ -67,7 +67,8 @@ fn is_marked(marks: &[bool], place: usize) -> bool
     marks[place]
 }
 
-// Whether the name at this place is in the cover: it isn't marked, and if it has no special, no name of a wider shape covers it.
+// Whether the name at this place is in the cover: it isn't marked, and if it has no special, no name of a wider shape
+// covers it.
 fn stays(
     alloc: Global,
     names: &NamesInOrder<'_>,
@@ -89,10 +90,10 @@ fn stays(
     Ok(!is_under(alloc, names, name, shapes)?)
 }
 
-fn put_spelled(alloc: Global, rows: &mut Vec<Spelled>, name: &Wfn) -> Result<(), Memory>
+fn put_spelled(alloc: Global, rows: &mut Vec<SpelledName>, name: &Wfn) -> Result<(), Memory>
     ensures { OnOk result (rows.new.items ≡ rows.old.items ++ name.now ∷ []) }
 {
-    let spelled = Spelled::new(alloc, name)?;
+    let spelled = SpelledName::new(alloc, name)?;
     rows.push(spelled)?;
     Ok(())
 }
@@ -104,7 +105,7 @@ fn put_staying(
     shapes: &[Wfn],
     marks: &[bool],
     place: usize,
-    rows: &mut Vec<Spelled>,
+    rows: &mut Vec<SpelledName>,
 ) -> Result<(), Memory>
     requires place { place < length names.now }
     requires len { length marks.now ≡ length names.now }
@@ -128,7 +129,7 @@ pub(crate) fn find_uncovered(
     names: &NamesInOrder<'_>,
     shapes: &[Wfn],
     marks: &[bool],
-) -> Result<Vec<Spelled>, Memory>
+) -> Result<Vec<SpelledName>, Memory>
     requires lower { AllByRecursion IsLower names.now }
     requires shapes { AreShapes names.now shapes.now }
     requires marks { AreCoverMarks names.now names.now marks.now }
@@ -142,7 +143,7 @@ pub(crate) fn find_uncovered(
 }
 
 /// Sorts different names by the bytes of their formatted strings.
-pub(crate) fn sort(rows: &mut Vec<Spelled>)
+pub(crate) fn sort(rows: &mut Vec<SpelledName>)
     requires names { AreWellFormed rows.old.items }
     requires different { IsDistinct same_name rows.old.items }
     ensures { rows.new.items ≡ ordered rows.old.items }
@@ -155,7 +156,7 @@ pub(crate) fn sort(rows: &mut Vec<Spelled>)
 ///
 /// # Errors
 /// Only that memory ran out.
-pub(crate) fn into_names(alloc: Global, rows: Vec<Spelled>) -> Result<List<Wfn>, Memory>
+pub(crate) fn into_names(alloc: Global, rows: Vec<SpelledName>) -> Result<List<Wfn>, Memory>
     ensures { IfOk result (λ names. names ≡ rows.items) }
 {
     let mut names = List::with_room(alloc, rows.len())?;

@@ -12,10 +12,11 @@ use name_index::Steps;
 use std::alloc::Global;
 use std::sync::ledger::Ledger;
 
-/// The status of a run of the command. It adds the name of each line of the source. At the end of the source it writes the names
-/// that no other of them covers.
+/// The status of a run of the command. It adds the name of each line of the source. At the end of the source it writes
+/// the names that no other of them covers.
 ///
-/// [`answer_from`] says what is written at each status. A step is a look at a name. Only the end of the source takes steps.
+/// [`answer_from`] says what is written at each status. A step is a look at a name. Only the end of the source takes
+/// steps.
 pub fn cover<S: Source, K: Sink, L: Ledger>(
     alloc: Global,
     source: &mut S,

@@ -1,4 +1,5 @@
-// The name without specials that covers another. It is found by its hash: at each attribute it has the same value, or ANY.
+// The name without specials that covers another. It is found by its hash: at each attribute it has the same value, or
+// ANY.
 ghost use Rattle.std.specs.Prelude.{◌≡◌, ◌<◌, ◌||◌, ◌&&◌, not, false, true, IfOk, OnOk, length, if◌then◌else◌};
 ghost use Rattle.std.specs.List.{list_all, list_any};
 ghost use Rattle.cpe_rows.specs.Prelude.{has_wildcards, Values};
@@ -150,8 +151,8 @@ fn finds_wider(
     Ok(has(names, wide))
 }
 
-/// Whether one of these shapes is wider than the shape of the name, and the name widened by it is one of the names. It looks at
-/// no name: names are found by hash.
+/// Whether one of these shapes is wider than the shape of the name, and the name widened by it is one of the names. It
+/// looks at no name: names are found by hash.
 ///
 /// # Errors
 /// Only that memory ran out.

@@ -16,8 +16,8 @@ use name_index::Steps;
 use std::alloc::{AllocError, Global};
 use std::sync::ledger::Ledger;
 
-/// Each line is a name: a formatted string or a URI. The name is added in lower case. At the end, the names that no other covers
-/// are written.
+/// Each line is a name: a formatted string or a URI. The name is added in lower case. At the end, the names that no
+/// other covers are written.
 #[derive(Clone, Copy, Debug, PartialEq, Eq)]
 pub struct Cover;
 

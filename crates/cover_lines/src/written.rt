@@ -35,7 +35,7 @@ impl Table for NameLines<'_> {
     }
 }
 
-fn push_name(alloc: Global, page: &mut Page, name: &Wfn) -> Result<(), AllocError>
+fn push_cover_name(alloc: Global, page: &mut Page, name: &Wfn) -> Result<(), AllocError>
     ensures { OnOk result (page.new ≡ page.old ++ fs_text name.now) }
 {
     page.with_bytes(alloc, |bytes| append_fs(bytes, name))
@@ -45,7 +45,7 @@ fn push_name(alloc: Global, page: &mut Page, name: &Wfn) -> Result<(), AllocErro
 fn push_name_line(alloc: Global, page: &mut Page, name: &Wfn) -> Result<(), AllocError>
     ensures { OnOk result (page.new ≡ page.old ++ name_line name.now) }
 {
-    push_name(alloc, page, name)?;
+    push_cover_name(alloc, page, name)?;
     page.push(b"\n")
 }
 

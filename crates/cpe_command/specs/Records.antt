@@ -13,7 +13,7 @@ use Rattle.cpe_rows.specs.declared.fault.EditFault.{EditFault}
 use Rattle.cpe_records.specs.Reading.{record_of}
 use Rattle.cpe_records.specs.declared.read.Record.{Record}
 use Rattle.cpe_records.specs.declared.read.Record.TheVariants.{Edit, Query}
-use Rattle.cpe_records.specs.record_members.declared.member.RecordFault.{RecordFault}
+use Rattle.cpe_records.specs.declared.member.RecordFault.{RecordFault}
 use Rattle.drill_lines.specs.Looks.{record_looks}
 use Rattle.cpe_records.specs.snapshot_bytes.States.{snapshot}
 use Rattle.line_replies.specs.Replies.{reply_text, verdict_table, changes_text}

@@ -40,7 +40,7 @@ impl Model for GrowingEntries {
 }
 
 // Adds an entry at the end. Its name has the number `id` in the table.
-fn put_last(
+fn append_entry(
     table: &NameTable,
     names: &mut GrowingNames,
     all: &mut Vec<EntryDetails>,
@@ -231,7 +231,7 @@ impl GrowingEntries {
             provenance,
             deprecation: None,
         };
-        put_last(table, &mut self.names, &mut self.details, id, details);
+        append_entry(table, &mut self.names, &mut self.details, id, details);
     }
 
     /// Memory for a further note of the entry at a place; [`rewrite_at`](GrowingEntries::rewrite_at) needs it. If no

@@ -10,11 +10,11 @@
 //! changes nothing. [`Dictionary::ends_after`] finds the ends that an entry would have after a planned change. Then all
 //! memory for the change is taken. The change itself can't fail. The cost of a plan grows with the number of entries
 //! that lead to the changed entry, or to which it leads. The cost of a chain grows with the number of its entries. A
-//! search looks only at entries whose product is near the product of the given name. It counts a step for each look.
+//! search looks only at entries whose product is near the product of the given name. Each look counts as one step.
 //!
-//! Deprecations are also stored as a graph: node k of the graph is entry k. The laws of [`chains_by_number`] and the
-//! functions beside it say that the entries and the graph have the same paths and the same changes. They also say which
-//! changes the graph can check.
+//! Deprecations are also stored as a graph: node k of the graph is entry k. By the law [`chains_by_number`] and the laws
+//! beside it, the entries and the graph have the same paths, and an edit of an entry's deprecation is a change of its
+//! node. They also say which changes the graph can check.
 #![tactic(auto)]
 
 mod adding;

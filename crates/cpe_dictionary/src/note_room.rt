@@ -37,7 +37,7 @@ fn count_places(notes: &[Note]) -> usize
 }
 
 // Adds a note at the end. If the memory of the notes is full, all notes are moved into the memory of the room.
-fn put_last(mut notes: Vec<Note>, note: Note, mut room: Vec<Note>) -> Vec<Note>
+fn append_note(mut notes: Vec<Note>, note: Note, mut room: Vec<Note>) -> Vec<Note>
     requires empty { room.items ≡ [] }
     requires room { length notes.items + 1 ≤ vec_capacity room }
     ensures { result.items ≡ notes.items ++ note ∷ [] }
@@ -87,6 +87,6 @@ impl NoteRoom {
         ensures { result.items ≡ notes.items ++ note ∷ [] }
     {
         let NoteRoom { notes: room } = self;
-        put_last(notes, note, room)
+        append_note(notes, note, room)
     }
 }

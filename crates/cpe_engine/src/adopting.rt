@@ -22,11 +22,12 @@ pub enum AdoptFault {
 }
 
 impl Engine {
-    /// The engine after each entry gets the deprecation at its place in the list, or none. Notes are unchanged. So an engine
-    /// takes over lawful rows from elsewhere. Single edits might be refused for what entries lead to between two edits.
+    /// The engine after each entry gets the deprecation at its place in the list, or none. Notes are unchanged. So an
+    /// engine takes over lawful rows from elsewhere. Single edits might be refused for what entries lead to between two
+    /// edits.
     ///
-    /// The engine has only active entries, and the list has one place for each. Time is proportional to the number of entries and
-    /// successors.
+    /// The engine has only active entries, and the list has one place for each. Time is proportional to the number of
+    /// entries and successors.
     ///
     /// # Errors
     /// [`AdoptFault::Unlawful`] if the rows would not be lawful; or that memory ran out. The engine is then dropped.

@@ -54,7 +54,8 @@ impl Engine {
         }
     }
 
-    /// Drops the engine, with all that it keeps. A crate that calls it need not prove how each part of an engine is dropped.
+    /// Drops the engine, with all that it keeps. A crate that calls it need not prove how each part of an engine is
+    /// dropped.
     pub fn discard(self) {
         drop(self);
     }
@@ -100,7 +101,8 @@ impl Engine {
         self.parts.registry.dictionary().len()
     }
 
-    /// The entry at a place from 0, as a reference. There is none exactly if the place is the number of entries or more.
+    /// The entry at a place from 0, as a reference. There is none exactly if the place is the number of entries or
+    /// more.
     pub fn entry_at(&self, k: usize) -> Option<EntryRef<'_>>
         ensures { option_map entry_lent result ≡ slice_get self.now.entries k }
     {
@@ -131,8 +133,8 @@ impl Engine {
         self.parts.registry.items_len()
     }
 
-    /// The items in their order, by slots. The slot of a removed item may stay empty, so the place of an item in the list isn't
-    /// always its slot. There are at most twice as many slots as items.
+    /// The items in their order, by slots. The slot of a removed item may stay empty, so the place of an item in the
+    /// list isn't always its slot. There are at most twice as many slots as items.
     pub fn item_slots(&self) -> ItemSlots<'_>
         ensures names { filter_map (λ slot. slot) result ≡ self.now.items }
         ensures dense { length result ≤ length self.now.items + length self.now.items }
@@ -147,8 +149,8 @@ impl Engine {
         self.parts.verdicts.results().len()
     }
 
-    /// The check at a place from 0 in the list of kept results, with its result. There is none exactly if the place is the number
-    /// of kept results or more.
+    /// The check at a place from 0 in the list of kept results, with its result. There is none exactly if the place is
+    /// the number of kept results or more.
     pub fn check_at(&self, k: usize) -> Option<(&CheckKey, Truth)>
         ensures { option_map (λ p. (p.0.now, p.1)) result ≡ slice_get self.now.checks k }
     {
@@ -169,8 +171,8 @@ impl Engine {
         self.parts.verdicts.len()
     }
 
-    /// The statement at a place from 0, with its verdict (NIST IR 7698), which is kept. There is none exactly if the place is the
-    /// number of statements or more.
+    /// The statement at a place from 0, with its verdict (NIST IR 7698), which is kept. There is none exactly if the
+    /// place is the number of statements or more.
     pub fn statement_at(&self, k: usize) -> Option<(&Statement, Truth)>
         ensures statement { option_map (λ p. p.0.now) result ≡ slice_get self.now.statements k }
         ensures verdict { option_map (λ p. p.1) result ≡ option_map (verdict self.now) (slice_get self.now.statements k) }
@@ -178,15 +180,15 @@ impl Engine {
         self.parts.verdicts.at(k)
     }
 
-    /// The verdicts that an edit changes, in the order of the statements. It makes the edit, and takes all memory before the
-    /// first change.
+    /// The verdicts that an edit changes, in the order of the statements. It makes the edit, and takes all memory
+    /// before the first change.
     ///
     /// The edit is valid ([`Edit::valid`]), so the rows stay lawful ([`rows_stay_lawful`]).
     ///
-    /// A step is a look at a name through an index. An item that is added or removed takes steps for the names near it and near
-    /// its ends. A new statement takes them for each of its facts. A change of a deprecation takes them for the ends, before and
-    /// after it, of all names that lead to the entry. All other edits take no step. An edit that is refused, or for which memory
-    /// runs out, takes none.
+    /// A step is a look at a name through an index. An item that is added or removed takes steps for the names near it
+    /// and near its ends. A new statement takes them for each of its facts. A change of a deprecation takes them for
+    /// the ends, before and after it, of all names that lead to the entry. All other edits take no step. An edit that
+    /// is refused, or for which memory runs out, takes none.
     ///
     /// # Errors
     /// The first fault of the edit in the order of [`EditFault`], or that memory ran out. The rows are then unchanged.
@@ -204,12 +206,12 @@ impl Engine {
         self.parts.apply(self.alloc, edit, steps)
     }
 
-    /// The answer to a query. If there is no entry or statement of the asked name or id, the answer says so. The name or id is
-    /// moved into the answer. The query is valid ([`Query::valid`]).
+    /// The answer to a query. If there is no entry or statement of the asked name or id, the answer says so. The name
+    /// or id is moved into the answer. The query is valid ([`Query::valid`]).
     ///
-    /// A step is a look at a name through an index. A search takes at most one for each entry to whose product the product of the
-    /// asked name is near. A query for items takes at most one for each item whose product it meets. Each other query takes none.
-    /// A verdict is kept, so none is evaluated.
+    /// A step is a look at a name through an index. A search takes at most one for each entry to whose product the
+    /// product of the asked name is near. A query for items takes at most one for each item whose product it meets.
+    /// Each other query takes none. A verdict is kept, so none is evaluated.
     ///
     /// # Errors
     /// Only that memory ran out.

@@ -23,8 +23,8 @@ fn truth_of(is_covered: bool, may_be: bool) -> Truth
 }
 
 impl Engine {
-    /// The item at a place from 0. There is none exactly if the place is the number of items or more. If no slot is empty, it is
-    /// found in one step; else the slots before it are passed one by one. Allocates: no.
+    /// The item at a place from 0. There is none exactly if the place is the number of items or more. If no slot is
+    /// empty, it is found in one step; else the slots before it are passed one by one. Allocates: no.
     pub fn item_at(&self, k: usize) -> Option<&Wfn>
         ensures { option_copied result ≡ slice_get self.now.items k }
     {
@@ -52,8 +52,8 @@ impl Engine {
         }
     }
 
-    // The first item that a name covers or may cover in a mode, as `relates` says. It is found by products if the name is in
-    // lower case. The name of each fact of a statement is in lower case.
+    // The first item that a name covers or may cover in a mode, as `relates` says. It is found by products if the name
+    // is in lower case. The name of each fact of a statement is in lower case.
     fn sought_item(
         &self,
         alloc: Global,

@@ -100,7 +100,8 @@ fn is_met(
     Ok(one_relates(relates, fact_ends, &item_ends))
 }
 
-/// The first item with an end that some end of the name covers or may cover, as `relates` says. It compares the items one by one.
+/// The first item with an end that some end of the name covers or may cover, as `relates` says. It compares the items
+/// one by one.
 ///
 /// # Errors
 /// Only that memory ran out.
@@ -139,7 +140,8 @@ fn leads_of<'a>(
     }
 }
 
-// The items that lead, in a mode, to a name that this name covers or may cover, as `relates` says. This name is in lower case.
+// The items that lead, in a mode, to a name that this name covers or may cover, as `relates` says. This name is in
+// lower case.
 fn items_shown(
     registry: &Registry,
     verdicts: &Verdicts,
@@ -159,8 +161,8 @@ fn items_shown(
     }
 }
 
-// The items that lead, in a mode, to a name that some of these names covers or may cover, as `relates` says. These names are in
-// lower case.
+// The items that lead, in a mode, to a name that some of these names covers or may cover, as `relates` says. These
+// names are in lower case.
 fn all_shown(
     registry: &Registry,
     verdicts: &Verdicts,
@@ -182,8 +184,8 @@ fn all_shown(
     Ok(all)
 }
 
-/// The first item that a name covers or may cover in a mode, as `relates` says: some name to which the name leads is so related
-/// to some name to which the item leads. The name is in lower case. The item is found by products.
+/// The first item that a name covers or may cover in a mode, as `relates` says: some name to which the name leads is so
+/// related to some name to which the item leads. The name is in lower case. The item is found by products.
 ///
 /// # Errors
 /// Only that memory ran out.

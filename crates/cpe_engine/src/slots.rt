@@ -22,8 +22,8 @@ fn nth_item<'t>(slots: &ItemSlots<'t>, k: usize) -> Option<&'t Wfn>
     None
 }
 
-/// The item at a place in the list of items, whose length is `count`. Some slots may be empty. If none is, the item is found in
-/// one step.
+/// The item at a place in the list of items, whose length is `count`. Some slots may be empty. If none is, the item is
+/// found in one step.
 pub(crate) fn item_of<'t>(slots: &ItemSlots<'t>, count: usize, k: usize) -> Option<&'t Wfn>
     requires { count ≡ length (filter_map (λ slot. slot) slots.now) }
     ensures { option_copied result ≡ slice_get (filter_map (λ slot. slot) slots.now) k }

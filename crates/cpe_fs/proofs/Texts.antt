@@ -85,7 +85,7 @@ pub ends_fail : (passes : ℕ → Bool) (r : List ℕ) → passes 58 ≡ false �
 ends_fail passes [] never h = tt
 ends_fail passes (c ∷ s) never h = rw h never
 
--- a body with its trail doesn't continue at the end of a component
+-- where a component ends, no byte follows that could extend a body or its trail
 stem_ends : (r : List ℕ) → Ends r → texts.EndsStem style.Formatted r
 stem_ends r h = record { star = ends_fail is_star r refl h; mark = ends_fail is_mark r refl h; body = ends_fail (starts_body style.Formatted) r refl h }
 

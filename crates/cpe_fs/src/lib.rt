@@ -43,9 +43,9 @@ pub const BOUND_FRAME: usize = 29;
 /// Why no name was read from a text.
 #[derive(Clone, Copy, Debug, PartialEq, Eq, Error)]
 pub enum FsFault {
-    /// No name has this text. The number is the place of the text: the length of its longest beginning that is also the
-    /// beginning of a formatted string. The text has an error at the byte after that beginning, or ends there too
-    /// early.
+    /// No name has this text. The number is the place at which the text goes wrong: the length of its longest beginning
+    /// that is also the beginning of a formatted string. The text has an error at the byte after that beginning, or
+    /// ends there too early.
     #[error("no name has this text: it goes wrong at byte {0}")]
     At(usize),
     /// Memory ran out.

@@ -1,3 +1,20 @@
+pub mod AllFrom
+pub mod Lists
+pub mod LineLemmas
+pub mod LowerNames
+pub mod YieldLemmas
+pub mod ReadLemmas
+pub mod NamesRead
+pub mod FilledNames
+pub mod Depths
+pub mod DraftDepth
+pub mod Drafts
+pub mod FormedTests
+pub mod InTurn
+pub mod SoundTests
+pub mod StatementTests
+pub mod BuiltTests
+pub mod WrittenTests
 mod Contents
 mod Lexemes
 pub mod Values
@@ -7,4 +24,3 @@ pub mod ValidRecords
 pub mod Strings
 pub mod TestReads
 pub mod RecordReads
-pub use Rattle.record_members.proofs as record_members

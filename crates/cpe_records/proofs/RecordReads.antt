@@ -22,19 +22,19 @@ use Rattle.cpe_rows.specs.declared.entry.Entry.{Entry}
 use Rattle.cpe_rows.specs.declared.entry.Note.{Note}
 use Rattle.cpe_rows.specs.declared.entry.Provenance.{Provenance}
 use Rattle.cpe_rows.specs.declared.statement.Statement.{Statement}
-use Rattle.record_members.specs.FirstFault.{◌>>=◌, all_from}
-use Rattle.record_members.specs.Forms.{required_member, tested, member_at, text_in, text_at, word_at, text_or_empty, flag_or_false, date_at, list_or_empty}
-use Rattle.record_members.specs.Formats.{format_at}
-use Rattle.record_members.specs.Keys.{key_of}
-use Rattle.record_members.specs.Line.{json_value_of}
-use Rattle.record_members.specs.Names.{name_at, successors_at}
-use Rattle.record_members.specs.Provenance.{note_kind_in, note_in, provenance_in, provenance_or_empty}
-use Rattle.record_members.specs.Tests.{test_at}
-use Rattle.record_members.specs.Words.{kind_of, truth_of_word}
-use Rattle.record_members.specs.declared.format.Format.{Format}
-use Rattle.record_members.specs.declared.member.Member.{Member}
-use Rattle.record_members.specs.declared.member.Member.TheVariants as member
-use Rattle.record_members.specs.declared.member.RecordFault.{RecordFault}
+use Rattle.cpe_records.specs.FirstFault.{◌>>=◌, all_from}
+use Rattle.cpe_records.specs.Forms.{required_member, tested, member_at, text_in, text_at, word_at, text_or_empty, flag_or_false, date_at, list_or_empty}
+use Rattle.cpe_records.specs.Formats.{format_at}
+use Rattle.cpe_records.specs.Keys.{key_of}
+use Rattle.cpe_records.specs.Line.{json_value_of}
+use Rattle.cpe_records.specs.Names.{name_at, successors_at}
+use Rattle.cpe_records.specs.Provenance.{note_kind_in, note_in, provenance_in, provenance_or_empty}
+use Rattle.cpe_records.specs.Tests.{test_at}
+use Rattle.cpe_records.specs.Words.{kind_of, truth_of_word}
+use Rattle.cpe_records.specs.declared.format.Format.{Format}
+use Rattle.cpe_records.specs.declared.member.Member.{Member}
+use Rattle.cpe_records.specs.declared.member.Member.TheVariants as member
+use Rattle.cpe_records.specs.declared.member.RecordFault.{RecordFault}
 use Rattle.cpe_records.specs.Kinds.{comment_at, statement_id_at, mode_at, description_in, entry_in, remark_in, change_in, deprecation_in, restore_in, statement_in, key_at, check_in, search_in}
 use Rattle.cpe_records.specs.Reading.{record_by, record_json_of, record_of}
 use Rattle.cpe_records.specs.RecordKinds.{record_kind_of}
@@ -48,9 +48,9 @@ use Rattle.cpe_records.specs.declared.record_kind.RecordKind.{RecordKind}
 use Rattle.cpe_records.specs.declared.record_kind.RecordKind.TheVariants as record_kind
 use Rattle.snapshot_bytes.specs.States.{IsString, IsTextEntry, IsTextKey, IsTextStatement}
 use Rattle.cpe_records.specs.Read.{IsReadTest, IsReadEdit, IsReadQuery, IsRead}
-use Rattle.record_members.proofs.ReadLemmas.{then_if, behind_if, all_if, required_if, some_if, tested_if}
+use Rattle.cpe_records.proofs.ReadLemmas.{then_if, behind_if, all_if, required_if, some_if, tested_if}
 use Rattle.cpe_records.proofs.Strings.{get_has, text_in_is, text_at_is, text_or_empty_is, list_or_empty_has, empty_is}
-use Rattle.record_members.proofs.NamesRead.{name_is, successors_are}
+use Rattle.cpe_records.proofs.NamesRead.{name_is, successors_are}
 use Rattle.cpe_records.proofs.TestReads.{test_is}
 
 -- ---- members

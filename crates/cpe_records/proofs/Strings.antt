@@ -10,11 +10,11 @@ use Rattle.std.proofs.lemmas.Str.{is_utf8-from_IsUtf8, IsUtf8-nil}
 use Rattle.serde_json.specs.Data.{Data, null, boolean, number, string, array, object, Items, no_items, item, Members, no_members, member}
 use Rattle.serde_json.specs.Find.{get_member, get, as_str, as_array}
 use Rattle.cpe_records.specs.JsonTexts.{HasTexts, HaveTexts, MembersHaveTexts}
-use Rattle.record_members.specs.Forms.{or_default, text_in, text_at, text_or_empty, list_of_items, list_or_empty}
-use Rattle.record_members.specs.Keys.{key_of}
-use Rattle.record_members.specs.declared.member.Member.{Member}
+use Rattle.cpe_records.specs.Forms.{or_default, text_in, text_at, text_or_empty, list_of_items, list_or_empty}
+use Rattle.cpe_records.specs.Keys.{key_of}
+use Rattle.cpe_records.specs.declared.member.Member.{Member}
 use Rattle.snapshot_bytes.specs.States.{IsString}
-use Rattle.record_members.proofs.ReadLemmas.{required_if, some_if, map_if, default_if}
+use Rattle.cpe_records.proofs.ReadLemmas.{required_if, some_if, map_if, default_if}
 
 members_have : (k : List ℕ) (ms : Members) → MembersHaveTexts ms → IfSome (get_member k ms) HasTexts
 members_have k no_members h = tt

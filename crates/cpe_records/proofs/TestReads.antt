@@ -15,12 +15,12 @@ use Rattle.cpe_rows.specs.declared.test.Test.TheOpen.{Test-F}
 use Rattle.cpe_rows.specs.declared.test.Test.TheFolds.{fold-roll-Test}
 use Rattle.cpe_rows.specs.declared.test.Test.TheVariants as test_rolls
 use Rattle.cpe_rows.proofs.TestNames.{names-logic}
-use Rattle.record_members.specs.Forms.{text_in}
-use Rattle.record_members.specs.Tests.{part_in, key_in, test_at}
-use Rattle.record_members.specs.declared.format.Format.{Format}
-use Rattle.record_members.specs.declared.member.Member.TheVariants as part
-use Rattle.record_members.proofs.BuiltTests.{test_built}
-use Rattle.record_members.proofs.ReadLemmas.{then_if, required_if}
+use Rattle.cpe_records.specs.Forms.{text_in}
+use Rattle.cpe_records.specs.Tests.{part_in, key_in, test_at}
+use Rattle.cpe_records.specs.declared.format.Format.{Format}
+use Rattle.cpe_records.specs.declared.member.Member.TheVariants as part
+use Rattle.cpe_records.proofs.BuiltTests.{test_built}
+use Rattle.cpe_records.proofs.ReadLemmas.{then_if, required_if}
 use Rattle.snapshot_bytes.specs.States.{IsString, IsTextKey, keys_of, stored_keys_step}
 use Rattle.cpe_records.specs.Read.{IsReadTest}
 use Rattle.cpe_records.proofs.Strings.{text_in_is}

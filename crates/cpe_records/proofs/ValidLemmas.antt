@@ -12,20 +12,20 @@ use Rattle.cpe_rows.specs.declared.edit.Query.{Query}
 use Rattle.cpe_rows.specs.declared.entry.Deprecation.{Deprecation}
 use Rattle.cpe_rows.specs.declared.entry.Entry.{Entry}
 use Rattle.cpe_rows.specs.cpe_name.Eleven.{Values}
-use Rattle.record_members.specs.FirstFault.{Yields}
-use Rattle.record_members.proofs.YieldLemmas.{then_yields, behind, tested_yields}
-use Rattle.record_members.proofs.LowerNames.{name_lower, successors_lower}
-use Rattle.record_members.specs.Keys.{key_of}
-use Rattle.record_members.specs.Words.{kind_of, truth_of_word}
-use Rattle.record_members.specs.Forms.{word_at, flag_or_false, text_in}
-use Rattle.record_members.specs.Names.{name_at, successors_at}
-use Rattle.record_members.specs.declared.format.Format.{Format}
+use Rattle.cpe_records.specs.FirstFault.{Yields}
+use Rattle.cpe_records.proofs.YieldLemmas.{then_yields, behind, tested_yields}
+use Rattle.cpe_records.proofs.LowerNames.{name_lower, successors_lower}
+use Rattle.cpe_records.specs.Keys.{key_of}
+use Rattle.cpe_records.specs.Words.{kind_of, truth_of_word}
+use Rattle.cpe_records.specs.Forms.{word_at, flag_or_false, text_in}
+use Rattle.cpe_records.specs.Names.{name_at, successors_at}
+use Rattle.cpe_records.specs.declared.format.Format.{Format}
 use Rattle.cpe_records.specs.Kinds.{statement_id_at, description_in, entry_in, remark_in, change_in, deprecation_in, restore_in, key_at, check_in, search_in}
 use Rattle.cpe_records.specs.Taken.{is_valid_record}
 use Rattle.cpe_records.specs.declared.read.Record.TheVariants as TheRecord
 use Rattle.cpe_records.specs.declared.kinds.DeprecationChange.{DeprecationChange}
-use Rattle.record_members.specs.declared.member.Member.TheVariants as member
-use Rattle.record_members.specs.declared.member.RecordFault.TheVariants as fault
+use Rattle.cpe_records.specs.declared.member.Member.TheVariants as member
+use Rattle.cpe_records.specs.declared.member.RecordFault.TheVariants as fault
 
 abbrev pub as_edit : Edit → Bool
 as_edit e = is_valid_record (TheRecord.Edit e)

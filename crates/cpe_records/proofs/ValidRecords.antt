@@ -6,31 +6,31 @@ use Rattle.serde_json.specs.Data.{Data}
 use Rattle.cpe_rows.specs.cpe_name.Eleven.{Values}
 use Rattle.cpe_rows.specs.Names.{is_lower}
 use Rattle.cpe_rows.specs.Valid.{is_id, is_statement_test}
-use Rattle.record_members.specs.Gives.{◌>>=◌, ReadsMember}
+use Rattle.cpe_records.specs.Gives.{◌>>=◌, ReadsMember}
 use Rattle.cpe_records.specs.RecordKinds.{record_kind_of}
-use Rattle.record_members.specs.Forms.{word_at, text_or_empty}
-use Rattle.record_members.specs.Names.{name_at}
-use Rattle.record_members.specs.Formats.{format_at}
-use Rattle.record_members.specs.declared.format.Format.{Format}
-use Rattle.record_members.specs.Tests.{test_at}
+use Rattle.cpe_records.specs.Forms.{word_at, text_or_empty}
+use Rattle.cpe_records.specs.Names.{name_at}
+use Rattle.cpe_records.specs.Formats.{format_at}
+use Rattle.cpe_records.specs.declared.format.Format.{Format}
+use Rattle.cpe_records.specs.Tests.{test_at}
 use Rattle.cpe_records.specs.Kinds.{statement_id_at, entry_in, deprecation_in, restore_in, key_at, check_in, search_in, statement_in, mode_at}
 use Rattle.cpe_rows.specs.declared.edit.Edit.{Edit}
 use Rattle.cpe_rows.specs.declared.edit.Edit.TheVariants as edit
 use Rattle.cpe_rows.specs.declared.statement.Statement.{Statement}
 use Rattle.cpe_records.specs.Taken.{is_valid_record}
 use Rattle.cpe_records.specs.Reading.{record_by, record_of, record_json_of}
-use Rattle.record_members.specs.Line.{json_value_of}
+use Rattle.cpe_records.specs.Line.{json_value_of}
 use Rattle.cpe_records.specs.declared.read.Record.{Record}
 use Rattle.cpe_records.specs.declared.read.Record.TheVariants as TheRecord
 use Rattle.cpe_records.specs.declared.record_kind.RecordKind.{RecordKind}
 use Rattle.cpe_records.specs.declared.record_kind.RecordKind.TheVariants as record_kind
-use Rattle.record_members.specs.declared.member.Member.TheVariants as member
-use Rattle.record_members.specs.declared.member.RecordFault.{RecordFault}
-use Rattle.record_members.specs.FirstFault.{Yields}
-use Rattle.record_members.proofs.YieldLemmas.{then_yields, behind}
-use Rattle.record_members.proofs.LowerNames.{name_lower}
+use Rattle.cpe_records.specs.declared.member.Member.TheVariants as member
+use Rattle.cpe_records.specs.declared.member.RecordFault.{RecordFault}
+use Rattle.cpe_records.specs.FirstFault.{Yields}
+use Rattle.cpe_records.proofs.YieldLemmas.{then_yields, behind}
+use Rattle.cpe_records.proofs.LowerNames.{name_lower}
 use Rattle.cpe_records.proofs.ValidLemmas.{entry_valid, deprecate_valid, amend_valid, restore_valid, check_valid, search_valid, id_valid, is_new, as_edit, as_query}
-use Rattle.record_members.proofs.StatementTests.{test_at_valid}
+use Rattle.cpe_records.proofs.StatementTests.{test_at_valid}
 
 -- whether the id and the test of a statement have their forms
 abbrev is_whole : Statement → Bool

@@ -14,18 +14,18 @@ use Rattle.cpe_rows.specs.declared.edit.Edit.{Edit}
 use Rattle.cpe_rows.specs.declared.edit.Edit.TheVariants as edit
 use Rattle.cpe_rows.specs.declared.edit.Query.{Query}
 use Rattle.cpe_rows.specs.declared.edit.Query.TheVariants as query
-use Rattle.record_members.specs.Gives.{◌>>=◌}
-use Rattle.record_members.specs.Words.{kind_of, mode_of, truth_of_word}
-use Rattle.record_members.specs.Forms.{required_member, or_default, tested, member_at, text_at, word_at, text_or_empty, flag_or_false, date_at}
-use Rattle.record_members.specs.Names.{name_at, successors_at}
-use Rattle.record_members.specs.declared.format.Format.{Format}
-use Rattle.record_members.specs.Provenance.{provenance_or_empty}
-use Rattle.record_members.specs.Tests.{test_at}
+use Rattle.cpe_records.specs.Gives.{◌>>=◌}
+use Rattle.cpe_records.specs.Words.{kind_of, mode_of, truth_of_word}
+use Rattle.cpe_records.specs.Forms.{required_member, or_default, tested, member_at, text_at, word_at, text_or_empty, flag_or_false, date_at}
+use Rattle.cpe_records.specs.Names.{name_at, successors_at}
+use Rattle.cpe_records.specs.declared.format.Format.{Format}
+use Rattle.cpe_records.specs.Provenance.{provenance_or_empty}
+use Rattle.cpe_records.specs.Tests.{test_at}
 use Rattle.cpe_records.specs.declared.kinds.Description.{Description}
 use Rattle.cpe_records.specs.declared.kinds.Remark.{Remark}
 use Rattle.cpe_records.specs.declared.kinds.DeprecationChange.{DeprecationChange}
-use Rattle.record_members.specs.declared.member.Member.TheVariants as member
-use Rattle.record_members.specs.declared.member.RecordFault.{RecordFault}
+use Rattle.cpe_records.specs.declared.member.Member.TheVariants as member
+use Rattle.cpe_records.specs.declared.member.RecordFault.{RecordFault}
 
 -- ---- forms of single members
 

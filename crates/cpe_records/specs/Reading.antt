@@ -3,21 +3,21 @@ use Rattle.std.specs.Prelude.{ℕ, List, Option, Result, Ok, ok_or}
 use Rattle.serde_json.specs.Data.{Data}
 use Rattle.cpe_rows.specs.declared.edit.Edit.TheVariants as edit
 use Rattle.cpe_rows.specs.declared.edit.Query.TheVariants as query
-use Rattle.record_members.specs.Gives.{◌>>=◌}
-use Rattle.record_members.specs.Line.{json_value_of}
+use Rattle.cpe_records.specs.Gives.{◌>>=◌}
+use Rattle.cpe_records.specs.Line.{json_value_of}
 use Rattle.cpe_records.specs.RecordKinds.{record_kind_of}
-use Rattle.record_members.specs.Forms.{word_at}
-use Rattle.record_members.specs.Formats.{format_at}
-use Rattle.record_members.specs.declared.format.Format.{Format}
-use Rattle.record_members.specs.Names.{name_at}
+use Rattle.cpe_records.specs.Forms.{word_at}
+use Rattle.cpe_records.specs.Formats.{format_at}
+use Rattle.cpe_records.specs.declared.format.Format.{Format}
+use Rattle.cpe_records.specs.Names.{name_at}
 use Rattle.cpe_records.specs.Kinds.{statement_id_at, entry_in, deprecation_in, restore_in, statement_in, key_at, check_in, search_in}
 use Rattle.cpe_records.specs.declared.read.Record.{Record}
 use Rattle.cpe_records.specs.declared.read.Record.TheVariants.{Edit, Query}
 use Rattle.cpe_records.specs.declared.record_kind.RecordKind.{RecordKind}
 use Rattle.cpe_records.specs.declared.record_kind.RecordKind.TheVariants as record_kind
-use Rattle.record_members.specs.declared.member.Member.TheVariants as member
-use Rattle.record_members.specs.declared.member.RecordFault.{RecordFault}
-use Rattle.record_members.specs.declared.member.RecordFault.TheVariants as fault
+use Rattle.cpe_records.specs.declared.member.Member.TheVariants as member
+use Rattle.cpe_records.specs.declared.member.RecordFault.{RecordFault}
+use Rattle.cpe_records.specs.declared.member.RecordFault.TheVariants as fault
 
 -- the record of this kind, by its members in this format
 abbrev pub record_by : RecordKind → Format → Data → Result Record RecordFault

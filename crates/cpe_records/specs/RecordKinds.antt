@@ -1,6 +1,6 @@
 -- The kind of a record, by its member `do`.
 use Rattle.std.specs.Prelude.{ℕ, List, [], ◌∷◌, codes, Option}
-use Rattle.record_members.specs.Words.{spelled_word}
+use Rattle.cpe_records.specs.Words.{spelled_word}
 use Rattle.cpe_records.specs.declared.record_kind.RecordKind.{RecordKind}
 use Rattle.cpe_records.specs.declared.record_kind.RecordKind.TheVariants.{Entry, Deprecate, Amend, Restore, Item, DropItem, Statement, DropStatement, Check, DropCheck, Lookup, Search, Items, Chain, Show, Verdict}
 

@@ -5,18 +5,20 @@ ghost use Rattle.serde_json.specs.View.{view};
 ghost use Rattle.serde_json.specs.Find.{as_str};
 ghost use Rattle.cpe_rows.specs.Valid.{is_id};
 ghost use Rattle.cpe_rows.specs.declared.edit.Edit.TheVariants as edit;
-ghost use Rattle.record_members.specs.Words.{kind_of, mode_of, truth_of_word};
-ghost use Rattle.record_members.specs.Gives.{ReadsMember};
-ghost use Rattle.record_members.specs.Forms.{word_at};
+ghost use Rattle.cpe_records.specs.Words.{kind_of, mode_of, truth_of_word};
+ghost use Rattle.cpe_records.specs.Gives.{ReadsMember};
+ghost use Rattle.cpe_records.specs.Forms.{word_at};
 ghost use Rattle.cpe_records.specs.Kinds.{comment_at, statement_id_at, mode_at, description_in, entry_in, remark_in, change_in, deprecation_in, restore_in, statement_in, key_at, check_in, search_in};
 
+use crate::draft::test_at;
+use crate::form::{date_at, flag_or_false, text_at, text_of, text_or_empty};
+use crate::name::{name_at, successors_at};
+use crate::provenance::provenance_or_empty;
+use crate::words::{kind_of, mode_of, truth_of};
+use crate::{Format, Member, RecordFault};
 use cpe_rows::{
     CheckKey, Date, Deprecation, Edit, Entry, Kind, Mode, Provenance, Query, Statement, Text,
     Truth, Wfn, is_id,
-};
-use record_members::{
-    Format, Member, RecordFault, date_at, flag_or_false, kind_of, mode_of, name_at,
-    provenance_or_empty, successors_at, test_at, text_at, text_of, text_or_empty, truth_of,
 };
 use serde_json::Value;
 use std::alloc::Global;
@@ -42,52 +44,52 @@ struct DeprecationChange {
     remark: Remark,
 }
 
-fn kind_at(source: &Value) -> Result<Kind, RecordFault>
-    ensures { ReadsMember result (word_at kind_of Member.Kind (view source.now)) }
+fn kind_at(json: &Value) -> Result<Kind, RecordFault>
+    ensures { ReadsMember result (word_at kind_of Member.Kind (view json.now)) }
 {
-    match text_of(source, Member::Kind) {
+    match text_of(json, Member::Kind) {
         Some(text) => kind_of(text).ok_or(RecordFault::Member(Member::Kind)),
         None => Err(RecordFault::Member(Member::Kind)),
     }
 }
 
-fn result_at(source: &Value) -> Result<Truth, RecordFault>
-    ensures { ReadsMember result (word_at truth_of_word Member.Result (view source.now)) }
+fn result_at(json: &Value) -> Result<Truth, RecordFault>
+    ensures { ReadsMember result (word_at truth_of_word Member.Result (view json.now)) }
 {
-    match text_of(source, Member::Result) {
+    match text_of(json, Member::Result) {
         Some(text) => truth_of(text).ok_or(RecordFault::Member(Member::Result)),
         None => Err(RecordFault::Member(Member::Result)),
     }
 }
 
-fn comment_at(alloc: Global, source: &Value) -> Result<Text, RecordFault>
-    ensures { ReadsMember result (comment_at (view source.now)) }
+fn comment_at(alloc: Global, json: &Value) -> Result<Text, RecordFault>
+    ensures { ReadsMember result (comment_at (view json.now)) }
 {
-    text_or_empty(alloc, source, Member::Comment, "comment")
+    text_or_empty(alloc, json, Member::Comment, "comment")
 }
 
 /// The id of a statement.
 #[inline(never)]
-pub(crate) fn id_at(alloc: Global, source: &Value) -> Result<Text, RecordFault>
-    ensures { ReadsMember result (statement_id_at (view source.now)) }
+pub(crate) fn id_at(alloc: Global, json: &Value) -> Result<Text, RecordFault>
+    ensures { ReadsMember result (statement_id_at (view json.now)) }
 {
-    match text_of(source, Member::Id) {
+    match text_of(json, Member::Id) {
         Some(text) if is_id(text) => Ok(Text::new(alloc, text)?),
         _ => Err(RecordFault::Member(Member::Id)),
     }
 }
 
-fn mode_in(source: &Value) -> Option<Mode>
-    ensures { result ≡ option_and_then mode_of (as_str (view source.now)) }
+fn mode_in(json: &Value) -> Option<Mode>
+    ensures { result ≡ option_and_then mode_of (as_str (view json.now)) }
 {
-    let text = source.as_str()?;
+    let text = json.as_str()?;
     mode_of(text)
 }
 
-fn mode_at(source: &Value) -> Result<Mode, RecordFault>
-    ensures { ReadsMember result (mode_at (view source.now)) }
+fn mode_at(json: &Value) -> Result<Mode, RecordFault>
+    ensures { ReadsMember result (mode_at (view json.now)) }
 {
-    match source.get(Member::Mode.key()) {
+    match json.get(Member::Mode.key()) {
         Some(value) => mode_in(value).ok_or(RecordFault::Member(Member::Mode)),
         None => Ok(Mode::Plain),
     }
@@ -104,22 +106,22 @@ fn refused<T>(_name: Wfn, fault: RecordFault) -> Result<T, RecordFault>
 }
 
 #[tactic(auto, unfolding(crate::specs::Kinds::description_in))]
-fn description_in(alloc: Global, source: &Value) -> Result<Description, RecordFault>
-    ensures { ReadsMember result (description_in (view source.now)) }
+fn description_in(alloc: Global, json: &Value) -> Result<Description, RecordFault>
+    ensures { ReadsMember result (description_in (view json.now)) }
 {
-    let title = text_or_empty(alloc, source, Member::Title, "title")?;
-    let provenance = provenance_or_empty(alloc, source.get("provenance"))?;
+    let title = text_or_empty(alloc, json, Member::Title, "title")?;
+    let provenance = provenance_or_empty(alloc, json.get("provenance"))?;
     Ok(Description { title, provenance })
 }
 
 /// An entry.
 #[tactic(auto, unfolding(crate::specs::Kinds::entry_in))]
 #[inline(never)]
-pub(crate) fn entry_in(alloc: Global, format: Format, source: &Value) -> Result<Entry, RecordFault>
-    ensures { ReadsMember result (entry_in format (view source.now)) }
+pub(crate) fn entry_in(alloc: Global, format: Format, json: &Value) -> Result<Entry, RecordFault>
+    ensures { ReadsMember result (entry_in format (view json.now)) }
 {
-    let name = name_at(alloc, format, source)?;
-    match description_in(alloc, source) {
+    let name = name_at(alloc, format, json)?;
+    match description_in(alloc, json) {
         Ok(Description { title, provenance }) => Ok(Entry {
             name,
             title,
@@ -131,25 +133,21 @@ pub(crate) fn entry_in(alloc: Global, format: Format, source: &Value) -> Result<
 }
 
 #[tactic(auto, unfolding(crate::specs::Kinds::remark_in))]
-fn remark_in(alloc: Global, source: &Value) -> Result<Remark, RecordFault>
-    ensures { ReadsMember result (remark_in (view source.now)) }
+fn remark_in(alloc: Global, json: &Value) -> Result<Remark, RecordFault>
+    ensures { ReadsMember result (remark_in (view json.now)) }
 {
-    let date = date_at(source, Member::Date)?;
-    let comment = comment_at(alloc, source)?;
+    let date = date_at(json, Member::Date)?;
+    let comment = comment_at(alloc, json)?;
     Ok(Remark { date, comment })
 }
 
 #[tactic(auto, unfolding(crate::specs::Kinds::change_in))]
-fn change_in(
-    alloc: Global,
-    format: Format,
-    source: &Value,
-) -> Result<DeprecationChange, RecordFault>
-    ensures { ReadsMember result (change_in format (view source.now)) }
+fn change_in(alloc: Global, format: Format, json: &Value) -> Result<DeprecationChange, RecordFault>
+    ensures { ReadsMember result (change_in format (view json.now)) }
 {
-    let kind = kind_at(source)?;
-    let successors = successors_at(alloc, format, source)?;
-    let remark = remark_in(alloc, source)?;
+    let kind = kind_at(json)?;
+    let successors = successors_at(alloc, format, json)?;
+    let remark = remark_in(alloc, json)?;
     Ok(DeprecationChange {
         deprecation: Deprecation { kind, successors },
         remark,
@@ -187,13 +185,13 @@ fn edit_of(name: Wfn, change: DeprecationChange, replaces: bool) -> Edit
 pub(crate) fn deprecation_in(
     alloc: Global,
     format: Format,
-    source: &Value,
+    json: &Value,
     replaces: bool,
 ) -> Result<Edit, RecordFault>
-    ensures { ReadsMember result (deprecation_in (if replaces then edit.Amend else edit.Deprecate) format (view source.now)) }
+    ensures { ReadsMember result (deprecation_in (if replaces then edit.Amend else edit.Deprecate) format (view json.now)) }
 {
-    let name = name_at(alloc, format, source)?;
-    match change_in(alloc, format, source) {
+    let name = name_at(alloc, format, json)?;
+    match change_in(alloc, format, json) {
         Ok(change) => Ok(edit_of(name, change, replaces)),
         Err(fault) => refused(name, fault),
     }
@@ -202,11 +200,11 @@ pub(crate) fn deprecation_in(
 /// An edit that makes an entry active again.
 #[tactic(auto, unfolding(crate::specs::Kinds::restore_in))]
 #[inline(never)]
-pub(crate) fn restore_in(alloc: Global, format: Format, source: &Value) -> Result<Edit, RecordFault>
-    ensures { ReadsMember result (restore_in format (view source.now)) }
+pub(crate) fn restore_in(alloc: Global, format: Format, json: &Value) -> Result<Edit, RecordFault>
+    ensures { ReadsMember result (restore_in format (view json.now)) }
 {
-    let name = name_at(alloc, format, source)?;
-    match remark_in(alloc, source) {
+    let name = name_at(alloc, format, json)?;
+    match remark_in(alloc, json) {
         Ok(Remark { date, comment }) => Ok(Edit::Restore {
             name,
             date,
@@ -222,14 +220,14 @@ pub(crate) fn restore_in(alloc: Global, format: Format, source: &Value) -> Resul
 pub(crate) fn statement_in(
     alloc: Global,
     format: Format,
-    source: &Value,
+    json: &Value,
 ) -> Result<Statement, RecordFault>
-    ensures { ReadsMember result (statement_in format (view source.now)) }
+    ensures { ReadsMember result (statement_in format (view json.now)) }
 {
-    let id = id_at(alloc, source)?;
-    let title = text_or_empty(alloc, source, Member::Title, "title")?;
-    let mode = mode_at(source)?;
-    let test = test_at(alloc, format, source)?;
+    let id = id_at(alloc, json)?;
+    let title = text_or_empty(alloc, json, Member::Title, "title")?;
+    let mode = mode_at(json)?;
+    let test = test_at(alloc, format, json)?;
     Ok(Statement {
         id,
         title,
@@ -241,34 +239,34 @@ pub(crate) fn statement_in(
 /// The key of a check: its system, href and id.
 #[tactic(auto, unfolding(crate::specs::Kinds::key_at))]
 #[inline(never)]
-pub(crate) fn key_at(alloc: Global, source: &Value) -> Result<CheckKey, RecordFault>
-    ensures { ReadsMember result (key_at (view source.now)) }
+pub(crate) fn key_at(alloc: Global, json: &Value) -> Result<CheckKey, RecordFault>
+    ensures { ReadsMember result (key_at (view json.now)) }
 {
-    let system = text_at(alloc, source, Member::System)?;
-    let href = text_at(alloc, source, Member::Href)?;
-    let id = text_at(alloc, source, Member::Id)?;
+    let system = text_at(alloc, json, Member::System)?;
+    let href = text_at(alloc, json, Member::Href)?;
+    let id = text_at(alloc, json, Member::Id)?;
     Ok(CheckKey { system, href, id })
 }
 
 /// An edit that keeps the result of a check.
 #[tactic(auto, unfolding(crate::specs::Kinds::check_in))]
 #[inline(never)]
-pub(crate) fn check_in(alloc: Global, source: &Value) -> Result<Edit, RecordFault>
-    ensures { ReadsMember result (check_in (view source.now)) }
+pub(crate) fn check_in(alloc: Global, json: &Value) -> Result<Edit, RecordFault>
+    ensures { ReadsMember result (check_in (view json.now)) }
 {
-    let key = key_at(alloc, source)?;
-    let result = result_at(source)?;
+    let key = key_at(alloc, json)?;
+    let result = result_at(json)?;
     Ok(Edit::SetCheck { key, result })
 }
 
 /// A search for entries.
 #[tactic(auto, unfolding(crate::specs::Kinds::search_in))]
 #[inline(never)]
-pub(crate) fn search_in(alloc: Global, format: Format, source: &Value) -> Result<Query, RecordFault>
-    ensures { ReadsMember result (search_in format (view source.now)) }
+pub(crate) fn search_in(alloc: Global, format: Format, json: &Value) -> Result<Query, RecordFault>
+    ensures { ReadsMember result (search_in format (view json.now)) }
 {
-    let name = name_at(alloc, format, source)?;
-    match flag_or_false(source, Member::Active, "active") {
+    let name = name_at(alloc, format, json)?;
+    match flag_or_false(json, Member::Active, "active") {
         Ok(active_only) => Ok(Query::Search { name, active_only }),
         Err(fault) => refused(name, fault),
     }

@@ -24,18 +24,44 @@
 //! | `verdict` | `id` |
 //!
 //! The `id` of a statement has 1 to 256 visible characters of ASCII; `system`, `href` and `id` of a check are any
-//! texts. `record_members` describes the form of a statement's `test`, and `record_writer` the written form of a record.
+//! texts. `record_writer` describes the written form of a record.
+//!
+//! The test of a statement (NIST IR 7698) is an object. Its members show which kind of test it is. With `op` it is a
+//! logical test. It joins the children in the array `of`, one or more, by `AND` or by `OR`. If `negate` is `true`, it
+//! swaps TRUE and FALSE. Without `op`, an object with `fact` is a fact, with a name. Without either, an object with
+//! `check` is a check, with the texts `system`, `href` and `id` in an object.
+//!
+//! Lines of other kinds, such as certificates, share some of these forms. For these lines, the crate has readers of
+//! JSON values ([`value_of`], [`text_in`], [`flag_in`], [`array_in`]) and of names ([`unbound`], [`lowered`]). It also
+//! has the words that records use, such as [`truth_word`].
 //!
 //! [`json_law`] has laws of the kit's JSON (RFC 8259). The strings of a value that was read from UTF-8 are UTF-8. The
 //! printed form of such strings is UTF-8 too.
 #![tactic(auto)]
 
+mod draft;
+mod form;
+mod format;
 pub mod json_law;
 mod kinds;
 pub mod law;
+mod line;
+mod member;
+mod name;
+mod object;
+mod provenance;
 mod read;
 mod record_kind;
+mod words;
 
+pub use cpe_uri::UriFault;
+pub use form::{array_in, flag_in, text_in};
+pub use format::Format;
+pub use line::value_of;
+pub use member::{Member, NameSpot, RecordFault};
+pub use name::{lowered, unbound};
 pub use read::{Record, read_record};
 pub use record_kind::RecordKind;
-pub use record_members::{Format, Member, NameSpot, RecordFault};
+pub use words::{
+    attribute_word, kind_word, mode_word, note_kind_word, operator_word, truth_of, truth_word,
+};

@@ -93,8 +93,9 @@ fn repeats_before(body: &[u8], critical: usize, period: usize) -> bool
 }
 
 // The cut of a body. `critical` is the place where the body is cut. `shift` is the distance that the search moves if
-// the part before the cut doesn't match. If `repeats` is set, `shift` is the body's period: after the move, all but the last
-// `shift` bytes of the body are known to match, and aren't compared again. Otherwise `shift` is at most the period.
+// the part before the cut doesn't match. If `repeats` is set, `shift` is the body's period: after the move, all but the
+// last `shift` bytes of the body are known to match, and aren't compared again. Otherwise `shift` is at most the
+// period.
 #[derive(Clone, Copy, Debug)]
 pub(crate) struct Cut {
     pub(crate) critical: usize,

@@ -7,9 +7,10 @@
 //! allows. `*` allows any number of characters, `??` at most two, and an empty lead or trail none. So `sp??` matches
 //! `sp`, `sp1` and `sp12`. Each way to split the text is tried: `*ab` matches `abab`.
 //!
-//! [`compare_borrowed`] does the same for values whose text is stored elsewhere, such as in a line, and
-//! [`compare_lent`] for names of such values. [`relation_of_names`] computes the relation of two names from the
-//! relations of their attributes ([`Relations`]).
+//! [`compare_names`] returns the relations of all attributes ([`Relations`]) and the relation of the names. The names
+//! are DISJOINT if one attribute is DISJOINT. Otherwise they are EQUAL if all attributes are EQUAL, SUBSET if all are
+//! SUBSET or EQUAL, and SUPERSET if all are SUPERSET or EQUAL. Otherwise they are UNDEFINED. [`compare_lent`] does the
+//! same for names whose texts are stored elsewhere, such as in a line.
 //!
 //! If a name is compared with many targets, [`covers_in_order`] compares the deciding attributes first.
 //! [`deciding_order`] finds their order once.
@@ -21,7 +22,8 @@
 //! each attribute is SUPERSET, EQUAL or UNDEFINED, and at least one is UNDEFINED.
 //!
 //! Some laws are functions without effect: [`one_relation`](law::one_relation), [`cover_laws`](law::cover_laws),
-//! [`relation_laws`](law::relation_laws) and [`maybe_laws`](law::maybe_laws). Two things do not hold:
+//! [`relation_laws`](law::relation_laws) and [`maybe_laws`](law::maybe_laws). Two laws that one might expect fail if names
+//! have specials:
 //! - [`covers`] is not reflexive for names with specials. The relation of `8.*` to itself is UNDEFINED, as is each
 //!   relation to a target with a special.
 //! - With specials, a relation does not give the relation of the swapped names. `8.*` to `8.0` is SUPERSET, but `8.0`
@@ -53,5 +55,5 @@ pub use names::{compare_lent, compare_names, covers};
 pub use nearness::near;
 pub use order::{covers_in_order, deciding_order};
 pub use partly::maybe;
-pub use relation::{Relation, Relations, relation_of_names};
-pub use table::{compare_borrowed, compare_values};
+pub use relation::{Relation, Relations};
+pub use table::compare_values;

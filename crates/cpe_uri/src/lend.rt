@@ -116,13 +116,9 @@ fn lend_pieces<'a>(spans: &Written<'a>) -> Option<NameRef<'a>>
     Some(lend_values(spans))
 }
 
-/// The name that has this URI, borrowed from its bytes (NIST IR 7695, 6.1.3). `None` if a value is spelled with a
-/// percent form or a capital letter; [`unbind_uri`](crate::unbind_uri) makes such a name. Allocates: no.
-///
-/// # Errors
-///
-/// The place of the text as in [`UriFault::At`](crate::UriFault::At), exactly if no name has it.
-pub fn lend_uri(text: &[u8]) -> Result<Option<NameRef<'_>>, usize>
+// The name that has this URI, borrowed from its bytes (NIST IR 7695, 6.1.3). `None` if a value is spelled with a
+// percent form or a capital letter.
+fn lend_uri(text: &[u8]) -> Result<Option<NameRef<'_>>, usize>
     // A lent name has this text.
     ensures lent { IfOk result (λ lent. IfSome lent (λ name. Uri (name_lent name) text.now)) }
     // If there is no error, some name has this text.
@@ -140,9 +136,9 @@ pub fn lend_uri(text: &[u8]) -> Result<Option<NameRef<'_>>, usize>
 }
 
 /// The name that has this text in one of the two bindings, borrowed from its bytes (NIST IR 7695, 6.1.3 and 6.2.3). A
-/// text that begins with `cpe:/`, in any letter case, is read as by [`lend_uri`]. Any other text is read as by
-/// [`lend_fs`]. `None` if the name can't be borrowed; [`unbind_any`](crate::unbind_any) makes such a name. Allocates:
-/// no.
+/// text that begins with `cpe:/`, in any letter case, is read as a URI. Any other text is read as by [`lend_fs`].
+/// `None` if the name can't be borrowed, as a value is spelled with a percent form or a capital letter;
+/// [`unbind_any`](crate::unbind_any) makes such a name. Allocates: no.
 ///
 /// # Errors
 ///

@@ -52,7 +52,7 @@ use crate::bound::put_uri;
 pub use bind::bind_uri;
 use cpe_name::scan_wfn;
 use cpe_values::Memory;
-pub use lend::{lend_any, lend_uri};
+pub use lend::lend_any;
 use thiserror::Error;
 pub use unbind::{
     read_any_is, read_uri_is, unbind_any, unbind_uri, unbound_any_is, unbound_uri_is,

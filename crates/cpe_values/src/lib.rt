@@ -26,9 +26,7 @@ pub use bare::{skip_bare, skip_lower_word, skip_word};
 pub use borrowed::{TextRef, ValueRef};
 pub use out_of_memory::Memory;
 pub use scan::{scan_edge, scan_stem, starts_body};
-pub use spelling::{
-    Style, is_bare_byte, is_digit_byte, is_letter_byte, is_printable_byte, push_spelling,
-};
+pub use spelling::{Style, is_bare_byte, is_digit_byte, is_letter_byte, push_spelling};
 pub use unspell::{lend_spelling, read_spelling};
 pub use value::{Edge, Pattern, Value, ValueFault};
 

@@ -19,8 +19,8 @@ pub enum Style {
     Formatted,
 }
 
-/// Whether a byte is one of the 94 printable ASCII characters, `!` to `~`.
-pub fn is_printable_byte(byte: u8) -> bool
+// Whether a byte is one of the 94 printable ASCII characters, `!` to `~`.
+pub(crate) fn is_printable_byte(byte: u8) -> bool
     ensures { result ≡ is_character byte }
 {
     matches!(byte, b'!'..=b'~')

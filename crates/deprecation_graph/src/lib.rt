@@ -11,9 +11,9 @@
 //! nodes. Nodes are also kept in groups that no edge leaves, each with the number of its active nodes. If this number
 //! is small, a change needs no search.
 //!
-//! [`fill`] makes a graph of given nodes, whose edges may be in any order. It gives a node its successors only after
-//! each successor has its own successors. So if the last graph is lawful, each graph before it is lawful too. And if a
-//! graph is refused, the given nodes make no lawful graph.
+//! [`fill`] makes a graph of given nodes, whose edges may be in any order. It sets the edges of a node only after the
+//! edges of each of its successors are set. So if the last graph is lawful, each graph before it is lawful too. And if
+//! a graph is refused, the given nodes make no lawful graph.
 //!
 //! Three functions do nothing, and their contracts are laws: [`chains_are_paths`](law::chains_are_paths),
 //! [`changes_are_local`](law::changes_are_local), [`additions_are_local`](law::additions_are_local).

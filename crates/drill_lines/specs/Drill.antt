@@ -8,7 +8,7 @@ use Rattle.cpe_rows.specs.Rows.{Rows, no_rows}
 use Rattle.cpe_records.specs.Reading.{record_of}
 use Rattle.cpe_records.specs.Edited.{edited}
 use Rattle.cpe_records.specs.declared.read.Record.{Record}
-use Rattle.cpe_records.specs.record_members.declared.member.RecordFault.{RecordFault}
+use Rattle.cpe_records.specs.declared.member.RecordFault.{RecordFault}
 use Rattle.drill_lines.specs.declared.drilled.Drilled.{Drilled}
 use Rattle.drill_lines.specs.Looks.{record_looks}
 use Rattle.drill_lines.specs.Outcome.{rows_behind, refusals, findings}

@@ -4,7 +4,7 @@ use Rattle.cpe_rows.specs.Rows.{Rows}
 use Rattle.cpe_records.specs.Reading.{record_of}
 use Rattle.cpe_records.specs.declared.read.Record.{Record}
 use Rattle.cpe_records.specs.declared.read.Record.TheVariants.{Edit, Query}
-use Rattle.cpe_records.specs.record_members.declared.member.RecordFault.{RecordFault}
+use Rattle.cpe_records.specs.declared.member.RecordFault.{RecordFault}
 use Rattle.cpe_engine.specs.Looks.{edit_looks, query_looks}
 
 -- the most looks of a record's edit, or of its question, in these rows; a refused edit takes no look, and neither

@@ -13,7 +13,7 @@ use Rattle.cpe_records.specs.Reading.{record_of}
 use Rattle.cpe_records.specs.Edited.{line_edited}
 use Rattle.cpe_records.specs.declared.read.Record.{Record}
 use Rattle.cpe_records.specs.declared.read.Record.TheVariants.{Edit, Query}
-use Rattle.cpe_records.specs.record_members.declared.member.RecordFault.{RecordFault}
+use Rattle.cpe_records.specs.declared.member.RecordFault.{RecordFault}
 use Rattle.drill_lines.specs.Generated.{generated}
 
 -- the rows that the first n lines leave

@@ -26,11 +26,12 @@ use std::alloc::Global;
 use std::sync::ledger::Ledger;
 
 impl EngineParts {
-    /// The edit, after all memory for it is taken. The rows are unchanged. Later verdicts are compared with
-    /// those that statements have after this call. It looks at no name.
+    /// The edit, after all memory for it is taken. The rows are unchanged. Later verdicts are compared with those that
+    /// statements have after this call. It looks at no name.
     ///
     /// # Errors
-    /// The first fault of the edit in the order of [`EditFault`], or that memory ran out. No name is then held for the edit.
+    /// The first fault of the edit in the order of [`EditFault`], or that memory ran out. No name is then held for the
+    /// edit.
     pub fn ready(&mut self, alloc: Global, edit: Edit) -> Result<ReadyEdit, EditFault>
         requires kept { AreLawfulParts self.old }
         requires valid { is_valid_edit edit ≡ true }
@@ -62,12 +63,12 @@ impl EngineParts {
         changes
     }
 
-    /// The verdicts that an edit changes. It makes the edit in both stages: [`EngineParts::ready`] and [`EngineParts::make`]. A refused edit
-    /// takes no step.
+    /// The verdicts that an edit changes. It makes the edit in both stages: [`EngineParts::ready`] and
+    /// [`EngineParts::make`]. A refused edit takes no step.
     ///
     /// # Errors
-    /// The first fault of the edit in the order of [`EditFault`], or that memory ran out. The rows are then unchanged, and no
-    /// name is held for the edit.
+    /// The first fault of the edit in the order of [`EditFault`], or that memory ran out. The rows are then unchanged,
+    /// and no name is held for the edit.
     pub fn apply<L: Ledger>(
         &mut self,
         alloc: Global,
@@ -89,7 +90,8 @@ impl EngineParts {
     }
 }
 
-// The plan and the weight of an edit without a fault, and places for the verdicts that it changes. The parts are unchanged.
+// The plan and the weight of an edit without a fault, and places for the verdicts that it changes. The parts are
+// unchanged.
 //
 // # Errors
 // The first fault of the edit, or that memory ran out.

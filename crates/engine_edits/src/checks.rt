@@ -8,8 +8,8 @@ ghost use Rattle.engine_edits.specs.Ready.{edit_ready, IsReady};
 use crate::numbered::NumberedEdit;
 use crate::parts::EngineParts;
 use crate::ready::Ready;
+use check_results::ReadyResult;
 use cpe_rows::{Changed, CheckKey, List, Memory, Room, Truth};
-use verdicts::ReadyResult;
 
 /// Takes all memory for the result of a check.
 ///

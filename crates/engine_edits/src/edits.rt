@@ -27,12 +27,12 @@ use std::alloc::Global;
 // ---- numbers
 
 impl EngineParts {
-    /// A valid edit with the numbers of its names. The table then holds each new name for the edit. A name that must be there
-    /// already is only found.
+    /// A valid edit with the numbers of its names. The table then holds each new name for the edit. A name that must be
+    /// there already is only found.
     ///
     /// # Errors
-    /// That the table has no such name, or that memory ran out. Rows and verdicts are then unchanged, and no name is held for the
-    /// edit.
+    /// That the table has no such name, or that memory ran out. Rows and verdicts are then unchanged, and no name is
+    /// held for the edit.
     pub(crate) fn number(&mut self, alloc: Global, edit: Edit) -> Result<NumberedEdit, EditFault>
         requires kept { AreLawfulParts self.old }
         requires valid { is_valid_edit edit ≡ true }
@@ -237,8 +237,8 @@ fn unplanned(fault: Option<EditFault>) -> Result<Option<Plan>, EditFault>
     }
 }
 
-// The given weight plus the weight of the note of a change, and of the deprecation that the change gives. It is at most the
-// largest number.
+// The given weight plus the weight of the note of a change, and of the deprecation that the change gives. It is at most
+// the largest number.
 fn with_change(weight: u64, change: &EntryChange) -> u64
     ensures { result ≡ capped (weight + (note_weight (note_of change.now.turn change.now.date change.now.comment) + option_map_or deprecation_weight (given change.now.turn) 0)) }
 {

@@ -119,8 +119,8 @@ impl EngineParts {
         Ok(Some(plan))
     }
 
-    /// The weight of the deprecation of an entry, by the number of the entry's name. It is 0 if there is no such entry, or if the
-    /// entry isn't deprecated.
+    /// The weight of the deprecation of an entry, by the number of the entry's name. It is 0 if there is no such entry,
+    /// or if the entry isn't deprecated.
     pub(crate) fn deprecation_weight(&self, id: NameId) -> u64
         requires live { IsLive self.now.registry.table id.0 }
         requires few { weight_of_first deprecated_weight (is_named (name_in self.now.registry.table id)) (rows_in self.now).entries ≤ most limit.Weight }

@@ -58,7 +58,7 @@ fn hold_fact(registry: &mut Registry, name: &Wfn, ids: &mut Vec<NameId>) -> Resu
     verdicts::law::held_names_keep_verdicts();
     reserve_one(ids)?;
     let id = registry.hold(name)?;
-    put_last(ids, id);
+    append_id(ids, id);
     Ok(())
 }
 
@@ -74,7 +74,7 @@ fn reserve_one(ids: &mut Vec<NameId>) -> Result<(), Memory>
 }
 
 // Puts a number last. There is room for it.
-fn put_last(ids: &mut Vec<NameId>, id: NameId)
+fn append_id(ids: &mut Vec<NameId>, id: NameId)
     requires { vec_len ids.old + 1 ≤ vec_capacity ids.old }
     ensures { ids.new.items ≡ ids.old.items ++ id ∷ [] }
 {

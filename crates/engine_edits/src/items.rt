@@ -90,8 +90,8 @@ pub(crate) fn ready_item(
     }
 }
 
-// The ends of a new item, after room is made for it in the registry and on the boards. If memory runs out, its name is still
-// held.
+// The ends of a new item, after room is made for it in the registry and on the boards. If memory runs out, its name is
+// still held.
 fn reserve_item(parts: &mut EngineParts, alloc: Global, id: NameId) -> Result<Vec<NameId>, Memory>
     requires live { IsLive parts.old.registry.table id.0 }
     requires lawful { IsLawful (rows_in parts.old) }
@@ -124,7 +124,8 @@ pub(crate) fn ready_drop(parts: &EngineParts, alloc: Global, id: NameId) -> Resu
 
 // ---- the second stage: the change
 
-/// Adds an item, and returns the verdicts that change. The table holds its name already, and from now on holds it for the item.
+/// Adds an item, and returns the verdicts that change. The table holds its name already, and from now on holds it for
+/// the item.
 pub(crate) fn make_item<L: Ledger>(
     parts: &mut EngineParts,
     id: NameId,

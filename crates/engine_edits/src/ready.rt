@@ -1,12 +1,13 @@
 // Edits for which all memory is taken.
 use crate::numbered::EntryChange;
+use check_results::ReadyResult;
 use cpe_dictionary::{NoteRoom, Plan};
 use cpe_rows::{Changed, CheckKey, Provenance, Room, Text, Truth};
 use name_index::NameId;
-use verdicts::{Addition, Lead, ReadyResult, Removal};
+use verdicts::{Addition, Lead, Removal};
 
-/// An edit without a fault, for which all memory is taken. [`EngineParts::make`](crate::EngineParts::make) makes it. It isn't `Drop`, so that
-/// it can't be discarded by mistake.
+/// An edit without a fault, for which all memory is taken. [`EngineParts::make`](crate::EngineParts::make) makes it. It
+/// isn't `Drop`, so that it can't be discarded by mistake.
 pub struct ReadyEdit {
     // The edit, with what was found and taken for it.
     pub(crate) edit: Ready,

@@ -31,8 +31,8 @@ impl EngineParts {
     /// A new statement with the numbers of its facts. The table then holds the names of these facts.
     ///
     /// # Errors
-    /// The first fault of the statement except a too large weight, or that memory ran out. Rows, verdicts and weight are then
-    /// unchanged, and no name is held for the statement.
+    /// The first fault of the statement except a too large weight, or that memory ran out. Rows, verdicts and weight
+    /// are then unchanged, and no name is held for the statement.
     pub(crate) fn number_statement(
         &mut self,
         alloc: Global,
@@ -175,8 +175,8 @@ pub(crate) fn make_statement<L: Ledger>(
     put_change(room, place, truth_at(&parts.verdicts, place))
 }
 
-/// Removes the statement of an id, and returns the changed verdict. The names of its facts are released. Only its own verdict
-/// changes: after that, it has none.
+/// Removes the statement of an id, and returns the changed verdict. The names of its facts are released. Only its own
+/// verdict changes: after that, it has none.
 pub(crate) fn make_removal<L: Ledger>(
     parts: &mut EngineParts,
     id: Text,

@@ -79,8 +79,8 @@ pub(crate) fn make<L: Ledger>(
 /// Adds the result of a check at the end, if none is kept for its key.
 ///
 /// # Errors
-/// That a result is kept for the key, or there are too many results: no lawful rows then continue with this result. Or that
-/// memory ran out. The rows are then unchanged.
+/// That a result is kept for the key, or there are too many results: no lawful rows then continue with this result. Or
+/// that memory ran out. The rows are then unchanged.
 pub(crate) fn add_check<L: Ledger>(
     engine: &mut Engine,
     kept: KeptResult,

@@ -1,4 +1,5 @@
-// Rows that are read one after another. Each is added before the next is read, so at most one row is kept outside the engine.
+// Rows that are read one after another. Each is added before the next is read, so at most one row is kept outside the
+// engine.
 ghost use Rattle.std.specs.Prelude.{◌≡◌, [], IfErr, OnOk};
 ghost use Rattle.cpe_rows.specs.Prelude.{IsLawful};
 ghost use Rattle.snapshot_bytes.specs.Reading.{entry_at, many, name_at, result_at, statement_at};
@@ -13,7 +14,8 @@ use snapshot_bytes::{Cursor, KeptResult, LoadFault, Part, PlacedEntry};
 use std::alloc::Global;
 use std::sync::ledger::Ledger;
 
-/// Reads this number of entries, and adds them at the end as active ones. Their deprecations are kept in the form with places.
+/// Reads this number of entries, and adds them at the end as active ones. Their deprecations are kept in the form with
+/// places.
 pub(crate) fn read_entries<L: Ledger>(
     alloc: Global,
     cursor: &mut Cursor<'_>,

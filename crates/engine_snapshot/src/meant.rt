@@ -91,7 +91,8 @@ fn deprecations_of(
     Ok(deprecations)
 }
 
-// The deprecations of all entries, in their order. Each successor is given by its name instead of its place. The list with places is dropped.
+// The deprecations of all entries, in their order. Each successor is given by its name instead of its place. The list
+// with places is dropped.
 fn named_in(
     alloc: Global,
     engine: &Engine,
@@ -105,7 +106,8 @@ fn named_in(
     deprecations
 }
 
-// The deprecations of all entries, in their order. Each successor is given by its name instead of its place. In `all`, entries without one are only counted.
+// The deprecations of all entries, in their order. Each successor is given by its name instead of its place. In `all`,
+// entries without one are only counted.
 fn named(
     alloc: Global,
     engine: &Engine,
@@ -144,8 +146,8 @@ fn deprecate_all(
     }
 }
 
-/// The engine after its active entries get the deprecations that `all` means, one or none for each entry. If no entry has a
-/// deprecation, the engine is returned at once.
+/// The engine after its active entries get the deprecations that `all` means, one or none for each entry. If no entry
+/// has a deprecation, the engine is returned at once.
 ///
 /// # Errors
 /// `NotSnapshot` if some place has no entry, or if the rows aren't lawful; or that memory ran out.

@@ -42,8 +42,8 @@ fn discard(deprecation: Option<PlacedDeprecation>, fault: LoadFault) -> LoadFaul
     fault
 }
 
-/// Adds an entry at the end as an active one, and its deprecation at the end of the list of deprecations. Its name is in lower
-/// case: names are read so.
+/// Adds an entry at the end as an active one, and its deprecation at the end of the list of deprecations. Its name is
+/// in lower case: names are read so.
 pub(crate) fn put_entry<L: Ledger>(
     alloc: Global,
     engine: &mut Engine,

@@ -33,8 +33,8 @@ fn let_both_go(engine: Engine, deprecations: PlacedDeprecations, fault: LoadFaul
     discard(engine, fault)
 }
 
-// An engine with the entries that are read next. First all entries are added as active ones, and then they get their deprecations
-// all at once, because a successor may be later in the list than the entry that it replaces.
+// An engine with the entries that are read next. First all entries are added as active ones, and then they get their
+// deprecations all at once, because a successor may be later in the list than the entry that it replaces.
 fn load_entries<L: Ledger>(
     alloc: Global,
     cursor: &mut Cursor<'_>,
@@ -73,8 +73,8 @@ fn read_others<L: Ledger>(
     }
 }
 
-/// The engine whose snapshot is exactly these bytes. Each row is added as it is read. Beside the engine, only the places of the
-/// successors of deprecated entries are kept.
+/// The engine whose snapshot is exactly these bytes. Each row is added as it is read. Beside the engine, only the
+/// places of the successors of deprecated entries are kept.
 ///
 /// # Errors
 /// That no lawful rows have this snapshot, or that memory ran out.

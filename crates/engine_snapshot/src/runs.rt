@@ -16,8 +16,8 @@ pub(crate) struct EntryRun {
     deprecation: BoxedDeprecation,
 }
 
-/// A deprecation, or none, for each entry, in the order of the entries. Few entries have one, and snapshots have millions of
-/// entries, so entries without one are only counted.
+/// A deprecation, or none, for each entry, in the order of the entries. Few entries have one, and snapshots have
+/// millions of entries, so entries without one are only counted.
 ///
 /// Contracts see the list of these deprecations.
 #[derive(Drop)]
@@ -105,7 +105,8 @@ impl PlacedDeprecations {
         }
     }
 
-    // Counts one more entry without a deprecation. If the count is the largest number already, it returns that memory ran out.
+    // Counts one more entry without a deprecation. If the count is the largest number already, it returns that memory
+    // ran out.
     fn count_active(&mut self) -> Result<(), Memory>
         ensures { OnOk result (self.new ≡ self.old ++ None ∷ []) }
     {
@@ -129,7 +130,8 @@ impl PlacedDeprecations {
         Ok(())
     }
 
-    /// Whether no entry has a deprecation, as far as this is known without a look at each. The answer `true` is always right.
+    /// Whether no entry has a deprecation, as far as this is known without a look at each. The answer `true` is always
+    /// right.
     pub(crate) fn are_none(&self) -> bool
         ensures { result ≡ true → list_all is_none self.now ≡ true }
     {

@@ -4,7 +4,7 @@ use Rattle.std.specs.Prelude.{filter, find, not}
 use Rattle.std.specs.List.{flat_map, list_any, sum_by}
 use Rattle.std.proofs.lemmas.List.Sums.{sum_by-append}
 use Rattle.cpe_rows.specs.cpe_name.Eleven.{Values}
-use Rattle.name_index.specs.product_orders.Elements.{SameElements}
+use Rattle.name_index.specs.Elements.{SameElements}
 use Rattle.name_index.specs.declared.table.NameId.{NameId}
 use Rattle.name_index.specs.Table.{Names, IsNameTable}
 use Rattle.level_board.specs.Board.{MarksAreProbes, Board, IsEmptyBoard, KeepsLevels, SameBoard, Unmarks, find_times, or_none, times_seen as times_of, probe_at, probe_times, target_times}

@@ -11,8 +11,8 @@ use Rattle.cpe_rows.specs.cpe_relation.Maybe.{maybe}
 use Rattle.cpe_rows.specs.cpe_relation.NameRelation.{covers}
 use Rattle.name_index.specs.Table.{Names, Kept, find_kept, kept_at, kept_or, HoldsName, Releases}
 use Rattle.name_index.specs.Index.{times_held}
-use Rattle.level_board.specs.target_index.Targets.{StaysAt}
-use Rattle.level_board.proofs.target_index.Stay.{targets_there}
+use Rattle.level_board.specs.Targets.{StaysAt}
+use Rattle.level_board.proofs.Stay.{targets_there}
 use Rattle.level_board.specs.Rows.{Seen}
 use Rattle.level_board.specs.Board.{Board, FitsBoard, AreHeldIds, times_if, probe_at, probe_times, target_ids, target_times, times_seen as times_of}
 use Rattle.fact_laws.proofs.Tables.{keeps, keeps_live}

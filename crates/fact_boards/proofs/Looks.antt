@@ -1,8 +1,8 @@
 -- Lemmas: the looks of a board, counted by names.
 use Rattle.std.proofs.Common.{◌≡◌, ℕ, ◌+◌, List, ap, sym, ◌∙◌}
 use Rattle.cpe_rows.specs.cpe_name.Eleven.{Values}
-use Rattle.name_index.specs.product_orders.declared.products.Side.{Side}
-use Rattle.name_index.proofs.product_orders.Sums.{sum_agree}
+use Rattle.name_index.specs.declared.products.Side.{Side}
+use Rattle.name_index.proofs.Sums.{sum_agree}
 use Rattle.name_index.specs.declared.table.NameId.{NameId}
 use Rattle.name_index.specs.Index.{times_held}
 use Rattle.name_index.specs.Table.{IsNameTable, Names}

@@ -5,7 +5,7 @@ use Rattle.std.specs.List.{AllByRecursion}
 use Rattle.std.proofs.Math.Seq.{drop-cons}
 use Rattle.std.proofs.lemmas.Bool.{cases_eq, ne_eqb}
 use Rattle.std.proofs.lemmas.List.Sums.{sum_by-cons}
-use Rattle.name_index.specs.product_orders.declared.products.Side.{Side}
+use Rattle.name_index.specs.declared.products.Side.{Side}
 use Rattle.name_index.specs.declared.table.NameId.{NameId}
 use Rattle.name_index.specs.Table.{Names, kept_at, IsLive}
 use Rattle.level_board.specs.Board.{Board, TargetsTo, ProbesTo, probe_times, target_times}

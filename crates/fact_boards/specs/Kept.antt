@@ -2,7 +2,7 @@
 use Rattle.std.specs.Prelude.{◌≡◌, ℕ, ◌+◌, ◌≤◌, List, [], filter}
 use Rattle.std.specs.List.{AllByRecursion, flat_map, sum_by}
 use Rattle.cpe_rows.specs.cpe_name.Eleven.{Values}
-use Rattle.name_index.specs.product_orders.declared.products.Side.{Side}
+use Rattle.name_index.specs.declared.products.Side.{Side}
 use Rattle.name_index.specs.declared.table.NameId.{NameId}
 use Rattle.name_index.specs.Table.{Names, IsLive}
 use Rattle.level_board.specs.Board.{AreAnswers, ProbesAreMarks, Board, FitsBoard, AreHeldIds, KeepsLevels, SameBoard, probe_times, target_times}

@@ -3,8 +3,8 @@
 use Rattle.std.specs.Prelude.{◌≡◌, ◌≢◌, ◌∷◌, ℕ, ◌+◌, ◌≤◌, List, [], length, find, true, Some, Result, OnOk}
 use Rattle.std.specs.List.{flat_map, list_any}
 use Rattle.cpe_rows.specs.cpe_name.Eleven.{Values}
-use Rattle.name_index.specs.product_orders.declared.products.Side.TheVariants as side
-use Rattle.name_index.specs.product_orders.Elements.{SameElements}
+use Rattle.name_index.specs.declared.products.Side.TheVariants as side
+use Rattle.name_index.specs.Elements.{SameElements}
 use Rattle.name_index.specs.declared.table.NameId.{NameId}
 use Rattle.name_index.specs.Table.{Names, IsLive}
 use Rattle.level_board.specs.Board.{probe_times, target_times, target_ids}

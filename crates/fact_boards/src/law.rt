@@ -2,7 +2,7 @@
 ghost use Rattle.std.specs.Prelude.{◌≡◌, ◌≤◌, ◌<◌, ℕ, List, [], None, length, true, false};
 ghost use Rattle.std.specs.List.{AllByRecursion};
 ghost use Rattle.cpe_rows.specs.Prelude.{after, fact_truth, IsAccepted, IsLawful, Rows, Values};
-ghost use Rattle.name_index.specs.product_orders.declared.products.Side.TheVariants as side;
+ghost use Rattle.name_index.specs.declared.products.Side.TheVariants as side;
 ghost use Rattle.name_index.specs.declared.table.NameId.{NameId};
 ghost use Rattle.name_index.specs.Table.{IsNameTable, Names, find_kept, HoldsName, Releases};
 ghost use Rattle.level_board.specs.Board.{Board, AreHeldIds, is_probe_marked, probe_times, target_ids, target_times};

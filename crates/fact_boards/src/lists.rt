@@ -2,7 +2,7 @@
 ghost use Rattle.std.specs.Prelude.{◌≡◌, ◌+◌, ◌≤◌, ◌<◌, ℕ, List, length};
 ghost use Rattle.std.specs.List.{AllByRecursion, list_any};
 ghost use Rattle.cpe_rows.specs.Prelude.{covers, maybe, truth, Values};
-ghost use Rattle.name_index.specs.product_orders.declared.products.Side.TheVariants as side;
+ghost use Rattle.name_index.specs.declared.products.Side.TheVariants as side;
 ghost use Rattle.name_index.specs.declared.table.NameId.{NameId};
 ghost use Rattle.name_index.specs.Table.{Names};
 ghost use Rattle.level_board.specs.Board.{MarksAreProbes, FitsBoard, probe_times, target_ids, target_times};

@@ -1,6 +1,6 @@
 // Removes the repetitions from a list of numbers.
 ghost use Rattle.std.specs.Prelude.{◌≡◌, ℕ};
-ghost use Rattle.name_index.specs.product_orders.Elements.{SameElements};
+ghost use Rattle.name_index.specs.Elements.{SameElements};
 ghost use Rattle.name_index.specs.Table.{IsNameTable, Names};
 ghost use Rattle.fact_laws.specs.Shown.{different, names_at, one_if_some, times_in_list};
 ghost use Rattle.fact_boards.specs.Kept.{AreFactNames};

@@ -10,8 +10,8 @@ use Rattle.cpe_rows.specs.FactNames.{fact_names}
 use Rattle.cpe_rows.specs.Names.{is_same}
 use Rattle.cpe_rows.specs.declared.statement.Mode.{Mode}
 use Rattle.cpe_rows.specs.declared.statement.Statement.{Statement}
-use Rattle.name_index.specs.product_orders.Elements.{SameElements}
-use Rattle.name_index.proofs.product_orders.Sums.{one_at_most, sum_passing}
+use Rattle.name_index.specs.Elements.{SameElements}
+use Rattle.name_index.proofs.Sums.{one_at_most, sum_passing}
 use Rattle.fact_laws.specs.Shown.{different, one_if_some, times_named}
 use Rattle.fact_laws.proofs.Different.{counts_same, less_different, none_named, one_once, one_some, some_named}
 pub use Rattle.fact_laws.proofs.Different.{first_removed}

@@ -7,8 +7,8 @@ use Rattle.std.proofs.lemmas.List.Sums.{sum_by-cons}
 use Rattle.cpe_rows.specs.cpe_values.declared.value.Value.{Value}
 use Rattle.cpe_rows.specs.cpe_name.Eleven.{Values}
 use Rattle.cpe_rows.specs.cpe_name.Equal.{same_name, same_name-Decides}
-use Rattle.name_index.specs.product_orders.declared.products.Side.{Side}
-use Rattle.name_index.specs.product_orders.Elements.{SameElements}
+use Rattle.name_index.specs.declared.products.Side.{Side}
+use Rattle.name_index.specs.Elements.{SameElements}
 use Rattle.name_index.specs.declared.table.NameId.{NameId}
 use Rattle.name_index.specs.Table.{IsNameTable, IsLive, Names, Kept, find_kept, kept_at, kept_or}
 use Rattle.name_index.specs.Index.{ids, name_id, times_held}

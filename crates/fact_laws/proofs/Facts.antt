@@ -4,7 +4,7 @@ use Rattle.std.specs.List.{list_any, flat_map, sum_by}
 use Rattle.std.proofs.lemmas.Bool.{both_ways}
 use Rattle.std.proofs.lemmas.List.Folds.{list_any-append}
 use Rattle.std.proofs.lemmas.List.Sums.{sum_by-cons}
-use Rattle.name_index.specs.product_orders.Elements.{SameElements}
+use Rattle.name_index.specs.Elements.{SameElements}
 use Rattle.cpe_rows.specs.cpe_name.Eleven.{Values}
 use Rattle.cpe_rows.specs.cpe_relation.Maybe.{maybe}
 use Rattle.cpe_rows.specs.cpe_relation.NameRelation.{covers}
@@ -15,7 +15,7 @@ use Rattle.cpe_rows.specs.declared.statement.Mode.{Mode}
 use Rattle.cpe_rows.specs.declared.statement.Mode.TheVariants.{Plain, Follow}
 use Rattle.fact_laws.specs.Asked.{leads, target_names, is_one}
 
--- ---- a test passes in both lists or in neither
+-- ---- of two lists with the same elements, both or neither have an element that passes a test
 
 module _ {A : Type 0} where
   abbrev passing : (A → Bool) → A → ℕ

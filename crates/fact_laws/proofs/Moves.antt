@@ -25,7 +25,7 @@ use Rattle.cpe_rows.proofs.NameTests.{same_is}
 use Rattle.cpe_rows.proofs.Unrefused.{unrefused}
 use Rattle.cpe_rows.specs.Touching.{deprecation_changed}
 use Rattle.cpe_rows.proofs.DeprecationChanges.{leaves, same_ends_after}
-use Rattle.name_index.specs.product_orders.Elements.{SameElements}
+use Rattle.name_index.specs.Elements.{SameElements}
 use Rattle.fact_laws.specs.Asked.{leads, fresh_facts, statement_facts, asked, target_names, entry_names, names_of_rows}
 use Rattle.fact_laws.proofs.Counted.{facts_with}
 use Rattle.fact_laws.proofs.Names.{first_out, found_if_any, last_first, removes_first_of, removed_elsewhere, more_in_first, more_in_rest, sum_flat, turned}

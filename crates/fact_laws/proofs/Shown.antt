@@ -7,8 +7,8 @@ use Rattle.std.proofs.lemmas.Option.{none-some}
 use Rattle.std.proofs.lemmas.List.Sums.{sum_by-cons, sum_by-append}
 use Rattle.cpe_rows.specs.cpe_name.Eleven.{Values}
 use Rattle.cpe_rows.specs.cpe_name.Equal.{same_name, same_name-Decides}
-use Rattle.name_index.specs.product_orders.Elements.{SameElements}
-use Rattle.name_index.proofs.product_orders.Sums.{one_at_most}
+use Rattle.name_index.specs.Elements.{SameElements}
+use Rattle.name_index.proofs.Sums.{one_at_most}
 use Rattle.name_index.specs.declared.table.NameId.{NameId}
 use Rattle.name_index.specs.Table.{Names, Kept, kept_or, find_kept, kept_at, IsNameTable, IsLive}
 pub use Rattle.name_index.proofs.Fitting.{live_is}

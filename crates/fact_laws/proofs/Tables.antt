@@ -10,7 +10,7 @@ use Rattle.name_index.specs.Table.{Names, Kept, kept, kept_or, find_kept, kept_a
 use Rattle.fact_laws.specs.Shown.{times_named, name_at, IsKnown, Shows, holds_in}
 use Rattle.fact_laws.proofs.Shown.{same_names, other_names, named_first, live_is}
 
--- a number other than the held or released one keeps its count, and so does its name
+-- if one number is held or released, each other number keeps its count, and its name is in the list as often as before
 other_counted : (old new : Names) (other : ℕ) (k : Kept) (name : Values) (list : List Values) → find_kept old other ≡ Some k → find_kept new other ≡ Some k → k.name ≢ name
     → (holds_in new other ≡ holds_in old other) × (times_named k.name (name ∷ list) ≡ times_named k.name list)
 other_counted old new other k name list was is apart = (

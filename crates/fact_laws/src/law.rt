@@ -3,11 +3,11 @@
 ghost use Rattle.std.specs.Prelude.{◌≡◌, ◌∷◌, ◌≤◌, ℕ, List, None, count_by, length, ◌⊎◌, ◌++◌, Bool, Some, true, cond, filter, find, replicate};
 ghost use Rattle.std.specs.List.{AllByRecursion, sum_by, flat_map, list_any};
 ghost use Rattle.cpe_rows.specs.cpe_name.Eleven.{Values};
-ghost use Rattle.name_index.specs.product_orders.Elements.{SameElements};
+ghost use Rattle.name_index.specs.Elements.{SameElements};
 ghost use Rattle.name_index.specs.declared.table.NameId.{NameId};
 ghost use Rattle.name_index.specs.Table.{Names, find_kept, IsNameTable, HasName, HoldsName, IsLive, Releases};
 ghost use Rattle.cpe_rows.specs.cpe_values.declared.value.Value.{Value};
-ghost use Rattle.name_index.specs.product_orders.declared.products.Side.{Side};
+ghost use Rattle.name_index.specs.declared.products.Side.{Side};
 ghost use Rattle.name_index.specs.Index.{ids, times_held};
 ghost use Rattle.fact_laws.specs.Laws.{ListsAreShown};
 ghost use Rattle.fact_laws.specs.Shown.{different, is_met_on, names_in, near_names, one_if_some, holds_in, name_at, names_at, Shows, times_in_list, times_named};

@@ -7,9 +7,9 @@
 //! how often each name is in its list. Each edit adds some names and removes some. A fact is in the list of its mode
 //! once, however many statements use it.
 //!
-//! Code keeps the numbers of names, and how often each occurs. Contracts speak of the names themselves. The names that a
-//! table holds are such a list too: each name is in it as often as it is held. The same is true of everything else that keeps numbers of the table with their
-//! multiplicities ([`law::lists_are_shown`]).
+//! Code keeps the numbers of names, and how often each occurs. Contracts speak of the names themselves. The names that
+//! a table holds are such a list too: each name is in it as often as it is held. The same is true of everything else
+//! that keeps numbers of the table with their multiplicities ([`law::lists_are_shown`]).
 #![tactic(auto)]
 
 pub mod law;

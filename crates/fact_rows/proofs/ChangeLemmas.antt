@@ -47,7 +47,7 @@ module _ (rows : List (ℕ × FactRow)) (changed : Vec NameId Global) (changes :
         (changed_once fact ∙ ap count_if free ∙ ap (λ (o : Option FactRow). count_if (is_changed o)) (sym gone))
     go q false e = changes.marks q ∙ ap (λ (o : Option FactRow). count_if (is_changed o)) (sym (others q e))
 
-  -- a row that is not in the list is added, for which there is room
+  -- a row that isn't marked as changed is added, and the list of changed facts has room for one more
   pub noted_added : (kept next : List (ℕ × FactRow)) (after : Vec NameId Global) (fact : ℕ) (row : FactRow) → fact_row_at rows fact ≡ None → ((q : ℕ) → fact_row_at kept q ≡ fact_row_at rows q) → fact_row_at next fact ≡ Some row → row.changed ≡ false
       → ((q : ℕ) → nat_eq fact q ≡ false → fact_row_at next q ≡ fact_row_at kept q) → after.items ≡ changed.items → unchanged next ≡ unchanged kept + count_if (not row.changed) → unchanged kept + 1 + length after.items ≤ vec_capacity after → IsChangeList next after
   noted_added kept next after fact row none same here free others items many room = record {

@@ -3,5 +3,4 @@ pub mod TableLemmas
 pub mod ChangeLemmas
 pub mod RefreshLemmas
 pub mod RowLemmas
-pub mod TicketLemmas
 pub mod TruthLemmas

@@ -1,6 +1,5 @@
 pub mod Rows
 pub mod Facts
 pub mod Truths
-pub mod Tickets
 pub mod Calls
 pub use Rattle.ticket_list.specs as ticket_list

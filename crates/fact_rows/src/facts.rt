@@ -6,7 +6,7 @@ ghost use Rattle.ticket_list.specs.Rising.{IsRising};
 ghost use Rattle.fact_rows.specs.Facts.{AreLinkedFacts, ends_of_fact, fact_at, facts_with_end, has_end_of_fact, has_fact_room, is_fact, is_under_one, IsUnder, IsUnderNone, KeepsLinks, OthersStay, SameElsewhere, SameOthers, times_among, truth_of_fact, users_of, with_ends};
 ghost use Rattle.fact_rows.specs.Calls.{EndsSet, FactAdded, FactLinked, FactRemoved, FactUnlinked, Refreshed, SameFacts, UsersTo};
 ghost use Rattle.fact_rows.specs.Rows.{count_if};
-ghost use Rattle.fact_rows.specs.Tickets.{ends_with, is_empty, with_last, without};
+ghost use Rattle.ticket_list.specs.Tickets.{ends_with, is_empty, with_last, without};
 
 use crate::links::{facts_of, link, unlink, unlink_old};
 use crate::refresh::{clear_changed, refresh_ends, refresh_facts};
@@ -154,8 +154,9 @@ impl FactRows {
         unlink_old(&mut self.by_end, fact, ends, ends_of(&self.rows, fact.0));
     }
 
-    /// Gives a fact other ends, to which [`FactRows::link`] linked it. It is removed from the facts of its old ends that are not
-    /// among the new ones. Its truth is unchanged until it is refreshed. No-op if it is no fact. Allocates: no.
+    /// Gives a fact other ends, to which [`FactRows::link`] linked it. It is removed from the facts of its old ends
+    /// that are not among the new ones. Its truth is unchanged until it is refreshed. No-op if it is no fact.
+    /// Allocates: no.
     pub fn set_ends(&mut self, fact: NameId, ends: Vec<NameId>)
         ensures { EndsSet self.old self.new fact.0 ends.items }
     {
@@ -191,8 +192,8 @@ impl FactRows {
 
     // ---- truths
 
-    /// Computes again, in mode follow, the truth of each fact that any of these ends lists. Allocates: no. Cost: that of their
-    /// ends.
+    /// Computes again, in mode follow, the truth of each fact that any of these ends lists. Allocates: no. Cost: that
+    /// of their ends.
     pub fn refresh_ends(&mut self, ends: &[NameId], board: &LevelBoard)
         ensures { Refreshed self.old self.new (is_under_one self.old ends.now) Follow board.now }
     {

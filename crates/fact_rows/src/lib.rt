@@ -17,6 +17,5 @@ mod links;
 mod refresh;
 mod row;
 mod rows;
-mod tickets;
 
 pub use facts::FactRows;

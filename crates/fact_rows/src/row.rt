@@ -4,15 +4,15 @@ ghost use Rattle.cpe_rows.specs.declared.truth.Truth.TheVariants.{Unknown};
 ghost use Rattle.ticket_list.specs.Rising.{IsRising};
 ghost use Rattle.fact_rows.specs.Facts.{truth_differs, new_fact, has_end_of_fact, leads_by, seen_fact, with_ends};
 ghost use Rattle.fact_rows.specs.Rows.{is_news, fact_row_with};
-ghost use Rattle.fact_rows.specs.Tickets.{ends_with, is_empty, with_last, without};
+ghost use Rattle.ticket_list.specs.Tickets.{ends_with, is_empty, with_last, without};
 ghost use Rattle.fact_rows.specs.Truths.{truth_at_ends};
 
 use crate::ends::truth_by;
-use crate::tickets::{add_last, remove_ticket};
 use cpe_rows::{Memory, Mode, Truth};
 use level_board::LevelBoard;
 use name_index::NameId;
 use std::alloc::Global;
+use ticket_list::{append_ticket, remove_ticket};
 
 // A fact: its ends, the tickets that use it, rising, its truth, and whether it is in the list of changed facts.
 #[derive(Drop)]
@@ -78,7 +78,7 @@ impl FactRow {
         ensures truth { self.new.truth ≡ self.old.truth }
         ensures changed { self.new.changed ≡ self.old.changed }
     {
-        add_last(&mut self.users, ticket);
+        append_ticket(&mut self.users, ticket);
     }
 
     // Removes a user. Returns whether none is left.

@@ -5,7 +5,7 @@ ghost use Rattle.std.specs.Option.{option_map, option_map_or};
 ghost use Rattle.ticket_list.specs.Rising.{IsRising};
 ghost use Rattle.fact_rows.specs.Facts.{AreOnce, has_end_of_fact, ends_or_none, facts_of_end, IsUnder, KeepsLinks, NoneIsEmpty, SameOthers, fact_row_in, leads_by, room_or_none, truth_or_unknown, without_truth, users_or_none, with_ends};
 ghost use Rattle.fact_rows.specs.Rows.{is_changed, is_news, KeepsChanged, count_if, fact_row_at, fact_row_with, unchanged};
-ghost use Rattle.fact_rows.specs.Tickets.{ends_with, is_empty, with_last, without};
+ghost use Rattle.ticket_list.specs.Tickets.{ends_with, is_empty, with_last, without};
 ghost use Rattle.fact_rows.specs.Truths.{truth_at_ends};
 
 use crate::links::{link, unlink};
@@ -202,7 +202,8 @@ pub(crate) fn remove_user(rows: &mut HashMap<u32, FactRow>, fact: u32, ticket: u
     }
 }
 
-// Computes the truth of a fact again. Returns whether the fact has to be added to the list of changed ones. It takes no memory.
+// Computes the truth of a fact again. Returns whether the fact has to be added to the list of changed ones. It takes no
+// memory.
 pub(crate) fn refresh_row(
     rows: &mut HashMap<u32, FactRow>,
     mode: Mode,

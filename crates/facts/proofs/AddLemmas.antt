@@ -5,7 +5,7 @@ use Rattle.std.proofs.lemmas.Bool.{both_ways, cases_eq, or_cases, or_left, or_ri
 use Rattle.name_index.specs.declared.table.NameId.{NameId}
 use Rattle.fact_rows.specs.Facts.{ends_or_none, truth_or_unknown, Fact, fact_at, facts_with_end, FactTable, has_end_of_fact, has_fact_room, room_or_none, users_of, users_or_none}
 use Rattle.fact_rows.specs.Calls.{UsersTo}
-use Rattle.fact_rows.specs.Tickets.{ends_with, with_last}
+use Rattle.fact_rows.specs.ticket_list.Tickets.{ends_with, with_last}
 use Rattle.facts.specs.Calls.{UsersAdded}
 
 -- ---- tickets

@@ -6,7 +6,7 @@ use Rattle.name_index.specs.declared.table.NameId.{NameId}
 use Rattle.cpe_rows.specs.declared.truth.Truth.{Truth}
 use Rattle.cpe_rows.specs.declared.truth.Truth.TheVariants.{True, False, Unknown, Error}
 use Rattle.fact_rows.specs.Facts.{truth_differs, FactTable, has_end_of_fact, truth_of_fact}
-use Rattle.fact_rows.specs.Tickets.{is_empty}
+use Rattle.fact_rows.specs.ticket_list.Tickets.{is_empty}
 use Rattle.fact_rows.proofs.RefreshLemmas.{differs_not}
 use Rattle.facts.specs.Facts.{AreChanges, is_used}
 use Rattle.facts.specs.Leads.{ChangesTo, SameUsers}

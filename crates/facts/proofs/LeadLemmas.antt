@@ -19,7 +19,7 @@ use Rattle.fact_boards.specs.Kept.{AreFactNames}
 use Rattle.fact_boards.proofs.AskedOn.{facts_on}
 use Rattle.fact_rows.specs.Facts.{AreLinkedFacts, truth_differs, ends_of_fact, ends_or_none, Fact, fact_at, facts_with_end, FactTable, has_end_of_fact, is_fact, IsUnder, leads_by, leads_of, OthersStay, SameOthers, truth_of_fact, truth_or_unknown, users_of, users_or_none, with_ends}
 use Rattle.fact_rows.specs.Calls.{Refreshed, SameFacts}
-use Rattle.fact_rows.specs.Tickets.{is_empty}
+use Rattle.fact_rows.specs.ticket_list.Tickets.{is_empty}
 use Rattle.facts.specs.Facts.{is_used, LeadsTo}
 use Rattle.facts.specs.Leads.{AreLedBut, ChangesTo, is_led, IsLed, SameUsers}
 use Rattle.facts.specs.declared.lead.Led.{Led}

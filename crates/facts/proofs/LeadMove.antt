@@ -13,7 +13,7 @@ use Rattle.cpe_rows.specs.declared.entry.Entry.{Entry}
 use Rattle.cpe_rows.specs.declared.statement.Mode.TheVariants.{Plain, Follow}
 use Rattle.fact_boards.specs.Kept.{ShowsRows}
 use Rattle.fact_rows.specs.Facts.{Fact, fact_at, facts_with_end, FactTable, has_end_of_fact, leads_of, truth_of_fact, users_or_none}
-use Rattle.fact_rows.specs.Tickets.{is_empty}
+use Rattle.fact_rows.specs.ticket_list.Tickets.{is_empty}
 use Rattle.fact_rows.specs.Truths.{truth_at_ends}
 use Rattle.fact_rows.proofs.TruthLemmas.{truths_stay}
 use Rattle.facts.specs.Facts.{FactsBut, is_touched, is_used, LeadsTo}

@@ -13,7 +13,7 @@ use Rattle.cpe_rows.specs.declared.statement.Statement.{Statement}
 use Rattle.fact_laws.specs.Asked.{refers_to}
 use Rattle.fact_rows.specs.Facts.{AreLinkedFacts, ends_or_none, Fact, fact_at, facts_with_end, FactTable, OthersStay, truth_or_unknown, users_of, users_or_none}
 use Rattle.fact_rows.specs.Calls.{UsersTo}
-use Rattle.fact_rows.specs.Tickets.{without}
+use Rattle.fact_rows.specs.ticket_list.Tickets.{without}
 use Rattle.fact_rows.specs.ticket_list.Rising.{IsRising}
 use Rattle.facts.specs.Calls.{FactsRemoved, UsersRemoved}
 use Rattle.facts.specs.Users.{AreTickets, statement_ticket, users_in}

@@ -10,7 +10,7 @@ use Rattle.cpe_rows.specs.Rows.{no_rows, Rows}
 use Rattle.cpe_rows.specs.Verdict.{fact_truth}
 use Rattle.cpe_rows.specs.declared.statement.Mode.{Mode}
 use Rattle.cpe_rows.specs.declared.statement.Mode.TheVariants.{Plain, Follow}
-use Rattle.name_index.specs.product_orders.declared.products.Side.TheVariants as side
+use Rattle.name_index.specs.declared.products.Side.TheVariants as side
 use Rattle.fact_laws.specs.Shown.{name_at}
 use Rattle.fact_laws.specs.Asked.{asked, is_referred}
 use Rattle.fact_boards.specs.Kept.{AreSound, Boards, looks_by, ShowsRows}
@@ -19,7 +19,7 @@ use Rattle.fact_boards.proofs.Looks.{looks_are}
 use Rattle.fact_boards.proofs.AskedOn.{facts_on}
 use Rattle.fact_rows.specs.Facts.{AreLinkedFacts, truth_differs, ends_of_fact, ends_or_none, Fact, fact_at, facts_with_end, FactTable, truth_or_unknown, users_or_none, has_end_of_fact, is_fact, is_under_one, leads_by, leads_of, truth_of_fact}
 use Rattle.fact_rows.specs.Calls.{Refreshed, SameFacts}
-use Rattle.fact_rows.specs.Tickets.{is_empty}
+use Rattle.fact_rows.specs.ticket_list.Tickets.{is_empty}
 use Rattle.fact_rows.specs.Truths.{truth_at_ends}
 use Rattle.fact_rows.proofs.TruthLemmas.{truths_stay}
 use Rattle.facts.specs.Looks.{item_looks}

@@ -4,8 +4,8 @@ use Rattle.std.specs.List.{AllByRecursion, list_any, flat_map, sum_by}
 use Rattle.std.proofs.lemmas.Bool.{both_ways, cases_Bool, true≢false}
 use Rattle.std.proofs.lemmas.List.{append-nil}
 use Rattle.cpe_rows.specs.cpe_name.Eleven.{Values}
-use Rattle.name_index.specs.product_orders.Elements.{SameElements}
-use Rattle.name_index.specs.product_orders.declared.products.Side.TheVariants as side
+use Rattle.name_index.specs.Elements.{SameElements}
+use Rattle.name_index.specs.declared.products.Side.TheVariants as side
 use Rattle.name_index.specs.declared.table.NameId.{NameId}
 use Rattle.name_index.specs.Table.{IsNameTable, IsLive, Names, kept_at}
 use Rattle.fact_boards.specs.level_board.Board.{AreAnswers, ProbesAreMarks, Board, FitsBoard, is_probe_marked, KeepsLevels}
@@ -27,7 +27,7 @@ use Rattle.facts.specs.Looks.{statement_looks}
 use Rattle.fact_boards.specs.Kept.{AreFactNames, board_of_mode, looks_by, ShowsRows}
 use Rattle.fact_rows.specs.Facts.{truth_differs, Fact, fact_at, FactTable, has_end_of_fact, leads_by, leads_of, truth_of_fact, truth_or_unknown, users_of, users_or_none}
 use Rattle.fact_rows.specs.Calls.{Refreshed}
-use Rattle.fact_rows.specs.Tickets.{ends_with, is_empty, with_last}
+use Rattle.fact_rows.specs.ticket_list.Tickets.{ends_with, is_empty, with_last}
 use Rattle.fact_rows.specs.ticket_list.Rising.{IsRising}
 use Rattle.facts.specs.Facts.{AreChanges, FactsBut, FactsNow, HasFacts, is_touched, is_used, LeadsTo, table_of}
 use Rattle.facts.specs.Calls.{UsersAdded}

@@ -12,7 +12,7 @@ use Rattle.cpe_rows.specs.declared.statement.Mode.{Mode}
 use Rattle.cpe_rows.specs.declared.statement.Mode.TheVariants.{Plain, Follow}
 use Rattle.fact_rows.specs.Facts.{AreLinkedFacts, ends_of_fact, ends_or_none, Fact, fact_at, FactTable, has_end_of_fact, has_fact_room, is_fact, leads_by, fact_name_id, new_fact, OthersStay, room_or_none, truth_of_fact, truth_or_unknown, users_of, users_or_none}
 use Rattle.fact_rows.specs.Calls.{FactAdded, SameFacts}
-use Rattle.fact_rows.specs.Tickets.{is_empty}
+use Rattle.fact_rows.specs.ticket_list.Tickets.{is_empty}
 use Rattle.facts.specs.Calls.{FactsRemoved}
 use Rattle.facts.specs.Facts.{AreUsedBut, FactsBut, FactsNow, is_used, LeadsTo, table_of}
 use Rattle.facts.specs.Room.{OnlyMode}

@@ -16,7 +16,7 @@ use Rattle.fact_laws.specs.Shown.{names_at}
 use Rattle.fact_laws.specs.Asked.{same_mode}
 use Rattle.fact_boards.specs.Kept.{AreFactNames, ShowsRows}
 use Rattle.fact_rows.specs.Facts.{ends_or_none, Fact, fact_at, FactTable, has_end_of_fact, is_fact, leads_by, leads_of, truth_of_fact, truth_or_unknown, users_of, users_or_none}
-use Rattle.fact_rows.specs.Tickets.{is_empty, without}
+use Rattle.fact_rows.specs.ticket_list.Tickets.{is_empty, without}
 use Rattle.facts.specs.Facts.{FactsBut, is_used, LeadsTo}
 use Rattle.facts.specs.Calls.{FactsRemoved, UsersRemoved}
 use Rattle.facts.specs.Users.{AreTickets, statement_ticket, users_in}

@@ -9,7 +9,7 @@ use Rattle.cpe_rows.specs.declared.statement.Mode.{Mode}
 use Rattle.cpe_rows.specs.declared.statement.Mode.TheVariants.{Plain, Follow}
 use Rattle.fact_rows.specs.Calls.{Refreshed, SameFacts}
 use Rattle.fact_rows.specs.Facts.{Fact, fact_at, FactTable, has_end_of_fact, is_fact, users_of, users_or_none}
-use Rattle.fact_rows.specs.Tickets.{ends_with, is_empty, with_last, without}
+use Rattle.fact_rows.specs.ticket_list.Tickets.{ends_with, is_empty, with_last, without}
 use Rattle.facts.specs.Calls.{FactsRemoved, UsersAdded, UsersRemoved}
 use Rattle.facts.specs.Facts.{AreUsed, FactsNow, is_used}
 use Rattle.facts.specs.Leads.{SameUsers}

@@ -7,7 +7,7 @@ use Rattle.cpe_rows.specs.declared.statement.Mode.{Mode}
 use Rattle.cpe_rows.specs.declared.statement.Statement.{Statement}
 use Rattle.fact_laws.specs.Asked.{is_referred, refers_to}
 use Rattle.fact_rows.specs.Facts.{Fact, fact_at, FactTable, is_fact, users_or_none}
-use Rattle.fact_rows.specs.Tickets.{is_empty}
+use Rattle.fact_rows.specs.ticket_list.Tickets.{is_empty}
 use Rattle.facts.specs.Facts.{is_used}
 use Rattle.facts.specs.Users.{users_in}
 

@@ -3,7 +3,7 @@ use Rattle.std.specs.Prelude.{◌≡◌, ℕ, ◌≤◌, ◌&&◌, ◌||◌, ◌
 use Rattle.std.specs.List.{flat_map, list_any}
 use Rattle.name_index.specs.declared.table.NameId.{NameId}
 use Rattle.name_index.specs.Table.{Names, IsLive}
-use Rattle.name_index.specs.product_orders.Elements.{SameElements}
+use Rattle.name_index.specs.Elements.{SameElements}
 use Rattle.name_index.specs.step_count.Within.{StepsWithin}
 use Rattle.cpe_rows.specs.After.{after}
 use Rattle.cpe_rows.specs.FactNames.{fact_names}
@@ -19,7 +19,7 @@ use Rattle.fact_boards.specs.level_board.Board.{probe_times}
 use Rattle.fact_laws.specs.Asked.{fresh_facts, leads}
 use Rattle.fact_boards.specs.Kept.{AreFactNames, board_of_mode}
 use Rattle.fact_rows.specs.Facts.{AreLinkedFacts, ends_of_fact, fact_at, facts_with_end, FactTable, has_end_of_fact, has_fact_room, is_fact, leads_of, truth_of_fact, users_of}
-use Rattle.fact_rows.specs.Tickets.{ends_with, is_empty, with_last, without}
+use Rattle.fact_rows.specs.ticket_list.Tickets.{ends_with, is_empty, with_last, without}
 use Rattle.fact_boards.specs.Lists.{IsWide}
 use Rattle.facts.specs.Facts.{AreChanges, AreUsed, AreUsedBut, FactsNow, HasFacts, is_used, LeadsTo, table_of}
 use Rattle.facts.specs.Looks.{item_looks, statement_looks}

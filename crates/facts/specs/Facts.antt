@@ -13,7 +13,7 @@ use Rattle.fact_laws.specs.Shown.{names_at}
 use Rattle.fact_laws.specs.Asked.{leads, same_mode}
 use Rattle.fact_boards.specs.Kept.{AreFactNames, AreSettled, Boards, ShowsRows}
 use Rattle.fact_rows.specs.Facts.{AreLinkedFacts, truth_differs, FactTable, has_end_of_fact, is_fact, is_under_one, leads_of, truth_of_fact, users_of}
-use Rattle.fact_rows.specs.Tickets.{is_empty}
+use Rattle.fact_rows.specs.ticket_list.Tickets.{is_empty}
 use Rattle.facts.specs.Users.{AreTickets, users_in}
 
 pub record FactsNow : Type 0 where

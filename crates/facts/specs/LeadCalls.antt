@@ -2,7 +2,7 @@
 use Rattle.std.specs.Prelude.{◌≡◌, ◌≤◌, ℕ, List, length, Some, true}
 use Rattle.std.specs.List.{AllByRecursion}
 use Rattle.cpe_rows.specs.cpe_name.Eleven.{Values}
-use Rattle.name_index.specs.product_orders.Elements.{SameElements}
+use Rattle.name_index.specs.Elements.{SameElements}
 use Rattle.name_index.specs.declared.table.NameId.{NameId}
 use Rattle.name_index.specs.Table.{Names, kept_at}
 use Rattle.name_index.specs.step_count.Within.{StepsWithin}

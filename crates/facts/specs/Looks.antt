@@ -3,7 +3,7 @@
 use Rattle.std.specs.Prelude.{ℕ, ◌+◌, ◌∷◌, []}
 use Rattle.std.specs.List.{flat_map}
 use Rattle.cpe_rows.specs.cpe_name.Eleven.{Values}
-use Rattle.name_index.specs.product_orders.declared.products.Side.TheVariants as side
+use Rattle.name_index.specs.declared.products.Side.TheVariants as side
 use Rattle.cpe_rows.specs.Chains.{ends}
 use Rattle.cpe_rows.specs.Rows.{Rows}
 use Rattle.cpe_rows.specs.declared.statement.Mode.TheVariants.{Plain, Follow}

@@ -73,8 +73,8 @@ impl Facts {
         }
     }
 
-    /// The numbers of the names to which a fact leads: its own in mode plain, and those of its ends in mode follow. A name that is no
-    /// fact leads nowhere in mode follow.
+    /// The numbers of the names to which a fact leads: its own in mode plain, and those of its ends in mode follow. A
+    /// name that is no fact leads nowhere in mode follow.
     pub fn leads<'f>(&'f self, mode: Mode, fact: &'f NameId) -> &'f [NameId]
         ensures { result.now ≡ leads_of mode (table_of self.now mode) fact.now.0 }
     {
@@ -158,8 +158,8 @@ impl Facts {
 
     // ---- statements
 
-    /// Adds the ticket of a statement to the facts to which it refers. `fresh` are those facts that are not in use yet; `asked`
-    /// are the names to which the fresh facts lead. Allocates: no.
+    /// Adds the ticket of a statement to the facts to which it refers. `fresh` are those facts that are not in use yet;
+    /// `asked` are the names to which the fresh facts lead. Allocates: no.
     pub fn add_statement<L: Ledger>(
         &mut self,
         table: &NameTable,
@@ -201,8 +201,8 @@ impl Facts {
         }
     }
 
-    /// Removes the ticket of a statement from the facts to which it refers. `last` are those facts that no other statement
-    /// uses, which are removed; `asked` are the names to which the last facts lead. Allocates: no.
+    /// Removes the ticket of a statement from the facts to which it refers. `last` are those facts that no other
+    /// statement uses, which are removed; `asked` are the names to which the last facts lead. Allocates: no.
     pub fn remove_statement<L: Ledger>(
         &mut self,
         table: &NameTable,
@@ -230,8 +230,8 @@ impl Facts {
 
     // ---- deprecations
 
-    /// Changes the ends of the items and of the followed facts that lead to an entry, after its deprecation changed. Allocates:
-    /// no.
+    /// Changes the ends of the items and of the followed facts that lead to an entry, after its deprecation changed.
+    /// Allocates: no.
     pub fn lead<L: Ledger>(
         &mut self,
         table: &NameTable,

@@ -15,6 +15,5 @@ mod refresh;
 mod room;
 mod users;
 
-pub use fact_boards::Met;
 pub use facts::Facts;
 pub use lead::Led;

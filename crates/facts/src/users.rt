@@ -3,7 +3,7 @@ ghost use Rattle.std.specs.Prelude.{◌≡◌, ◌||◌, ℕ, [], false, true};
 ghost use Rattle.fact_rows.specs.ticket_list.Rising.{IsRising};
 ghost use Rattle.fact_rows.specs.Facts.{FactTable, has_end_of_fact, has_fact_room, is_fact, users_of};
 ghost use Rattle.fact_rows.specs.Calls.{Refreshed};
-ghost use Rattle.fact_rows.specs.Tickets.{ends_with};
+ghost use Rattle.fact_rows.specs.ticket_list.Tickets.{ends_with};
 ghost use Rattle.facts.specs.Calls.{FactsRemoved, UsersAdded, UsersRemoved};
 ghost use Rattle.facts.specs.Room.{UsersReserved};
 

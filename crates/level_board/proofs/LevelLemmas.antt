@@ -5,7 +5,7 @@ use Rattle.std.proofs.lemmas.Bool.{cases_eq, ne_eqb, ltb-true, ltb-false}
 use Rattle.std.proofs.lemmas.List.Sums.{sum_by-cons}
 use Rattle.name_index.specs.Table.{Names}
 use Rattle.name_index.specs.Index.{times_held}
-use Rattle.target_index.specs.Targets.{held}
+use Rattle.level_board.specs.Targets.{held}
 use Rattle.level_board.specs.declared.level.Level.TheVariants.{Covered, Maybe, Free}
 use Rattle.level_board.specs.declared.rows.ProbeRow.{ProbeRow}
 use Rattle.level_board.specs.declared.parts.BoardParts.{BoardParts}

@@ -7,11 +7,11 @@ use Rattle.cpe_rows.specs.declared.fault.EditFault.TheVariants as edit
 use Rattle.cpe_rows.specs.declared.fault.Which.{Which}
 use Rattle.cpe_rows.specs.declared.fault.Which.TheVariants.{Entries, Items, Statements, Facts, Checks, Weight}
 use Rattle.cpe_rows.specs.cpe_name.Text.{attribute_name}
-use Rattle.record_members.specs.Keys.{key_of}
-use Rattle.record_members.specs.declared.member.NameSpot.{NameSpot}
-use Rattle.record_members.specs.declared.member.NameSpot.TheVariants.{Name, Successor, Fact}
-use Rattle.record_members.specs.declared.member.RecordFault.{RecordFault}
-use Rattle.record_members.specs.declared.member.RecordFault.TheVariants as unread
+use Rattle.cpe_records.specs.Keys.{key_of}
+use Rattle.cpe_records.specs.declared.member.NameSpot.{NameSpot}
+use Rattle.cpe_records.specs.declared.member.NameSpot.TheVariants.{Name, Successor, Fact}
+use Rattle.cpe_records.specs.declared.member.RecordFault.{RecordFault}
+use Rattle.cpe_records.specs.declared.member.RecordFault.TheVariants as unread
 use Rattle.certificate_records.specs.declared.fault.CertificateFault.{CertificateFault}
 use Rattle.certificate_records.specs.declared.fault.CertificateFault.TheVariants as certificate
 use Rattle.line_replies.specs.Replies.{name_text}

@@ -19,7 +19,7 @@ use Rattle.cpe_rows.specs.declared.reply.State.TheVariants.{Active, Deprecated}
 use Rattle.cpe_rows.specs.declared.reply.Row.{Row}
 use Rattle.cpe_rows.specs.declared.reply.Reply.{Reply}
 use Rattle.cpe_rows.specs.declared.reply.Reply.TheVariants.{Lookup, Search, Items, Chain, Show, Verdict}
-use Rattle.record_members.specs.Words.{kind_word, truth_word}
+use Rattle.cpe_records.specs.Words.{kind_word, truth_word}
 use Rattle.record_writer.specs.Written.{entry_text}
 
 -- the state of an entry: `active`, or the kind of its deprecation

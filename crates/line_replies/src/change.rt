@@ -2,9 +2,9 @@
 ghost use Rattle.std.specs.Prelude.{◌≡◌, ◌++◌, OnOk};
 ghost use Rattle.line_replies.specs.Replies.{truth_or_none, change_line};
 
+use cpe_records::truth_word;
 use cpe_rows::{Changed, Truth};
 use line_session::Page;
-use record_members::truth_word;
 use std::alloc::AllocError;
 
 /// Appends the line of a changed verdict to the page. The line has the number of the line whose edit changed the

@@ -5,9 +5,9 @@ ghost use Rattle.line_replies.specs.Reasons.{spot_text, record_fault_text, which
 
 use crate::row::push_name;
 use certificate_records::CertificateFault;
+use cpe_records::{Member, NameSpot, RecordFault, attribute_word};
 use cpe_rows::{Attribute, EditFault, Wfn, Which};
 use line_session::{Page, Reason};
-use record_members::{Member, NameSpot, RecordFault, attribute_word};
 use std::alloc::{AllocError, Global};
 
 /// Why the line of a record is refused.

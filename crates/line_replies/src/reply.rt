@@ -4,9 +4,9 @@ ghost use Rattle.line_replies.specs.Replies.{state_word, name_text, count_line, 
 ghost use Rattle.record_writer.specs.Written.{entry_text};
 
 use crate::row::{push_name, push_names, push_rows, push_state};
+use cpe_records::truth_word;
 use cpe_rows::{Entry, Reply, State, Truth, Wfn};
 use line_session::Page;
-use record_members::truth_word;
 use record_writer::append_entry;
 use std::alloc::{AllocError, Global};
 

@@ -3,9 +3,9 @@ ghost use Rattle.std.specs.Prelude.{◌≡◌, ◌++◌, IfOk, OnOk, flat_map};
 ghost use Rattle.line_replies.specs.Replies.{state_word, name_text, name_line, row_line};
 
 use cpe_fs::append_fs;
+use cpe_records::kind_word;
 use cpe_rows::{Memory, Row, State, Wfn};
 use line_session::Page;
-use record_members::kind_word;
 use std::alloc::{AllocError, Global};
 
 /// Appends the formatted string of a name to the page.

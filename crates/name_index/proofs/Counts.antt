@@ -6,7 +6,7 @@ use Rattle.std.proofs.lemmas.List.{get_or-set_same, get_or-set_other, get_or_pas
 use Rattle.std.proofs.lemmas.List.Sums.{sum_by-cons, sum_by-append, sum_by-set, get_or-le-sum_by, count_by-le-length}
 use Rattle.cpe_values.specs.declared.value.Value.{Value}
 use Rattle.cpe_name.specs.Eleven.{Values}
-use Rattle.product_orders.specs.Listed.{ProductList, product_at, Removes}
+use Rattle.name_index.specs.Listed.{ProductList, product_at, Removes}
 use Rattle.name_index.specs.declared.table.NameRow.{NameRow}
 use Rattle.name_index.specs.Rows.{product_row_with, product_row_at, row_number_at, name_in_place, AreProductRows, Grows, freed_rows, names_with, product_count_at, AreProductCounts, HasProductNumber}
 use Rattle.name_index.proofs.Freed.{Lived}

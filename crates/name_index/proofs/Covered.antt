@@ -16,10 +16,10 @@ use Rattle.cpe_name.specs.Names.{value_of}
 use Rattle.cpe_relation.specs.Table.{relation}
 use Rattle.cpe_relation.specs.NameRelation.{is_above, covers}
 use Rattle.cpe_relation.proofs.NearLaws.{above_near}
-use Rattle.product_orders.specs.declared.products.Side.TheVariants as side
-use Rattle.product_orders.specs.Elements.{SameElements}
-use Rattle.product_orders.specs.Near.{covers_product}
-use Rattle.product_orders.proofs.Sums.{if_passes, sum_filter, sum_passing}
+use Rattle.name_index.specs.declared.products.Side.TheVariants as side
+use Rattle.name_index.specs.Elements.{SameElements}
+use Rattle.name_index.specs.Near.{covers_product}
+use Rattle.name_index.proofs.Sums.{if_passes, sum_filter, sum_passing}
 use Rattle.name_index.specs.declared.table.NameId.{NameId}
 use Rattle.name_index.specs.Table.{Names, Kept, find_kept, kept_at, IsLive}
 use Rattle.name_index.specs.Index.{ids, name_id, FitsTable, is_near, is_product_covered, times_held}

@@ -7,7 +7,7 @@ use Rattle.std.proofs.lemmas.Option.{none-some, same_Some}
 use Rattle.std.proofs.lemmas.List.Sums.{sum_by-cons, get_or-le-sum_by}
 use Rattle.std.proofs.lemmas.List.Elements.{recursion_from_All, All-from_recursion}
 use Rattle.cpe_name.specs.Eleven.{Values}
-use Rattle.product_orders.specs.Elements.{SameElements}
+use Rattle.name_index.specs.Elements.{SameElements}
 use Rattle.name_index.specs.Table.{Names, Kept, kept, find_kept, kept_or, kept_at, IsLive, HasName, HoldsOnce, HoldsName, Releases}
 use Rattle.name_index.specs.Index.{FitsTable, times_held}
 

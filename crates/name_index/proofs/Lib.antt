@@ -1,3 +1,18 @@
+pub mod PartedLists
+pub mod Cuts
+pub mod BlockLemmas
+pub mod Halves
+pub mod Taken
+pub mod Texts
+pub mod Runs
+pub mod Orders
+pub mod Live
+pub mod Placed
+pub mod ProductWalkSteps
+pub mod Lower
+pub mod Sums
+pub mod NearRuns
+pub mod Rearranged
 pub mod Names
 pub mod Inserted
 pub mod TableChanges
@@ -9,4 +24,3 @@ pub mod NearSums
 pub mod Covered
 pub mod Fitting
 pub mod WantedLemmas
-pub use Rattle.product_orders.proofs as product_orders

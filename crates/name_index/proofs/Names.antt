@@ -1,4 +1,4 @@
--- Lemmas: what is kept of a number in a table's rows, and where a name is found.
+-- Lemmas: what a table's rows keep for the number of a name, and at which place a name is found.
 use Rattle.std.proofs.Common.{◌≡◌, ◌⊎◌, ℕ, zero, suc, ◌<◌, ◌≤◌, Bool, true, false, cond, ltb, List, [], ◌∷◌, length, Some, None, refl, sym, ap, ◌∙◌, inl, inr, arith}
 use Rattle.std.specs.List.{list_any, position}
 use Rattle.std.proofs.lemmas.Bool.{ltb-true, lt-ltb, both_ways, or_cases, or_left, or_right}
@@ -8,12 +8,12 @@ use Rattle.std.proofs.lemmas.List.Quantifiers.{position-Some}
 use Rattle.cpe_name.specs.Eleven.{Values}
 use Rattle.cpe_name.specs.Equal.{same_name, same_name-Decides}
 use Rattle.cpe_name.specs.Names.{any_values}
-use Rattle.product_orders.specs.Listed.{ProductList}
+use Rattle.name_index.specs.Listed.{ProductList}
 use Rattle.name_index.specs.declared.table.NameRow.{NameRow}
 use Rattle.name_index.specs.Table.{Kept, kept, find_kept, HasName}
 use Rattle.name_index.specs.Rows.{product_row_with, product_row_at, row_number_at, name_in_place, kept_of, table_of_rows, AreProductRows}
 
--- ---- what is kept of a number
+-- ---- what is kept for a number
 
 module _ (names : List Values) (rows : List NameRow) where
   pub find_at : (n : ℕ) → n < length rows → find_kept (table_of_rows names rows) n ≡ kept_of names (product_row_at rows n)

@@ -9,9 +9,9 @@ use Rattle.std.proofs.lemmas.List.Sums.{sum_by-cons}
 use Rattle.cpe_values.specs.declared.value.Value.{Value}
 use Rattle.list_pool.specs.Pool.{Row as CellRow}
 use Rattle.list_pool.specs.declared.ListName.{ListName}
-use Rattle.product_orders.specs.Listed.{product_at, value_or, product_value_at, numbers_to, live}
-use Rattle.product_orders.proofs.Live.{none_past}
-use Rattle.product_orders.proofs.Sums.{if_passes, sum_filter, sum_agree}
+use Rattle.name_index.specs.Listed.{product_at, value_or, product_value_at, numbers_to, live}
+use Rattle.name_index.proofs.Live.{none_past}
+use Rattle.name_index.proofs.Sums.{if_passes, sum_filter, sum_agree}
 use Rattle.name_index.specs.declared.table.NameId.{NameId}
 use Rattle.name_index.specs.Table.{Names, Kept, kept_or, kept_at, find_kept}
 use Rattle.name_index.specs.Index.{ids, name_id, FitsTable, posting_of, posting, pairs, walk_left, WalksProducts}

@@ -9,8 +9,8 @@ use Rattle.std.proofs.lemmas.List.{map_push, length_push}
 use Rattle.std.proofs.lemmas.List.Sums.{sum_by-cons, sum_by-append, sum_by_push}
 use Rattle.list_pool.specs.Pool.{Row as CellRow, list_at, find_list, IsLiveList, Updates, Pushes, has_value, without_first_cell}
 use Rattle.list_pool.specs.declared.ListName.{ListName}
-use Rattle.product_orders.specs.Elements.{SameElements}
-use Rattle.product_orders.specs.Listed.{numbers_to}
+use Rattle.name_index.specs.Elements.{SameElements}
+use Rattle.name_index.specs.Listed.{numbers_to}
 use Rattle.name_index.specs.Index.{cell_values, posting_of, posting, pairs_at, pairs, times_held, IsIndex}
 use Rattle.name_index.proofs.Fitting.{is_pair, pair_counts}
 use Rattle.name_index.proofs.TableChanges.{same_or, at_least}

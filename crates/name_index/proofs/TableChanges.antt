@@ -9,7 +9,7 @@ use Rattle.cpe_name.specs.Eleven.{Values}
 use Rattle.cpe_name.specs.Equal.{same_name, same_name-Decides}
 use Rattle.cpe_name.specs.Lower.{IsLower}
 use Rattle.cpe_name.specs.Names.{any_values}
-use Rattle.product_orders.specs.Listed.{ProductList, product_at}
+use Rattle.name_index.specs.Listed.{ProductList, product_at}
 use Rattle.name_index.specs.declared.table.NameRow.{NameRow}
 use Rattle.name_index.specs.Table.{Kept, kept, kept_or, kept_at, Names, find_kept, HasName, HoldsOnce, HoldsName}
 use Rattle.name_index.specs.Rows.{product_row_with, product_row_at, row_number_at, name_in_place, kept_of, table_of_rows, AreProductRows, Grows}

@@ -5,12 +5,12 @@ use Rattle.cpe_values.specs.declared.value.Value.{Value}
 use Rattle.cpe_relation.proofs.NearLaws.{above_near}
 use Rattle.list_pool.specs.Pool.{Row as CellRow}
 use Rattle.list_pool.specs.declared.ListName.{ListName}
-use Rattle.product_orders.specs.declared.products.Side.{Side}
-use Rattle.product_orders.specs.declared.products.Side.TheVariants as side
-use Rattle.product_orders.specs.Elements.{SameElements}
-use Rattle.product_orders.specs.Listed.{ProductList, product_value_at, live}
-use Rattle.product_orders.specs.Near.{near_on, covers_product}
-use Rattle.product_orders.proofs.Sums.{filter_all, filter_stronger}
+use Rattle.name_index.specs.declared.products.Side.{Side}
+use Rattle.name_index.specs.declared.products.Side.TheVariants as side
+use Rattle.name_index.specs.Elements.{SameElements}
+use Rattle.name_index.specs.Listed.{ProductList, product_value_at, live}
+use Rattle.name_index.specs.Near.{near_on, covers_product}
+use Rattle.name_index.proofs.Sums.{filter_all, filter_stronger}
 use Rattle.name_index.specs.declared.wanted.WantedProducts.{WantedProducts}
 use Rattle.name_index.specs.Wanted.{is_wanted_name, wanted_of}
 use Rattle.name_index.specs.Index.{cell_values, posting, last_values, walk_left, name_id}

@@ -6,10 +6,10 @@ use Rattle.cpe_name.specs.Eleven.{Values}
 use Rattle.cpe_relation.specs.NameRelation.{covers}
 use Rattle.list_pool.specs.Pool.{Row as CellRow, list_at, IsLiveList, cell_at}
 use Rattle.list_pool.specs.declared.ListName.{ListName}
-use Rattle.product_orders.specs.declared.products.Side.{Side}
-use Rattle.product_orders.specs.Elements.{SameElements}
-use Rattle.product_orders.specs.Listed.{ProductList, product_at, product_value_at, numbers_to, live}
-use Rattle.product_orders.specs.Near.{near_on, covers_product}
+use Rattle.name_index.specs.declared.products.Side.{Side}
+use Rattle.name_index.specs.Elements.{SameElements}
+use Rattle.name_index.specs.Listed.{ProductList, product_at, product_value_at, numbers_to, live}
+use Rattle.name_index.specs.Near.{near_on, covers_product}
 use Rattle.name_index.specs.declared.table.NameId.{NameId}
 use Rattle.name_index.specs.Table.{Names, Kept, find_kept, kept_at}
 

@@ -1,7 +1,7 @@
 -- Laws of held numbers and the table of their names.
 use Rattle.std.specs.Prelude.{◌≡◌, ℕ, ◌∷◌, List, None, Contains}
 use Rattle.cpe_name.specs.Eleven.{Values}
-use Rattle.product_orders.specs.Elements.{SameElements}
+use Rattle.name_index.specs.Elements.{SameElements}
 use Rattle.name_index.specs.Table.{Names, find_kept, kept_at, IsLive, HasName, HoldsName, Releases}
 use Rattle.name_index.specs.Index.{FitsTable, times_held}
 

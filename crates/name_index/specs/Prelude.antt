@@ -5,6 +5,6 @@ pub use Rattle.cpe_relation.specs.NameRelation.{covers}
 pub use Rattle.cpe_relation.specs.Maybe.{maybe}
 pub use Rattle.cpe_relation.specs.Order.{IsOrder}
 pub use Rattle.step_count.specs.Within.{StepsWithin}
-pub use Rattle.product_orders.specs.Elements.{SameElements}
+pub use Rattle.name_index.specs.Elements.{SameElements}
 pub use Rattle.name_index.specs.Table.{HasName, IsLive, Names, kept_at}
 pub use Rattle.name_index.specs.Index.{ids, is_covered}

@@ -1,7 +1,7 @@
 -- How a table is kept in its lists: the live names by place, and the place of each number.
 use Rattle.std.specs.Prelude.{◌≡◌, ◌≢◌, ℕ, ◌<◌, ◌≤◌, nat_lt, nat_eq, ◌&&◌, count_by, cond, List, [], ◌∷◌, ◌++◌, map, get_or, set, length, Option, Some, None, IsSome}
 use Rattle.std.specs.List.{All, IsDistinct}
-use Rattle.product_orders.specs.Listed.{ProductList, product_at}
+use Rattle.name_index.specs.Listed.{ProductList, product_at}
 use Rattle.cpe_values.specs.declared.value.Value.{Value}
 use Rattle.cpe_name.specs.Eleven.{Values}
 use Rattle.cpe_name.specs.Equal.{same_name}

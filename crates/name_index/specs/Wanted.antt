@@ -1,8 +1,8 @@
 -- The products that a walk visits: all near products, or only those that a product covers.
 use Rattle.std.specs.Prelude.{ℕ, Bool, true, List, if◌then◌else◌}
 use Rattle.std.specs.List.{filter}
-use Rattle.product_orders.specs.Listed.{product_value_at}
-use Rattle.product_orders.specs.Near.{covers_product}
+use Rattle.name_index.specs.Listed.{product_value_at}
+use Rattle.name_index.specs.Near.{covers_product}
 use Rattle.name_index.specs.declared.wanted.WantedProducts.{WantedProducts}
 use Rattle.name_index.specs.declared.wanted.ProductWalk.{ProductWalk}
 

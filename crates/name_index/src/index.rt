@@ -1,6 +1,6 @@
 // An index of names by product: which numbers it holds, and where.
 ghost use Rattle.std.specs.Prelude.{◌≡◌, ℕ, ◌+◌, ◌-◌, ◌<◌, ◌≤◌, [], ◌∷◌, length, Some, OnOk, OnErr, vec_capacity, slice_get, Contains};
-ghost use Rattle.product_orders.specs.Elements.{SameElements};
+ghost use Rattle.name_index.specs.Elements.{SameElements};
 ghost use Rattle.name_index.specs.Table.{Kept, find_kept, IsLive, kept_at};
 ghost use Rattle.name_index.specs.Index.{times_held, pairs, AddsName, IsIndex};
 

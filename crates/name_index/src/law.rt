@@ -1,4 +1,6 @@
-// Laws of held numbers and the table of their names. The function does nothing: its clauses are the laws.
+// Laws of the definitions. The functions do nothing: their clauses are the laws.
+ghost use Rattle.std.specs.Prelude.{◌↔◌, ℕ, List, IsPermutation};
+ghost use Rattle.name_index.specs.Elements.{SameElements};
 ghost use Rattle.name_index.specs.Laws.{FittingLaws};
 
 /// Law: held numbers still fit a table after each of these changes:
@@ -12,4 +14,9 @@ ghost use Rattle.name_index.specs.Laws.{FittingLaws};
 /// is held, the returned number is live and has this name.
 pub fn fitting_laws()
     ensures { FittingLaws }
+{}
+
+/// Law: two lists of numbers have the same elements exactly if one list is a rearrangement of the other.
+pub fn same_elements_rearrange()
+    ensures { (xs ys : List ℕ) → SameElements xs ys ↔ IsPermutation xs ys }
 {}

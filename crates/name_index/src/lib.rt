@@ -12,18 +12,40 @@
 //! An index fits a table if each number of the index is live in the table, with the product number that the index has
 //! for it. A number is live if a name has it in the table. The law [`fitting_laws`] lists the changes that keep an
 //! index fitting. So a number is removed from the index before its name is released for the last time.
+//!
+//! A table finds the products near a given product without visiting all products. For this it keeps the numbers of its
+//! products in two orders (module `products`). Each order groups the products by their shape: ANY, NA, a plain text, a
+//! text with only a trail, a text with only a lead, or a text with both. Within a shape the products are sorted by
+//! their bodies: in one order from the front, in the other from the back. So all products of a shape whose bodies begin
+//! or end with a given text are neighbours, and two binary searches find them. `cpe_relation` defines which products
+//! are near.
+//!
+//! An order is a list of numbers in blocks (module `blocks`). Adding a number moves at most 1,024 other numbers, and
+//! the places of the blocks after it. After a removal, two neighbouring blocks that together fill at most half a block
+//! become one block. So the memory stays in proportion to the numbers.
 #![tactic(auto)]
 
+mod blocks;
+mod cover;
 mod index;
+mod keys;
 pub mod law;
 mod near;
+mod numbered;
+mod order;
+mod piece;
+mod products;
+mod put;
+mod search;
 mod table;
+mod take;
+mod walk;
 mod wanted;
 
 pub use cpe_name::{Attribute, Wfn};
 pub use cpe_values::Memory;
 pub use index::NameIndex;
 pub use near::Near;
-pub use product_orders::Side;
+pub use products::Side;
 pub use step_count::Steps;
 pub use table::{NameId, NameTable, ProductId};

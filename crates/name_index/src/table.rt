@@ -10,14 +10,14 @@ ghost use Rattle.name_index.specs.Table.{Kept, find_kept, IsLive, kept_at, HasNa
 ghost use Rattle.name_index.specs.Index.{WalksProducts};
 ghost use Rattle.name_index.specs.Wanted.{walked};
 ghost use Rattle.name_index.specs.Rows.{product_row_with, product_row_at, row_number_at, name_in_place, Grows, freed_rows, freed_row_numbers, product_count_at, HasProductNumber};
-ghost use Rattle.product_orders.specs.Listed.{product_at, Removes};
-ghost use Rattle.product_orders.specs.Near.{near_on, covers_product};
+ghost use Rattle.name_index.specs.Listed.{product_at, Removes};
+ghost use Rattle.name_index.specs.Near.{near_on, covers_product};
 
+use crate::products::{Products, Side};
 use crate::wanted::{ProductWalk, WantedProducts};
 use cpe_name::{Attribute, Wfn};
 use cpe_values::{Memory, Value};
 use indexmap::IndexSet;
-use product_orders::{Products, Side};
 use std::alloc::Global;
 use std::marker::Model;
 use std::sync::ledger::Ledger;

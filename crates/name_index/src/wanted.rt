@@ -2,8 +2,9 @@
 ghost use Rattle.std.specs.Prelude.{◌≡◌};
 ghost use Rattle.name_index.specs.Wanted.{is_wanted_name};
 
+use crate::products::Products;
+use crate::walk::NearProducts;
 use cpe_values::Value;
-use product_orders::{NearProducts, Products};
 
 // Which products are wanted: all, or only those that the product `asked` covers.
 #[derive(Clone, Copy)]

@@ -1,4 +1,4 @@
--- Lemmas: the items that lead to a name, and the first item that has one of some numbers.
+-- Lemmas: the items that lead to a name, and the first item whose number is in a given list.
 use Rattle.std.proofs.Common.{◌≡◌, ℕ, zero, suc, Bool, true, false, not, cond, List, [], ◌∷◌, filter, map, position, Option, Some, None, refl, sym, ap, subst, ◌∙◌}
 use Rattle.std.specs.Prelude.{find, is_some, option_map}
 use Rattle.std.specs.List.{list_any}
@@ -37,7 +37,7 @@ pub led_to_other : (es : List Entry) (items : List Values) (n : Values) → posi
 led_to_other es items n at =
     ap (λ (b : Bool). filter (λ s. list_any (is_same s) items) (cond b (map (λ (e : Entry). e.name) (filter (λ (e : Entry). leads_to es e.name n) es)) (n ∷ []))) (no_entry es n at)
 
--- ---- the first item that has one of some numbers
+-- ---- the first item whose number is in a given list
 
 at_places : (table : Names) (ids : List NameId) → AreRegistryNames table ids → AreLiveAt table ids
 at_places table [] live k id at = absurd (none-some id at)

@@ -10,7 +10,7 @@ use Rattle.name_index.specs.declared.table.NameId.{NameId}
 use Rattle.name_index.specs.Table.{IsLive, Names, kept_at}
 use Rattle.names_in_order.specs.InOrder.{AreListedNames as AreLiveAt, names_numbered}
 use Rattle.names_in_order.specs.Room.{MayPut, NumberList}
-use Rattle.name_index.specs.product_orders.Elements.{SameElements}
+use Rattle.name_index.specs.Elements.{SameElements}
 use Rattle.fact_laws.specs.Shown.{Shows, holds_in, names_at}
 use Rattle.cpe_dictionary.specs.Kept.{entries_in, FitsTable, names_of_entries, Stored}
 use Rattle.cpe_dictionary.specs.Room.{MayAddEntry, MayChange}

@@ -21,5 +21,4 @@ mod items;
 mod registry;
 
 pub use check_results::Checks;
-pub use cpe_dictionary::FillFault;
 pub use registry::Registry;

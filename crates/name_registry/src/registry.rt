@@ -109,7 +109,7 @@ impl Registry {
         ItemSlots::new(&self.table, self.items.slots())
     }
 
-    /// The number of a name, found by the name's hash. If there is no number, no entry and no item has the name.
+    /// The number of a name, found by the name's hash. If there is none, neither an entry nor an item has the name.
     pub fn find(&self, name: &Wfn) -> Option<NameId>
         ensures live { IfSome result (λ id. IsLive self.now.table id.0) }
         ensures named { IfSome result (λ id. name_in self.now.table id ≡ name.now) }

@@ -10,7 +10,7 @@ use Rattle.std.proofs.lemmas.Map.Keys.{IsDistinct-head, IsDistinct-tail}
 use Rattle.name_index.specs.cpe_name.Eleven.{Values}
 use Rattle.name_index.specs.cpe_name.Equal.{same_name, same_name-Decides}
 use Rattle.cpe_relation.specs.NameRelation.{covers}
-use Rattle.name_index.specs.product_orders.Elements.{SameElements}
+use Rattle.name_index.specs.Elements.{SameElements}
 use Rattle.name_index.specs.declared.table.NameId.{NameId}
 use Rattle.name_index.specs.Table.{Names, Kept, find_kept, kept_or, kept_at, IsLive, IsNameTable, HasName}
 use Rattle.name_index.specs.Index.{FitsTable, ids, is_covered, name_id, times_held}

@@ -9,7 +9,7 @@ use Rattle.std.proofs.lemmas.List.Sums.{sum_by-cons, position_or_len_is}
 use Rattle.std.proofs.lemmas.Map.Keys.{IsDistinct-from_apart, apart_from_distinct}
 use Rattle.name_index.specs.cpe_name.Eleven.{Values}
 use Rattle.name_index.specs.cpe_name.Equal.{same_name, same_name-Decides}
-use Rattle.name_index.specs.product_orders.Elements.{SameElements}
+use Rattle.name_index.specs.Elements.{SameElements}
 use Rattle.name_index.specs.declared.table.NameId.{NameId}
 use Rattle.name_index.specs.Table.{Names, Kept, kept_or, find_kept, kept_at, IsLive, HasName, IsNameTable}
 use Rattle.name_index.specs.Index.{ids, name_id, times_held}
@@ -136,8 +136,8 @@ module _ (numbers : List NameId) (places : List ℕ) (placed : HavePlaceOfNumber
   pub longer : (place : ℕ) → HavePlaceOfNumber numbers (places ++ place ∷ [])
   longer place k id at = old_place places place k id.0 (placed k id at)
 
-  pub put_last : (id : NameId) → ((k : ℕ) → slice_get numbers k ≢ Some id) → id.0 < length places → HavePlaceOfNumber (numbers ++ id ∷ []) (set places id.0 (length numbers))
-  put_last id fresh known k x at = elim (old_or_last numbers id x k at) [
+  pub append_number : (id : NameId) → ((k : ℕ) → slice_get numbers k ≢ Some id) → id.0 < length places → HavePlaceOfNumber (numbers ++ id ∷ []) (set places id.0 (length numbers))
+  append_number id fresh known k x at = elim (old_or_last numbers id x k at) [
     | inl old ↦
         set_other places id.0 x.0 (length numbers) (λ e. fresh k (old ∙ ap {B = Option NameId} (λ (n : ℕ). Some (name_id n)) e)) ∙ placed k x old
     | inr last ↦

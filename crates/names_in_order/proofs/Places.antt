@@ -13,9 +13,9 @@ use Rattle.name_index.specs.cpe_name.Names.{any_values}
 use Rattle.cpe_relation.specs.NameRelation.{covers}
 use Rattle.cpe_relation.specs.Near.{near}
 use Rattle.cpe_relation.proofs.NearLaws.{above_near}
-use Rattle.name_index.specs.product_orders.Elements.{SameElements}
-use Rattle.name_index.specs.product_orders.Near.{covers_product}
-use Rattle.name_index.proofs.product_orders.Sums.{if_passes, sum_filter}
+use Rattle.name_index.specs.Elements.{SameElements}
+use Rattle.name_index.specs.Near.{covers_product}
+use Rattle.name_index.proofs.Sums.{if_passes, sum_filter}
 use Rattle.name_index.specs.declared.table.NameId.{NameId}
 use Rattle.name_index.specs.Table.{Names, kept_at}
 use Rattle.name_index.specs.Index.{ids, name_id, is_product_covered, is_covered}

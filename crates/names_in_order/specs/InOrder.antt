@@ -1,7 +1,7 @@
 -- Names in order: their numbers in a table, the place of each number, and an index that holds the numbers.
 use Rattle.std.specs.Prelude.{◌≡◌, ◌≢◌, ◌⊎◌, ℕ, Bool, nat_eq, cond, List, map, Option, Some, None, slice_get}
 use Rattle.name_index.specs.cpe_name.Eleven.{Values}
-use Rattle.name_index.specs.product_orders.Elements.{SameElements}
+use Rattle.name_index.specs.Elements.{SameElements}
 use Rattle.name_index.specs.declared.table.NameId.{NameId}
 use Rattle.name_index.specs.Table.{Names, find_kept, kept_at, IsLive}
 use Rattle.name_index.specs.Index.{FitsTable, ids, name_id}

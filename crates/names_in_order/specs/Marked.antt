@@ -1,7 +1,7 @@
 -- Numbers by place, with a mark in the slot of each removed number.
 use Rattle.std.specs.Prelude.{◌≡◌, ◌≤◌, ◌<◌, ◌+◌, ◌^◌, ◌++◌, ◌∷◌, [], ℕ, Bool, true, false, nat_lt, cond, if◌then◌else◌, filter, length, take, drop, get_or, List, Option, Some, None, slice_get}
 use Rattle.std.specs.List.{cons_option, filter_map, list_any}
-use Rattle.name_index.specs.product_orders.Elements.{SameElements}
+use Rattle.name_index.specs.Elements.{SameElements}
 use Rattle.name_index.specs.declared.table.NameId.{NameId}
 use Rattle.names_in_order.specs.InOrder.{same_id}
 

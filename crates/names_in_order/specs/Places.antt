@@ -5,7 +5,7 @@ use Rattle.name_index.specs.cpe_name.Eleven.{Values}
 use Rattle.name_index.specs.cpe_name.Names.{any_values}
 use Rattle.cpe_relation.specs.NameRelation.{covers}
 use Rattle.cpe_relation.specs.Near.{near}
-use Rattle.name_index.specs.product_orders.Near.{covers_product}
+use Rattle.name_index.specs.Near.{covers_product}
 
 -- the name at a place, from 0
 abbrev pub name_of_place : List Values → ℕ → Values

@@ -108,7 +108,7 @@ fn first_place(slots: &[Option<NameId>], places: &[u32], ids: &[NameId]) -> Opti
 }
 
 // Appends a number that is not yet in the list, and for which room is reserved.
-fn put_last(slots: &mut Vec<Option<NameId>>, places: &mut Vec<u32>, len: usize, id: NameId)
+fn append_slot(slots: &mut Vec<Option<NameId>>, places: &mut Vec<u32>, len: usize, id: NameId)
     requires marked { AreMarkedPlaces slots.old.items places.old.items len }
     requires fresh { list_any (same_id id) (numbers_in slots.old.items) ≡ false }
     requires known { id.0 < length places.old.items }
@@ -349,7 +349,7 @@ impl PushNumber for MarkedNumbers {
     }
 
     fn push(&mut self, id: NameId) {
-        put_last(&mut self.slots, &mut self.places, self.len, id);
+        append_slot(&mut self.slots, &mut self.places, self.len, id);
         self.len += 1;
     }
 }

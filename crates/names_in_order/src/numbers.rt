@@ -59,7 +59,7 @@ fn if_same(other: NameId, id: NameId, place: u32) -> Option<usize>
 }
 
 // Appends a number that is not yet in the list, and for which room is reserved.
-fn put_last(numbers: &mut Vec<NameId>, places: &mut Vec<u32>, id: NameId)
+fn append_number(numbers: &mut Vec<NameId>, places: &mut Vec<u32>, id: NameId)
     requires placed { HavePlaceOfNumber numbers.old.items places.old.items }
     requires fresh { (k : ℕ) → slice_get numbers.old.items k ≢ Some id }
     requires known { id.0 < length places.old.items }
@@ -124,6 +124,6 @@ impl PushNumber for NumbersInOrder {
     }
 
     fn push(&mut self, id: NameId) {
-        put_last(&mut self.numbers, &mut self.places, id);
+        append_number(&mut self.numbers, &mut self.places, id);
     }
 }

@@ -49,7 +49,11 @@ impl PushHeld for ChangingNames {
 }
 
 // Appends a number that was just held to the list. If memory ran out, the number is released instead.
-fn put_last<N: PushHeld>(table: &mut NameTable, names: &mut N, id: NameId) -> Result<(), Memory>
+fn push_new_number<N: PushHeld>(
+    table: &mut NameTable,
+    names: &mut N,
+    id: NameId,
+) -> Result<(), Memory>
     requires own { IsNew table.old (N.roll names.old).held (N.roll names.old).numbers id }
     ensures own { AreOwn table.new (N.roll names.new).held (N.roll names.new).numbers }
     ensures ok { OnOk result (names_numbered table.new (N.roll names.new).numbers ≡ names_numbered table.old (N.roll names.old).numbers ++ (kept_at table.old id.0).name ∷ []) }
@@ -80,5 +84,5 @@ pub fn add_name<N: PushHeld>(table: &mut NameTable, names: &mut N, name: Wfn) ->
     name_index::law::fitting_laws();
     crate::law::orders_stay();
     let id = table.hold_moved(name)?;
-    put_last(table, names, id)
+    push_new_number(table, names, id)
 }

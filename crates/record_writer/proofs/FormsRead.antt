@@ -10,10 +10,10 @@ use Rattle.cpe_rows.specs.Valid.{is_statement_test}
 use Rattle.cpe_rows.specs.declared.test.Operator.{Operator}
 use Rattle.cpe_rows.specs.declared.test.CheckKey.{CheckKey}
 use Rattle.cpe_rows.specs.declared.test.Test.{Test, Logic, Fact, Check}
-use Rattle.record_members.specs.declared.format.Format.TheVariants.{Two}
-use Rattle.record_members.specs.Tests.{test_in}
-use Rattle.record_members.proofs.TestsRead as tests
-use Rattle.record_members.proofs.TestsRead.{logic_data, fact_data, check_data}
+use Rattle.cpe_records.specs.declared.format.Format.TheVariants.{Two}
+use Rattle.cpe_records.specs.Tests.{test_in}
+use Rattle.cpe_records.proofs.WrittenTests as tests
+use Rattle.cpe_records.proofs.WrittenTests.{logic_data, fact_data, check_data}
 use Rattle.record_writer.specs.NameObject.{name_object}
 use Rattle.record_writer.specs.WrittenRecord.{items_of, test_json}
 use Rattle.record_writer.proofs.ReadBack.{data_of, data_items}

@@ -11,7 +11,7 @@ use Rattle.cpe_rows.specs.cpe_name.declared.attribute.Attribute.{Attribute}
 use Rattle.cpe_rows.specs.cpe_name.declared.attribute.Attribute.TheVariants.{Part, Vendor, Product, Version, Update, Edition, Language, SwEdition, TargetSw, TargetHw, Other}
 use Rattle.cpe_rows.specs.cpe_name.Names.{value_of}
 use Rattle.cpe_rows.specs.cpe_name.Text.{attribute_name}
-use Rattle.record_members.specs.cpe_uri.Canon.{is_any_component}
+use Rattle.cpe_records.specs.cpe_uri.Canon.{is_any_component}
 use Rattle.cpe_fs.specs.Grammar.{fs_component}
 use Rattle.record_writer.specs.NameObject.{sorted_attributes, with_values, name_object}
 use Rattle.record_writer.proofs.ReadBack.{data_of, data_members, fits, fit_members}

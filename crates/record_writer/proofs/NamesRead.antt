@@ -16,15 +16,15 @@ use Rattle.cpe_rows.specs.Names.{is_lower}
 use Rattle.cpe_rows.proofs.NameTests.{is_lower_is}
 use Rattle.cpe_fs.specs.Grammar.{fs_component}
 use Rattle.cpe_fs.specs.Component.{HasComponent, read_component}
-use Rattle.record_members.specs.Forms.{list_of_items, or_default, required_member}
-use Rattle.record_members.specs.Gives.{◌>>=◌, all_from}
-use Rattle.record_members.specs.NameObjects.{component_in, has_attribute_shape, shaped, member_value_at, first_without, values_at}
-use Rattle.record_members.specs.Names.{lowered, of_object, object_name, name_of_data, is_written, at_spot, named_in, all_written}
-use Rattle.record_members.specs.declared.format.Format.TheVariants.{Two}
-use Rattle.record_members.specs.declared.member.Member.{Member}
-use Rattle.record_members.specs.declared.member.Member.TheVariants as member
-use Rattle.record_members.specs.declared.member.NameSpot.{NameSpot}
-use Rattle.record_members.specs.declared.member.RecordFault.TheVariants as fault
+use Rattle.cpe_records.specs.Forms.{list_of_items, or_default, required_member}
+use Rattle.cpe_records.specs.Gives.{◌>>=◌, all_from}
+use Rattle.cpe_records.specs.NameObjects.{component_in, has_attribute_shape, shaped, member_value_at, first_without, values_at}
+use Rattle.cpe_records.specs.Names.{lowered, of_object, object_name, name_of_data, is_written, at_spot, named_in, all_written}
+use Rattle.cpe_records.specs.declared.format.Format.TheVariants.{Two}
+use Rattle.cpe_records.specs.declared.member.Member.{Member}
+use Rattle.cpe_records.specs.declared.member.Member.TheVariants as member
+use Rattle.cpe_records.specs.declared.member.NameSpot.{NameSpot}
+use Rattle.cpe_records.specs.declared.member.RecordFault.TheVariants as fault
 use Rattle.record_writer.specs.Written.{items_by}
 use Rattle.record_writer.specs.NameObject.{name_object}
 use Rattle.record_writer.proofs.ReadBack.{data_of, data_items}

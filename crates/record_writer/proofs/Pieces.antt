@@ -11,7 +11,7 @@ use Rattle.cpe_rows.specs.cpe_name.Names.{value_of}
 use Rattle.cpe_rows.specs.cpe_name.Text.{attribute_name}
 use Rattle.cpe_rows.specs.cpe_name.declared.attribute.Attribute.{Attribute}
 use Rattle.cpe_rows.specs.cpe_name.Eleven.{Values}
-use Rattle.record_members.specs.cpe_uri.Canon.{is_any_component}
+use Rattle.cpe_records.specs.cpe_uri.Canon.{is_any_component}
 use Rattle.cpe_fs.specs.Grammar.{fs_component}
 use Rattle.record_writer.specs.Written.{items_by}
 use Rattle.record_writer.specs.NameObject.{with_values, value_tokens}

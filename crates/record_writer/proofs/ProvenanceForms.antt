@@ -9,11 +9,11 @@ use Rattle.cpe_rows.specs.Date.{is_date}
 use Rattle.cpe_rows.specs.Formed.{IsDated}
 use Rattle.cpe_rows.specs.declared.entry.Note.{Note}
 use Rattle.cpe_rows.specs.declared.entry.Provenance.{Provenance}
-use Rattle.record_members.specs.Gives.{◌>>=◌, all_from}
-use Rattle.record_members.specs.Forms.{required_member, tested, list_of_items}
-use Rattle.record_members.specs.Provenance.{note_in, provenance_in}
-use Rattle.record_members.specs.declared.member.Member.TheVariants as member
-use Rattle.record_members.specs.declared.member.RecordFault.{RecordFault}
+use Rattle.cpe_records.specs.Gives.{◌>>=◌, all_from}
+use Rattle.cpe_records.specs.Forms.{required_member, tested, list_of_items}
+use Rattle.cpe_records.specs.Provenance.{note_in, provenance_in}
+use Rattle.cpe_records.specs.declared.member.Member.TheVariants as member
+use Rattle.cpe_records.specs.declared.member.RecordFault.{RecordFault}
 use Rattle.record_writer.specs.Written.{items_by, note_json, provenance_json}
 use Rattle.record_writer.proofs.ReadBack.{data_of, data_items}
 use Rattle.record_writer.proofs.WordForms.{note_kind_read}

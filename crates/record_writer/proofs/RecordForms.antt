@@ -18,13 +18,13 @@ use Rattle.cpe_rows.specs.declared.edit.Query.{Query}
 use Rattle.cpe_rows.specs.declared.edit.Query.TheVariants as query
 use Rattle.record_writer.specs.NameObject.{name_object}
 use Rattle.cpe_records.specs.Reading.{record_json_of}
-use Rattle.record_members.specs.Line.{json_value_of}
+use Rattle.cpe_records.specs.Line.{json_value_of}
 use Rattle.cpe_records.specs.Taken.{is_valid_record}
 use Rattle.record_writer.specs.Written.{items_by, note_json, provenance_json}
 use Rattle.record_writer.specs.WrittenRecord.{test_json, edit_json, query_json, record_json, record_text}
 use Rattle.cpe_records.specs.declared.read.Record.{Record}
 use Rattle.cpe_records.specs.declared.read.Record.TheVariants as of_kind
-use Rattle.record_members.proofs.LineLemmas.{line_read}
+use Rattle.cpe_records.proofs.LineLemmas.{line_read}
 use Rattle.record_writer.proofs.ReadBack.{data_of, fits, fit_items, read-printed}
 use Rattle.record_writer.proofs.NameObjects.{fits-name_object}
 use Rattle.record_writer.proofs.TestForms.{fits-test_json}

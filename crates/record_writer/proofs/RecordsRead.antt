@@ -21,14 +21,14 @@ use Rattle.cpe_rows.specs.declared.edit.Edit.TheVariants as edit
 use Rattle.cpe_rows.specs.declared.edit.Edit.{Edit}
 use Rattle.cpe_rows.specs.declared.edit.Query.TheVariants as query
 use Rattle.cpe_rows.specs.declared.edit.Query.{Query}
-use Rattle.record_members.specs.Gives.{◌>>=◌}
-use Rattle.record_members.specs.Forms.{required_member, or_default, tested, member_at, word_at}
-use Rattle.record_members.specs.Formats.{format_at}
-use Rattle.record_members.specs.Names.{named_in, name_at, successors_at}
-use Rattle.record_members.specs.declared.format.Format.TheVariants.{Two}
-use Rattle.record_members.specs.declared.member.Member.TheVariants as member
-use Rattle.record_members.specs.declared.member.NameSpot.TheVariants as spot
-use Rattle.record_members.specs.declared.member.RecordFault.{RecordFault}
+use Rattle.cpe_records.specs.Gives.{◌>>=◌}
+use Rattle.cpe_records.specs.Forms.{required_member, or_default, tested, member_at, word_at}
+use Rattle.cpe_records.specs.Formats.{format_at}
+use Rattle.cpe_records.specs.Names.{named_in, name_at, successors_at}
+use Rattle.cpe_records.specs.declared.format.Format.TheVariants.{Two}
+use Rattle.cpe_records.specs.declared.member.Member.TheVariants as member
+use Rattle.cpe_records.specs.declared.member.NameSpot.TheVariants as spot
+use Rattle.cpe_records.specs.declared.member.RecordFault.{RecordFault}
 use Rattle.cpe_records.specs.Kinds.{description_in, entry_in, remark_in, change_in, deprecation_in, restore_in, statement_in, key_at, check_in, search_in}
 use Rattle.record_writer.specs.NameObject.{name_object}
 use Rattle.cpe_records.specs.Reading.{record_by, record_of}

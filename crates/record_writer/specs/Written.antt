@@ -9,7 +9,7 @@ use Rattle.cpe_rows.specs.declared.entry.Note.{Note}
 use Rattle.cpe_rows.specs.declared.entry.Provenance.{Provenance}
 use Rattle.cpe_rows.specs.declared.entry.Deprecation.{Deprecation}
 use Rattle.cpe_rows.specs.declared.entry.Entry.{Entry}
-use Rattle.record_members.specs.Words.{kind_word, note_kind_word}
+use Rattle.cpe_records.specs.Words.{kind_word, note_kind_word}
 
 -- the result of f for each element of a list, as items of an array
 abbrev pub items_by : {A : Type 0} → (A → Json) → List A → Items

@@ -15,7 +15,7 @@ use Rattle.cpe_rows.specs.declared.edit.Edit.{Edit}
 use Rattle.cpe_rows.specs.declared.edit.Edit.TheVariants as edit
 use Rattle.cpe_rows.specs.declared.edit.Query.{Query}
 use Rattle.cpe_rows.specs.declared.edit.Query.TheVariants as query
-use Rattle.record_members.specs.Words.{kind_word, mode_word, operator_word, truth_word}
+use Rattle.cpe_records.specs.Words.{kind_word, mode_word, operator_word, truth_word}
 use Rattle.cpe_records.specs.RecordKinds.{record_word}
 use Rattle.record_writer.specs.NameObject.{name_object}
 use Rattle.record_writer.specs.Written.{items_by, provenance_json}

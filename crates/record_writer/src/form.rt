@@ -15,12 +15,11 @@ use crate::object::{put_around_key, put_around_name, put_name_objects};
 use crate::test::put_test;
 use crate::write::{put, put_provenance};
 use cpe_fs::read_component_is;
-use cpe_records::{Record, RecordKind};
+use cpe_records::{Record, RecordKind, kind_word, mode_word, truth_word};
 use cpe_rows::{
     CheckKey, Date, Deprecation, Edit, Entry, Memory, Query, Statement, Text, Truth, Wfn,
 };
 use json::{Token, Writer};
-use record_members::{kind_word, mode_word, truth_word};
 use std::alloc::Global;
 
 fn put_about(alloc: Global, writer: &mut Writer, kind: RecordKind, name: &Wfn) -> Result<(), Memory>
@@ -371,7 +370,7 @@ pub fn written_is_read()
 /// # Errors
 /// Only that memory ran out. The buffer is then dropped.
 #[tactic(auto, unfolding(crate::specs::WrittenRecord::record_text))]
-pub fn append_record(alloc: Global, buffer: Vec<u8>, what: &Record) -> Result<Vec<u8>, Memory>
+fn append_record(alloc: Global, buffer: Vec<u8>, what: &Record) -> Result<Vec<u8>, Memory>
     ensures text { IfOk result (λ v. v.items ≡ buffer.items ++ record_text what.now) }
     // The written form of a valid record is read as the same record.
     ensures read { OnOk result (is_valid_record what.now ≡ true → record_of (record_text what.now) ≡ Ok what.now) }

@@ -13,5 +13,5 @@ mod object;
 mod test;
 mod write;
 
-pub use form::{append_record, write_record, written_is_read};
+pub use form::{write_record, written_is_read};
 pub use write::{append_entry, put, put_names, write_entry};

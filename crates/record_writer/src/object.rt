@@ -4,7 +4,7 @@ ghost use Rattle.std.specs.List.{AllByRecursion};
 ghost use Rattle.json.specs.Print.{IsPrintable};
 ghost use Rattle.json.specs.Reads.{token_of};
 ghost use Rattle.json.specs.Tree.{json_tokens};
-ghost use Rattle.record_members.specs.cpe_uri.Canon.{is_any_component};
+ghost use Rattle.cpe_records.specs.cpe_uri.Canon.{is_any_component};
 ghost use Rattle.record_writer.specs.Puts.{AppendsTokens};
 ghost use Rattle.record_writer.specs.NameObject.{sorted_attributes, value_tokens, name_object};
 ghost use Rattle.record_writer.specs.WrittenRecord.{key_tokens};
@@ -12,9 +12,9 @@ ghost use Rattle.record_writer.specs.WrittenRecord.{key_tokens};
 use crate::ascii::ascii_str;
 use crate::write::put;
 use cpe_fs::bind_component;
+use cpe_records::attribute_word;
 use cpe_rows::{Attribute, CheckKey, Memory, Value, Wfn};
 use json::{Token, Writer};
-use record_members::attribute_word;
 use std::alloc::Global;
 
 // The attributes, sorted by their names.

@@ -6,9 +6,9 @@ ghost use Rattle.record_writer.specs.WrittenRecord.{fact_json, check_json, test_
 
 use crate::object::{put_around_key, put_around_name};
 use crate::write::put;
+use cpe_records::operator_word;
 use cpe_rows::{BoxedName, CheckKey, Memory, Test};
 use json::{Token, Writer};
-use record_members::operator_word;
 use std::alloc::Global;
 
 fn put_fact(alloc: Global, writer: &mut Writer, name: &BoxedName) -> Result<(), Memory>

@@ -9,9 +9,9 @@ ghost use Rattle.record_writer.specs.Written.{name_json, note_json, deprecation_
 
 use crate::ascii::{ascii_str, date_str};
 use cpe_fs::bind_fs;
+use cpe_records::{kind_word, note_kind_word};
 use cpe_rows::{Deprecation, Entry, Memory, Note, Provenance, Wfn};
 use json::{Token, Writer};
-use record_members::{kind_word, note_kind_word};
 use std::alloc::Global;
 
 /// Writes tokens, one after another.

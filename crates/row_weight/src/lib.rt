@@ -12,6 +12,5 @@ mod tests;
 mod weigh;
 
 pub use weigh::{
-    with_active_entry, with_deprecation, with_entry, with_key, with_name, with_note,
-    with_statement, with_test,
+    with_active_entry, with_deprecation, with_key, with_name, with_note, with_statement,
 };

@@ -1,7 +1,7 @@
 // Tests of the weight of rows, by numbers that were counted by hand. Each tested value is computed in a function
 // without clauses. So the prover doesn't need the clauses of the called functions in the tests, which would take long.
 // For the same reason a function drops the rows.
-use crate::{with_entry, with_name, with_statement};
+use crate::{with_active_entry, with_deprecation, with_name, with_statement};
 use cpe_fs::unbind_fs;
 use cpe_rows::{
     Attribute, BoxedName, CheckKey, Date, Deprecation, Edge, Entry, Kind, List, Memory, Mode, Note,
@@ -150,9 +150,17 @@ fn an_entry(alloc: Global) -> Result<Entry, Memory> {
     an_entry_of(alloc, provenance, Some(deprecation))
 }
 
+fn weight_of(entry: &Entry) -> u64 {
+    let active = with_active_entry(0, &entry.name, &entry.title, &entry.provenance);
+    match &entry.deprecation {
+        Some(deprecation) => with_deprecation(active, deprecation),
+        None => active,
+    }
+}
+
 fn entry_weighs(alloc: Global, weight: u64) -> bool {
     match an_entry(alloc) {
-        Ok(entry) => found(with_entry(0, &entry) == weight, entry),
+        Ok(entry) => found(weight_of(&entry) == weight, entry),
         Err(_) => false,
     }
 }

@@ -4,7 +4,7 @@ ghost use Rattle.cpe_rows.specs.Weight.{weighs, name_weight, note_weight, deprec
 ghost use Rattle.row_weight.specs.Capped.{capped};
 
 use cpe_fs::fs_len;
-use cpe_rows::{CheckKey, Date, Deprecation, Entry, Note, Provenance, Statement, Test, Text, Wfn};
+use cpe_rows::{CheckKey, Date, Deprecation, Note, Provenance, Statement, Test, Text, Wfn};
 
 // Returns `weight` plus the weight of a row or part without texts.
 fn with_one(weight: u64) -> u64
@@ -55,8 +55,8 @@ pub fn with_key(weight: u64, key: &CheckKey) -> u64
     with_text(with_text(system, &key.href), &key.id)
 }
 
-/// Returns `weight` plus the weight of a test, or the largest number if the sum is greater. Allocates: no.
-pub fn with_test(weight: u64, test: &Test) -> u64
+// `weight` plus the weight of a test, or the largest number if the sum is greater.
+fn with_test(weight: u64, test: &Test) -> u64
     ensures { result ≡ capped (weight + test_weight test.now) }
 {
     match test {
@@ -99,15 +99,4 @@ pub fn with_active_entry(weight: u64, name: &Wfn, title: &Text, provenance: &Pro
     let submitter = with_text(titled, &provenance.submitter);
     let authority = with_text(submitter, &provenance.authority);
     with_notes(authority, provenance.notes.as_slice())
-}
-
-/// Returns `weight` plus the weight of an entry, or the largest number if the sum is greater. Allocates: no.
-pub fn with_entry(weight: u64, entry: &Entry) -> u64
-    ensures { result ≡ capped (weight + entry_weight entry.now) }
-{
-    let active = with_active_entry(weight, &entry.name, &entry.title, &entry.provenance);
-    match &entry.deprecation {
-        Some(deprecation) => with_deprecation(active, deprecation),
-        None => active,
-    }
 }

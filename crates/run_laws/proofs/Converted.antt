@@ -45,7 +45,7 @@ use Rattle.cpe_rows.specs.declared.test.Test.TheOpen.{Test-F}
 use Rattle.cpe_rows.specs.declared.test.Test.TheViews.{roll-Test}
 use Rattle.cpe_rows.specs.declared.test.Test.TheFolds.{fold-roll-Test, ind-Test, map-Test}
 use Rattle.cpe_rows.proofs.TestNames.{names-logic}
-use Rattle.cpe_records.specs.record_members.Words.{kind_word, note_kind_word, mode_word, operator_word}
+use Rattle.cpe_records.specs.Words.{kind_word, note_kind_word, mode_word, operator_word}
 use Rattle.cpe_records.specs.Edited.{line_edited}
 use Rattle.cpe_records.specs.Read.{IsRead, IsReadEdit, IsReadQuery}
 use Rattle.cpe_records.specs.Reading.{record_of}

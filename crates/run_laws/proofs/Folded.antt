@@ -9,7 +9,7 @@ use Rattle.cpe_rows.specs.declared.fault.EditFault.{EditFault}
 use Rattle.cpe_rows.proofs.Accepted.{at_start}
 use Rattle.cpe_rows.proofs.KeptLawful.{stays_lawful}
 use Rattle.cpe_rows.proofs.Unrefused.{unrefused}
-use Rattle.cpe_records.specs.record_members.declared.member.RecordFault.{RecordFault}
+use Rattle.cpe_records.specs.declared.member.RecordFault.{RecordFault}
 use Rattle.cpe_records.specs.Edited.{stepped, edited, line_edited}
 use Rattle.cpe_records.specs.Reading.{record_of}
 use Rattle.cpe_records.specs.declared.read.Record.{Record}

@@ -12,7 +12,7 @@ use Rattle.cpe_records.specs.Edited.{line_edited}
 use Rattle.cpe_records.specs.Reading.{record_of}
 use Rattle.cpe_records.specs.declared.read.Record.{Record}
 use Rattle.cpe_records.specs.declared.read.Record.TheVariants.{Edit, Query}
-use Rattle.cpe_records.specs.record_members.declared.member.RecordFault.{RecordFault}
+use Rattle.cpe_records.specs.declared.member.RecordFault.{RecordFault}
 use Rattle.snapshot_bytes.specs.States.{Snap, snapshot, StatesAreClear, StatesHaveSnapshots}
 use Rattle.convert_lines.specs.line_replies.Replies.{verdict_table}
 use Rattle.cpe_command.specs.Records.{record_step, by_record, record_session}

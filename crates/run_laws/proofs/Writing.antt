@@ -8,7 +8,7 @@ use Rattle.json.proofs.Printed.Utf8.{IsUtf8-are_ascii}
 use Rattle.cpe_records.specs.JsonTexts.{WritesTexts, ItemsWriteTexts, MembersWriteTexts, PrintsAreTexts}
 use Rattle.cpe_rows.specs.cpe_name.Eleven.{Values}
 use Rattle.cpe_rows.specs.cpe_name.Names.{IsName}
-use Rattle.cpe_records.specs.record_members.Words.{truth_word}
+use Rattle.cpe_records.specs.Words.{truth_word}
 use Rattle.cpe_rows.specs.declared.truth.Truth.{Truth}
 use Rattle.cpe_rows.specs.declared.truth.Truth.TheVariants.{True, False, Error, Unknown}
 use Rattle.certificate_records.specs.record_writer.Written.{items_by, name_json}

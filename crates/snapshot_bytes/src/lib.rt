@@ -16,6 +16,6 @@ pub use cursor::Cursor;
 pub use fault::LoadFault;
 pub use load::{Head, read_head, read_rows};
 pub use names::names_at;
-pub use parts::{Part, many};
+pub use parts::Part;
 pub use rows::{KeptResult, PlacedDeprecation, PlacedEntry, PlacedRows};
 pub use write::{push_entry, push_head, push_name, push_result, push_statement};

@@ -96,7 +96,7 @@ pub(crate) fn name(alloc: Global, cursor: &mut Cursor<'_>) -> Result<Wfn, LoadFa
 ///
 /// # Errors
 /// `NotSnapshot` if the bytes don't begin with so long a list; `Memory` if memory runs out.
-pub fn many<P: Part>(
+pub(crate) fn many<P: Part>(
     alloc: Global,
     cursor: &mut Cursor<'_>,
     count: u32,

@@ -17,10 +17,11 @@ use Rattle.cpe_rows.proofs.Within.{depth-logic}
 use Rattle.statement_rows.specs.Askers.{AreAskers, IsAsked, has_place, askers_or_none, may_enter, trim_list, trim_list_if}
 use Rattle.statement_rows.specs.ByResult.{asks_one}
 use Rattle.statement_rows.specs.Readings.{check_keys, is_asked}
-use Rattle.statement_rows.specs.Tickets.{IsBelow, ends_with, is_empty, with_if, with_last, with_last_if, without_if}
+use Rattle.statement_rows.specs.Tickets.{IsBelow, with_if, with_last_if, without_if}
+use Rattle.ticket_list.specs.Tickets.{ends_with, is_empty, with_last}
 use Rattle.statement_rows.proofs.ListLemmas.{ends-last, last-again, last-new, without-twice}
 use Rattle.statement_rows.proofs.ReadingLemmas.{keys-logic}
-use Rattle.statement_rows.proofs.TicketLemmas.{not_last}
+use Rattle.ticket_list.proofs.TicketLemmas.{not_last}
 use Rattle.statement_rows.proofs.VerdictLemmas.{key_same, or_right}
 
 -- all children of a test ask for the checks for which the test asks

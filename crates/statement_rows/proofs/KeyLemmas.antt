@@ -1,10 +1,11 @@
--- A ticket that is added for each check of a test.
+-- Lemmas: one ticket is added to the list of each check of a test.
 use Rattle.std.proofs.Common.{◌≡◌, ℕ, Bool, true, false, cond, List, [], ◌∷◌, ◌++◌, refl, sym, ap, ◌∙◌, Vec, Global}
 use Rattle.std.specs.Prelude.{None}
 use Rattle.cpe_rows.specs.declared.test.CheckKey.{CheckKey}
 use Rattle.statement_rows.specs.Askers.{AreAskers, AreAskedBut, askers_at, askers_or_none, asker_list_at}
 use Rattle.statement_rows.specs.Readings.{is_asked}
-use Rattle.statement_rows.specs.Tickets.{ends_with, with_last, with_last_if}
+use Rattle.statement_rows.specs.Tickets.{with_last_if}
+use Rattle.ticket_list.specs.Tickets.{ends_with, with_last}
 
 module _ (keys : List CheckKey) (old new : List (CheckKey × Vec ℕ Global)) where
   not_none : (t : ℕ) (xs : List ℕ) → xs ++ t ∷ [] ≡ [] → ⊥

@@ -1,4 +1,3 @@
-pub mod TicketLemmas
 pub mod ReadingLemmas
 pub mod ListLemmas
 pub mod RowLemmas

@@ -3,7 +3,8 @@ use Rattle.std.proofs.Common.{◌≡◌, ℕ, ◌<◌, Bool, true, false, not, c
 use Rattle.std.specs.Prelude.{nat_eq}
 use Rattle.std.specs.List.{AllByRecursion}
 use Rattle.std.proofs.lemmas.Bool.Decides.{nat_tests}
-use Rattle.statement_rows.specs.Tickets.{ends_with, with_last, without, without_if}
+use Rattle.statement_rows.specs.Tickets.{without_if}
+use Rattle.ticket_list.specs.Tickets.{ends_with, with_last, without}
 use Rattle.check_results.specs.ticket_list.Rising.{IsRising}
 
 -- ---- lists of tickets

@@ -13,7 +13,8 @@ use Rattle.statement_rows.specs.Askers.{askers_at}
 use Rattle.statement_rows.specs.Invariant.{AreStatementRows, IsAlone}
 use Rattle.statement_rows.specs.Rows.{asks, forget_change, has_row_id, is_changed, ticket_of, statement_tickets}
 use Rattle.statement_rows.specs.State.{forget_row_change, statements_of, view_of}
-use Rattle.statement_rows.specs.Tickets.{among, without, without_if}
+use Rattle.statement_rows.specs.Tickets.{among, without_if}
+use Rattle.ticket_list.specs.Tickets.{without}
 use Rattle.statement_rows.proofs.ListLemmas.{nat_decides, nat_same}
 use Rattle.statement_rows.proofs.RowLemmas.{all_at, members, passing-map, rising-map, still_room}
 use Rattle.statement_rows.proofs.StateLemmas.{same_self}

@@ -12,10 +12,11 @@ use Rattle.cpe_rows.specs.Truth.{same_truth}
 use Rattle.cpe_rows.specs.declared.truth.Truth.{Truth}
 use Rattle.statement_rows.specs.declared.row.JudgedRow.{JudgedRow}
 use Rattle.statement_rows.specs.Rows.{after_move, at_place, at_rows, at_ticket, forget_change, is_changed, ticket_place_in, ticket_of, statement_tickets}
-use Rattle.statement_rows.specs.Tickets.{among, without}
+use Rattle.statement_rows.specs.Tickets.{among}
+use Rattle.ticket_list.specs.Tickets.{without}
 use Rattle.check_results.specs.ticket_list.Rising.{IsRisingBy, put_in}
 use Rattle.check_results.proofs.ticket_list.RisingLemmas.{all_passing}
-use Rattle.statement_rows.proofs.TicketLemmas.{without_none}
+use Rattle.ticket_list.proofs.TicketLemmas.{without_none}
 use Rattle.statement_rows.proofs.ListLemmas.{nat_decides, nat_same}
 
 pub lower_differs : (a b : ℕ) → a < b → nat_eq a b ≡ false

@@ -7,7 +7,8 @@ use Rattle.std.specs.Option.{option_map}
 use Rattle.cpe_rows.specs.After.{without_first}
 use Rattle.statement_rows.specs.declared.row.JudgedRow.{JudgedRow}
 use Rattle.statement_rows.specs.Rows.{ticket_of}
-use Rattle.statement_rows.specs.Tickets.{first_place, without, without_if}
+use Rattle.statement_rows.specs.Tickets.{first_place, without_if}
+use Rattle.ticket_list.specs.Tickets.{without}
 use Rattle.check_results.specs.ticket_list.Rising.{IsRisingBy}
 use Rattle.check_results.proofs.ticket_list.RisingLemmas.{all_passing}
 use Rattle.statement_rows.proofs.ListLemmas.{nat_same}

@@ -5,7 +5,7 @@ use Rattle.std.proofs.Common.{Vec, Global}
 use Rattle.cpe_rows.specs.Rows.{same_key}
 use Rattle.cpe_rows.specs.declared.test.CheckKey.{CheckKey}
 use Rattle.statement_rows.specs.Readings.{is_asked}
-use Rattle.statement_rows.specs.Tickets.{ends_with, is_empty}
+use Rattle.ticket_list.specs.Tickets.{ends_with, is_empty}
 
 -- the tickets of a list, or none if there is no list
 abbrev pub askers_or_none : Option (Vec ℕ Global) → List ℕ

@@ -16,7 +16,8 @@ use Rattle.statement_rows.specs.declared.row.Cause.TheVariants.{Check, Fact}
 use Rattle.statement_rows.specs.declared.row.JudgedRow.{JudgedRow}
 use Rattle.statement_rows.specs.ByResult.{at_result, each_result, truth_with}
 use Rattle.statement_rows.specs.Readings.{FactTruths, check_keys, is_asked, reading, truths_of}
-use Rattle.statement_rows.specs.Tickets.{among, first_place, without}
+use Rattle.statement_rows.specs.Tickets.{among, first_place}
+use Rattle.ticket_list.specs.Tickets.{without}
 
 -- the verdict of a statement whose fact references have these numbers
 abbrev pub verdict_by : FactTruths → List (CheckKey × Truth) → Statement → List NameId → Truth

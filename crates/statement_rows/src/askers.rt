@@ -5,13 +5,14 @@ ghost use Rattle.cpe_rows.specs.Rows.{same_key};
 ghost use Rattle.cpe_rows.specs.declared.test.CheckKey.{CheckKey};
 ghost use Rattle.statement_rows.specs.Askers.{AreAskers, HasPlace, IsAsked, askers_at, asker_list_at, may_enter, trim_list, trim_list_if};
 ghost use Rattle.statement_rows.specs.Readings.{check_keys, is_asked};
-ghost use Rattle.statement_rows.specs.Tickets.{is_empty, with_last, with_last_if, without, without_if};
+ghost use Rattle.statement_rows.specs.Tickets.{with_last_if, without_if};
+ghost use Rattle.ticket_list.specs.Tickets.{is_empty, with_last, without};
 ghost use Rattle.check_results.specs.ticket_list.Rising.{IsRising};
 
-use crate::tickets::{add_last, remove_ticket};
 use cpe_rows::{CheckKey, Memory, Test};
 use std::alloc::Global;
 use std::collections::HashMap;
+use ticket_list::{append_ticket, remove_ticket};
 
 // The tickets that ask for a check, rising.
 pub(crate) fn askers_of<'a>(askers: &'a HashMap<CheckKey, Vec<u64>>, key: &CheckKey) -> &'a [u64]
@@ -141,12 +142,13 @@ fn add(askers: &mut HashMap<CheckKey, Vec<u64>>, key: &CheckKey, ticket: u64)
     ensures others { (q : CheckKey) → same_key key.now q ≡ false → asker_list_at askers.new.entries q ≡ asker_list_at askers.old.entries q }
 {
     match askers.get_mut(key) {
-        Some(list) => add_last(list, ticket),
+        Some(list) => append_ticket(list, ticket),
         None => {}
     }
 }
 
-// For each check in a test, appends a ticket to the list of those that ask for it, unless it is already the last one there. Takes no memory.
+// For each check in a test, appends a ticket to the list of those that ask for it, unless it is already the last one
+// there. Takes no memory.
 pub(crate) fn add_all(askers: &mut HashMap<CheckKey, Vec<u64>>, test: &Test, ticket: u64)
     requires { (q : CheckKey) → is_asked (check_keys test.now) q ≡ true → may_enter ticket (asker_list_at askers.old.entries q) ≡ true }
     ensures tickets { (q : CheckKey) → askers_at askers.new.entries q ≡ with_last_if (is_asked (check_keys test.now) q) ticket (askers_at askers.old.entries q) }

@@ -99,7 +99,8 @@ fn next_truths<'i, T: FactTruth>(ids: &'i [NameId], mode: Mode, facts: &T) -> Ea
     }
 }
 
-// The truths of a test whose fact references have these numbers, one after the other: for each result, the truth if each check has it.
+// The truths of a test whose fact references have these numbers, one after the other: for each result, the truth if
+// each check has it.
 pub(crate) fn test_truths<'i, T: FactTruth>(
     test: &Test,
     ids: &'i [NameId],

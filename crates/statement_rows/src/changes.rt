@@ -9,8 +9,8 @@ use crate::statements::StatementRows;
 use cpe_rows::{Changed, Room, Truth};
 
 impl StatementRows {
-    /// Adds a change for each statement whose verdict differs from the known one, in the order of their places. Looks at no others.
-    /// Allocates: no.
+    /// Adds a change for each statement whose verdict differs from the known one, in the order of their places. Looks
+    /// at no others. Allocates: no.
     pub fn add_changes(&self, changes: &mut Room<Changed>)
         requires few { length self.now.rows < 2 ^ 32 }
         requires room { length self.now.rows ≤ changes.old.spare }

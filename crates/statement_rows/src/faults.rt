@@ -10,8 +10,8 @@ use crate::statements::StatementRows;
 use cpe_rows::{EditFault, MOST_FACTS, MOST_STATEMENTS, Statement, Which};
 
 impl StatementRows {
-    /// The first cause to refuse a statement, in the order of [`EditFault`], without the weight. There is none exactly if only the weight
-    /// may refuse the edit that adds it. Allocates: no.
+    /// The first cause to refuse a statement, in the order of [`EditFault`], without the weight. There is none exactly
+    /// if only the weight may refuse the edit that adds it. Allocates: no.
     pub fn statement_fault(&self, statement: &Statement) -> Option<EditFault>
         ensures { result ≡ first_some (statement_causes (statements_of self.now.rows) statement.now) }
     {

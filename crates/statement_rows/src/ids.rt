@@ -10,9 +10,9 @@ ghost use Rattle.check_results.specs.ticket_list.Rising.{IsRisingBy};
 
 use crate::row::JudgedRow;
 use crate::rows::place_of;
-use check_results::TicketList;
 use cpe_rows::Text;
 use std::collections::HashMap;
+use ticket_list::TicketList;
 
 // The place of the row of an id, from 0.
 pub(crate) fn place_by_id(

@@ -13,8 +13,8 @@ ghost use Rattle.statement_rows.specs.Rows.{verdict_by};
 ghost use Rattle.statement_rows.specs.State.{AreJudged, State, StatementRow, at_tickets, judge};
 ghost use Rattle.statement_rows.specs.Tickets.{among};
 
-/// The verdict is the truth of the test by a function of names, if the number of each fact reference has the truth that the function
-/// gives its name.
+/// The verdict is the truth of the test by a function of names, if the number of each fact reference has the truth that
+/// the function gives its name.
 pub fn verdicts_are_truths()
     ensures { (truth : FactTruths) (checks : List (CheckKey × Truth)) (s : Statement) (ids : List NameId) (fact : Values → Truth) → map fact (fact_names s.test) ≡ truths_of truth s.mode ids → verdict_by truth checks s ids ≡ test_truth fact (kept_truth checks) s.test }
 {}
@@ -29,7 +29,8 @@ pub fn refreshes_add_up()
     ensures { (truth : FactTruths) (checks : List (CheckKey × Truth)) (ts us : List ℕ) (rows : List StatementRow) → at_tickets us (judge truth checks) (at_tickets ts (judge truth checks) rows) ≡ at_tickets (ts ++ us) (judge truth checks) rows }
 {}
 
-/// After a refresh by new truths all rows are judged by these, if the old truths judged all rows, and judge the other rows the same.
+/// After a refresh by new truths all rows are judged by these, if the old truths judged all rows, and judge the other
+/// rows the same.
 pub fn refreshes_judge()
     ensures { (old new : FactTruths) (ts : List ℕ) (a b : State) → b.rows ≡ at_tickets ts (judge new a.checks) a.rows → b.checks ≡ a.checks → AreJudged a old
         → AllByRecursion (λ j. among ts j.ticket ≡ false → judge old a.checks j ≡ judge new a.checks j) a.rows → AreJudged b new }

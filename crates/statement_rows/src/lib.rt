@@ -24,7 +24,6 @@ mod ready_statement;
 mod row;
 mod rows;
 mod statements;
-mod tickets;
 mod truths;
 
 pub use check_results::ReadyResult;

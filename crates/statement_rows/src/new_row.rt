@@ -12,11 +12,12 @@ use crate::ready_statement::ReadyStatement;
 use crate::row::{JudgedRow, NumberedStatement};
 use crate::rows::{by_result_of, verdict_of};
 use crate::truths::FactTruth;
-use check_results::{Checks, TicketList};
+use check_results::Checks;
 use cpe_rows::{CheckKey, Memory, Statement, Text};
 use name_index::NameId;
 use std::alloc::Global;
 use std::collections::HashMap;
+use ticket_list::TicketList;
 
 // A statement, with a copy of the numbers of its fact references.
 //
@@ -77,7 +78,8 @@ fn reserve(
     Ok(())
 }
 
-// Returns a copy of the statement's id. Makes room for its row, and for its ticket as one that asks for the checks of its test.
+// Returns a copy of the statement's id. Makes room for its row, and for its ticket as one that asks for the checks of
+// its test.
 //
 // # Errors
 // Only that memory ran out.

@@ -1,9 +1,9 @@
 // The row of a statement, and what changes it.
 
 use crate::by_result::ByResult;
-use check_results::{Change, Ticketed};
 use cpe_rows::{Statement, Truth};
 use name_index::NameId;
+use ticket_list::{Change, Ticketed};
 
 // A statement, and the numbers of its fact references in the order of its test.
 #[derive(Drop)]

@@ -9,10 +9,10 @@ ghost use Rattle.statement_rows.specs.Tickets.{without_if};
 
 use crate::by_result::{ByResult, test_truths};
 use crate::row::{Cause, JudgedRow, KnownVerdict, NumberedStatement, Refresh};
-use crate::tickets::{add_ticket, remove_ticket};
 use crate::truths::{FactTruth, test_truth};
-use check_results::{Checks, TicketList};
+use check_results::Checks;
 use cpe_rows::Truth;
+use ticket_list::{TicketList, add_ticket, remove_ticket};
 
 // The place of the row of a ticket, from 0. There is none exactly if no row has the ticket.
 pub(crate) fn place_of(rows: &TicketList<JudgedRow>, ticket: u64) -> Option<usize>
@@ -168,8 +168,8 @@ fn refresh_row<T: FactTruth>(
     }
 }
 
-// Judges the rows of these tickets, and no others. Before and after, `changed` has the tickets of the rows whose verdict differs from
-// the known one. Takes no memory.
+// Judges the rows of these tickets, and no others. Before and after, `changed` has the tickets of the rows whose
+// verdict differs from the known one. Takes no memory.
 pub(crate) fn refresh_rows<T: FactTruth>(
     rows: &mut TicketList<JudgedRow>,
     changed: &mut Vec<u64>,

@@ -20,12 +20,13 @@ use crate::ready_statement::ReadyStatement;
 use crate::row::{Cause, JudgedRow};
 use crate::rows::{forget_changes, refresh_rows, remove_changed, take_row};
 use crate::truths::FactTruth;
-use check_results::{Checks, ReadyResult, TicketList};
+use check_results::{Checks, ReadyResult};
 use cpe_rows::{CheckKey, Memory, Mode, Statement, Text, Truth};
 use name_index::NameId;
 use std::alloc::Global;
 use std::collections::HashMap;
 use std::marker::Model;
+use ticket_list::TicketList;
 
 /// Statements with tickets and verdicts, and the results of checks. See the crate's page.
 #[derive(Drop)]
@@ -94,7 +95,8 @@ impl StatementRows {
         );
     }
 
-    /// Makes a statement of a new id ready, with the numbers of its fact references in the order of its test. Takes all memory for it.
+    /// Makes a statement of a new id ready, with the numbers of its fact references in the order of its test. Takes all
+    /// memory for it.
     ///
     /// # Errors
     /// Only that memory ran out.
@@ -184,8 +186,8 @@ impl StatementRows {
         self.results.reserve(key)
     }
 
-    /// Sets the result of a check whose key is ready, in the place of its earlier result or else at the end. Judges the statements that
-    /// ask for the check. Allocates: no.
+    /// Sets the result of a check whose key is ready, in the place of its earlier result or else at the end. Judges the
+    /// statements that ask for the check. Allocates: no.
     pub fn set_result<T: FactTruth>(&mut self, ready: ReadyResult, truth: Truth, facts: &T)
         requires { (k : CheckKey) × IsReadyTruth self.old k ready }
         ensures checks { (k : CheckKey) → IsReadyTruth self.old k ready → self.new.checks ≡ with_check k truth self.old.checks }
@@ -205,7 +207,8 @@ impl StatementRows {
         );
     }
 
-    /// Removes the result of a check, and returns whether there was one. Judges the statements that ask for it. Allocates: no.
+    /// Removes the result of a check, and returns whether there was one. Judges the statements that ask for it.
+    /// Allocates: no.
     pub fn remove_result<T: FactTruth>(&mut self, key: &CheckKey, facts: &T) -> bool
         ensures found { result ≡ list_any (has_key key.now) self.old.checks }
         ensures checks { self.new.checks ≡ without_first (has_key key.now) self.old.checks }
@@ -260,7 +263,8 @@ impl StatementRows {
         &self.results
     }
 
-    /// The statement at a place from 0, with its verdict. There is none exactly if the place is the number of statements or more.
+    /// The statement at a place from 0, with its verdict. There is none exactly if the place is the number of
+    /// statements or more.
     pub fn at(&self, place: usize) -> Option<(&Statement, Truth)>
         ensures statement { option_map (λ p. p.0.now) result ≡ option_map (λ j. j.statement) (slice_get self.now.rows place) }
         ensures verdict { option_map (λ p. p.1) result ≡ option_map (λ j. j.verdict) (slice_get self.now.rows place) }
@@ -288,8 +292,8 @@ impl StatementRows {
         }
     }
 
-    /// Which facts the statement of this id uses: its mode, the numbers of its fact references in the order of its test, and its
-    /// ticket.
+    /// Which facts the statement of this id uses: its mode, the numbers of its fact references in the order of its
+    /// test, and its ticket.
     pub fn use_of(&self, id: &Text) -> Option<(Mode, &[NameId], u64)>
         ensures { option_map (λ u. (u.0, u.1.now, u.2)) result ≡ option_map use_of (find (is_of id.now) self.now.rows) }
     {

@@ -3,3 +3,4 @@ mod MarkLemmas
 mod SlotLemmas
 mod FoundLemmas
 mod ChangeLemmas
+pub mod TicketLemmas

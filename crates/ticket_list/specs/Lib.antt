@@ -1,3 +1,4 @@
 pub mod Rising
 pub mod Slots
 pub mod TicketList
+pub mod Tickets

@@ -14,7 +14,7 @@ use Rattle.cpe_rows.specs.declared.statement.Mode.TheVariants.{Plain, Follow}
 use Rattle.facts.specs.fact_laws.Shown.{one_if_some, times_in_list}
 use Rattle.facts.specs.fact_rows.Facts.{ends_or_none, Fact, fact_at, FactTable, has_end_of_fact, is_fact, leads_by, has_fact_room, leads_of, new_fact, OthersStay, users_of}
 use Rattle.facts.specs.fact_rows.Calls.{SameFacts}
-use Rattle.facts.specs.fact_rows.Tickets.{is_empty}
+use Rattle.facts.specs.ticket_list.Tickets.{is_empty}
 use Rattle.facts.specs.Facts.{AreUsedBut, FactsNow, is_used, LeadsTo, table_of}
 use Rattle.facts.specs.Room.{KeepsFacts, OnlyMode, RoomForUsers}
 use Rattle.facts.proofs.UserLemmas.{used_fact}

@@ -13,7 +13,7 @@ use Rattle.cpe_rows.specs.declared.statement.Mode.TheVariants.{Plain, Follow}
 use Rattle.facts.specs.fact_laws.Asked.{leads}
 use Rattle.fact_boards.specs.Kept.{ShowRows, ShowsRows}
 use Rattle.facts.specs.fact_rows.Facts.{FactTable}
-use Rattle.facts.specs.fact_rows.Tickets.{is_empty}
+use Rattle.facts.specs.ticket_list.Tickets.{is_empty}
 use Rattle.facts.specs.Facts.{FactsOf, is_used}
 use Rattle.facts.specs.Users.{users_in}
 use Rattle.facts.proofs.UserLemmas.{used_fact}

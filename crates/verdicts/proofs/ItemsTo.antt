@@ -7,8 +7,8 @@ use Rattle.std.proofs.lemmas.Bool.{and_parts, not-true, or_cases, or_left, or_ri
 use Rattle.std.proofs.lemmas.List.Folds.{list_any-append}
 use Rattle.std.proofs.lemmas.List.Sums.{sum_by-cons}
 use Rattle.std.specs.Cmp.Derive.{both_true}
-use Rattle.name_index.specs.product_orders.Elements.{SameElements}
-use Rattle.name_index.proofs.product_orders.Sums.{filter_same}
+use Rattle.name_index.specs.Elements.{SameElements}
+use Rattle.name_index.proofs.Sums.{filter_same}
 use Rattle.name_index.proofs.Postings.{sum_map}
 use Rattle.cpe_rows.specs.cpe_name.Eleven.{Values}
 use Rattle.cpe_rows.specs.cpe_name.Equal.{same_name}
@@ -23,8 +23,8 @@ use Rattle.cpe_rows.proofs.NameTests.{same_is}
 use Rattle.name_index.specs.Index.{ids, name_id, times_held}
 use Rattle.name_index.specs.Table.{IsNameTable, find_kept, Kept, Names, kept_at}
 use Rattle.name_index.specs.declared.table.NameId.{NameId}
-use Rattle.name_index.specs.product_orders.declared.products.Side.TheVariants as side
-use Rattle.facts.specs.target_index.Targets.{is_met}
+use Rattle.name_index.specs.declared.products.Side.TheVariants as side
+use Rattle.facts.specs.level_board.Targets.{is_met}
 use Rattle.cpe_rows.specs.cpe_values.declared.value.Value.{Value}
 use Rattle.facts.specs.fact_laws.Shown.{different, meets_on, names_at, names_in, near_names, one_if_some, Shows, times_named}
 use Rattle.facts.proofs.fact_laws.Different.{counts_same, held_different, near_different, one_once, one_some}

@@ -21,7 +21,7 @@ use Rattle.facts.proofs.fact_laws.Names.{sum_flat}
 use Rattle.facts.proofs.fact_laws.Shown.{number_first}
 use Rattle.fact_boards.specs.Kept.{AreFactNames}
 use Rattle.facts.specs.fact_rows.Facts.{FactTable, has_end_of_fact, leads_of}
-use Rattle.facts.specs.fact_rows.Tickets.{is_empty}
+use Rattle.facts.specs.ticket_list.Tickets.{is_empty}
 use Rattle.facts.specs.Facts.{LeadsTo}
 use Rattle.facts.specs.Users.{users_in}
 use Rattle.verdicts.proofs.NumberLemmas.{live_filtered}

@@ -3,7 +3,7 @@ use Rattle.std.proofs.Common.{◌≡◌, ◌≤◌, ℕ, true, not, List, [], fi
 use Rattle.std.specs.Prelude.{is_some}
 use Rattle.std.specs.List.{AllByRecursion, flat_map, list_any, sum_by}
 use Rattle.cpe_rows.specs.cpe_name.Eleven.{Values}
-use Rattle.name_index.specs.product_orders.Elements.{SameElements}
+use Rattle.name_index.specs.Elements.{SameElements}
 use Rattle.name_index.specs.declared.table.NameId.{NameId}
 use Rattle.name_index.specs.Table.{IsNameTable, Names, kept_at}
 use Rattle.cpe_rows.specs.Chains.{ends, leads_to}
@@ -21,7 +21,7 @@ use Rattle.facts.proofs.fact_laws.Counted.{counted_once}
 use Rattle.facts.proofs.fact_laws.Sources.{apart_once}
 use Rattle.fact_boards.specs.Kept.{AreFactNames, AreSound}
 use Rattle.facts.specs.fact_rows.Facts.{Fact, fact_at, FactTable, is_fact, truth_of_fact, truth_or_unknown, users_or_none}
-use Rattle.facts.specs.fact_rows.Tickets.{is_empty}
+use Rattle.facts.specs.ticket_list.Tickets.{is_empty}
 use Rattle.facts.specs.Facts.{AreUsed, FactsNow, HasFacts, is_used, table_of}
 use Rattle.facts.specs.LeadCalls.{HasRoomForEnds}
 use Rattle.facts.specs.Leads.{IsLed}

@@ -6,8 +6,8 @@ use Rattle.std.proofs.lemmas.Bool.{both_ways, cases_Bool, ne_eqb, or_left, or_ri
 use Rattle.std.proofs.lemmas.List.{map-append}
 use Rattle.cpe_rows.specs.cpe_name.Eleven.{Values}
 use Rattle.cpe_rows.specs.cpe_name.Equal.{same_name}
-use Rattle.name_index.specs.product_orders.Elements.{SameElements}
-use Rattle.name_index.proofs.product_orders.Sums.{if_passes, sum_filter}
+use Rattle.name_index.specs.Elements.{SameElements}
+use Rattle.name_index.proofs.Sums.{if_passes, sum_filter}
 use Rattle.name_index.specs.declared.table.NameId.{NameId}
 use Rattle.name_index.specs.Table.{IsNameTable, IsLive, Names, kept_at}
 use Rattle.cpe_rows.specs.Chains.{ends, leads_to}
@@ -29,7 +29,7 @@ use Rattle.facts.proofs.fact_laws.Names.{sum_flat}
 use Rattle.facts.proofs.fact_laws.Sources.{led_by_those_there}
 use Rattle.fact_boards.specs.Kept.{AreFactNames}
 use Rattle.facts.specs.fact_rows.Facts.{ends_of_fact, Fact, fact_at, FactTable, users_or_none}
-use Rattle.facts.specs.fact_rows.Tickets.{is_empty}
+use Rattle.facts.specs.ticket_list.Tickets.{is_empty}
 use Rattle.facts.specs.Facts.{FactsNow, HasFacts, is_used}
 use Rattle.facts.specs.Leads.{is_led, IsLed}
 use Rattle.facts.specs.Users.{users_in}

@@ -3,7 +3,7 @@ use Rattle.std.proofs.Common.{◌≡◌, ◌<◌, ℕ, Bool, true, false, not, �
 use Rattle.std.specs.List.{AllByRecursion, flat_map, sum_by}
 use Rattle.std.proofs.lemmas.Bool.{or_left, true≢false}
 use Rattle.std.proofs.lemmas.List.{append-nil}
-use Rattle.name_index.specs.product_orders.Elements.{SameElements}
+use Rattle.name_index.specs.Elements.{SameElements}
 use Rattle.name_index.specs.declared.table.NameId.{NameId}
 use Rattle.name_index.specs.Table.{IsNameTable, kept_at, Names}
 use Rattle.cpe_rows.specs.FactNames.{fact_names}
@@ -15,7 +15,7 @@ use Rattle.facts.specs.fact_laws.Shown.{names_at}
 use Rattle.facts.specs.fact_laws.Asked.{fresh_facts, is_referred, leads, same_mode}
 use Rattle.fact_boards.specs.Kept.{AreFactNames}
 use Rattle.facts.specs.fact_rows.Facts.{has_end_of_fact, has_fact_room, is_fact, leads_of, users_of}
-use Rattle.facts.specs.fact_rows.Tickets.{ends_with, is_empty}
+use Rattle.facts.specs.ticket_list.Tickets.{ends_with, is_empty}
 use Rattle.facts.specs.Facts.{AreUsed, AreUsedBut, FactsNow, is_used, LeadsTo, table_of}
 use Rattle.facts.specs.Users.{AreBelow}
 use Rattle.facts.proofs.UsedLemmas.{empty_is}

@@ -24,7 +24,7 @@ use Rattle.facts.proofs.fact_laws.Shown.{other_number, shows_order, shows_part}
 use Rattle.fact_boards.specs.Kept.{AreFactNames, AreSound, board_of_mode}
 use Rattle.fact_boards.proofs.Boards.{statement_less}
 use Rattle.facts.specs.fact_rows.Facts.{has_end_of_fact, is_fact, leads_of, truth_of_fact, users_of}
-use Rattle.facts.specs.fact_rows.Tickets.{is_empty, without}
+use Rattle.facts.specs.ticket_list.Tickets.{is_empty, without}
 use Rattle.facts.specs.Calls.{IsOldStatement, MayRemoveStatement}
 use Rattle.facts.specs.Facts.{AreUsed, FactsNow, FactsOf, HasFacts, is_used, LeadsTo, table_of}
 use Rattle.facts.specs.Users.{AreTickets, statement_ticket}

@@ -28,7 +28,7 @@ use Rattle.fact_boards.specs.Kept.{AreKnown, AreFactNames, board_of_mode, FitBoa
 use Rattle.facts.specs.fact_rows.Facts.{Fact, fact_at, FactTable, has_end_of_fact, is_fact, leads_of, users_of, users_or_none}
 use Rattle.facts.specs.Facts.{FactsNow, FactsOf, HasFacts, is_used, LeadsTo, table_of}
 use Rattle.facts.specs.Users.{users_in}
-use Rattle.facts.specs.fact_rows.Tickets.{is_empty}
+use Rattle.facts.specs.ticket_list.Tickets.{is_empty}
 use Rattle.facts.proofs.MoveLemmas.{on}
 use Rattle.facts.proofs.UserLemmas.{used_fact, users_refer}
 use Rattle.statement_rows.specs.State.{StatementRow, statements_of}

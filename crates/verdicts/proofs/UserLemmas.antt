@@ -18,7 +18,7 @@ use Rattle.facts.proofs.fact_laws.Counted.{same_test}
 use Rattle.facts.proofs.fact_laws.Shown.{same_names}
 use Rattle.fact_boards.specs.Kept.{AreFactNames}
 use Rattle.facts.specs.fact_rows.Facts.{has_end_of_fact, users_of}
-use Rattle.facts.specs.fact_rows.Tickets.{is_empty}
+use Rattle.facts.specs.ticket_list.Tickets.{is_empty}
 use Rattle.facts.specs.Facts.{FactsNow, HasFacts, is_used, table_of}
 use Rattle.facts.specs.Users.{users_in}
 use Rattle.statement_rows.specs.State.{StatementRow, statements_of}

@@ -13,7 +13,7 @@ use Rattle.cpe_rows.specs.declared.statement.Statement.{Statement}
 use Rattle.facts.specs.fact_laws.Shown.{names_at, times_in_list}
 use Rattle.fact_boards.specs.Kept.{AreFactNames}
 use Rattle.facts.specs.fact_rows.Facts.{has_end_of_fact, leads_of, users_of}
-use Rattle.facts.specs.fact_rows.Tickets.{is_empty, without}
+use Rattle.facts.specs.ticket_list.Tickets.{is_empty, without}
 use Rattle.facts.specs.Facts.{FactsNow, table_of}
 use Rattle.statement_rows.specs.State.{is_of, use_of}
 use Rattle.verdicts.specs.Verdicts.{HasVerdicts, known_in, statements_in, VerdictsNow}

@@ -36,8 +36,8 @@ pub struct Addition {
 }
 
 impl Verdicts {
-    /// Makes a statement of a new id ready, with the numbers of its fact references in the order of its test. Takes all memory for
-    /// it, and changes no verdict.
+    /// Makes a statement of a new id ready, with the numbers of its fact references in the order of its test. Takes all
+    /// memory for it, and changes no verdict.
     ///
     /// # Errors
     /// Only that memory ran out; nothing is kept of the statement then.

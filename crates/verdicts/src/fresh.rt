@@ -139,8 +139,8 @@ fn reserve_asked(
     }
 }
 
-// Adds the fresh facts of a statement, and reserves room for one more user of each of its facts, and for the names to which the
-// fresh facts lead. Returns these names.
+// Adds the fresh facts of a statement, and reserves room for one more user of each of its facts, and for the names to
+// which the fresh facts lead. Returns these names.
 pub(crate) fn ready_facts(
     facts: &mut Facts,
     alloc: Global,

@@ -6,7 +6,7 @@ ghost use Rattle.cpe_rows.specs.Prelude.{after, covers, is_same, IsLawful, IsLow
 ghost use Rattle.cpe_rows.specs.declared.edit.Edit.TheVariants as edit;
 ghost use Rattle.cpe_rows.specs.declared.statement.Mode.TheVariants.{Follow};
 ghost use Rattle.name_registry.specs.Registered.{items_leading};
-ghost use Rattle.name_index.specs.product_orders.declared.products.Side.TheVariants as side;
+ghost use Rattle.name_index.specs.declared.products.Side.TheVariants as side;
 ghost use Rattle.facts.specs.level_board.Board.{FitsBoard};
 ghost use Rattle.facts.specs.fact_laws.Shown.{name_at, near_names};
 ghost use Rattle.fact_boards.specs.Prelude.{AreFactNames, board_of_mode, ids, is_met, names_at, target_ids};
@@ -19,8 +19,7 @@ ghost use Rattle.verdicts.specs.Verdicts.{HasVerdicts, SameStatements};
 use crate::refresh::refresh;
 use crate::verdicts::Verdicts;
 use cpe_rows::{List, Memory, Mode, Wfn};
-use fact_boards::{KeptFacts, WantedRoom};
-use facts::Met;
+use fact_boards::{KeptFacts, Met, WantedRoom};
 use name_index::{NameId, NameTable, Steps};
 use name_registry::Registry;
 use std::alloc::Global;
@@ -93,8 +92,8 @@ impl Verdicts {
         refresh(&mut self.statements, &self.facts);
     }
 
-    /// The items that a name in lower case covers (NIST IR 7696), and those that it may cover, each in the order of items. A step is
-    /// a look at an item: it looks at none twice, and only at items whose product the name's meets.
+    /// The items that a name in lower case covers (NIST IR 7696), and those that it may cover, each in the order of
+    /// items. A step is a look at an item: it looks at none twice, and only at items whose product the name's meets.
     ///
     /// # Errors
     /// Only that memory ran out. The bound on steps holds then, too.
@@ -120,9 +119,9 @@ impl Verdicts {
         Ok((covered, maybes))
     }
 
-    /// The numbers of the items that lead in a mode to a name which a name in lower case covers (NIST IR 7696, 7697), in any order,
-    /// each once for each such name. Cost: that of the items whose product the name's meets; in mode follow that of such ends of
-    /// items, and of the names that lead to the ends that it covers. It counts no steps.
+    /// The numbers of the items that lead in a mode to a name which a name in lower case covers (NIST IR 7696, 7697),
+    /// in any order, each once for each such name. Cost: that of the items whose product the name's meets; in mode
+    /// follow that of such ends of items, and of the names that lead to the ends that it covers. It counts no steps.
     ///
     /// # Errors
     /// Only that memory ran out.
@@ -141,7 +140,8 @@ impl Verdicts {
         self.items_found(alloc, registry, mode, name, true)
     }
 
-    /// The numbers of the items that lead in a mode to a name which a name in lower case may cover, as [`Verdicts::items_covered`].
+    /// The numbers of the items that lead in a mode to a name which a name in lower case may cover, as
+    /// [`Verdicts::items_covered`].
     ///
     /// # Errors
     /// Only that memory ran out.

@@ -27,8 +27,8 @@ use name_registry::Registry;
 use std::alloc::Global;
 use std::sync::ledger::Ledger;
 
-/// What a change of the deprecation of an entry changes: the ends, before and after it, of the items and of the followed facts
-/// that lead to the entry.
+/// What a change of the deprecation of an entry changes: the ends, before and after it, of the items and of the
+/// followed facts that lead to the entry.
 #[derive(Drop)]
 pub struct Lead {
     pub(crate) items_from: Vec<NameId>,
@@ -39,8 +39,8 @@ pub struct Lead {
 }
 
 impl Verdicts {
-    /// What a planned change of the deprecation of an entry changes, with room for it. No verdict changes yet. Cost: that of the
-    /// names which lead to the entry; but if no item and no followed fact can lead there, none for them.
+    /// What a planned change of the deprecation of an entry changes, with room for it. No verdict changes yet. Cost:
+    /// that of the names which lead to the entry; but if no item and no followed fact can lead there, none for them.
     ///
     /// # Errors
     /// Only that memory ran out. The verdicts are then those of the same rows.
@@ -80,9 +80,9 @@ impl Verdicts {
         })
     }
 
-    // Whether it is clear without a search that no item and no followed fact leads to an entry: there are neither items nor
-    // statements, or the entry is active and is no name of the follow board. An active entry is an end of all names that lead to
-    // it, so the board has it if an item or a followed fact leads there.
+    // Whether it is clear without a search that no item and no followed fact leads to an entry: there are neither items
+    // nor statements, or the entry is active and is no name of the follow board. An active entry is an end of all names
+    // that lead to it, so the board has it if an item or a followed fact leads there.
     fn is_unled(&self, registry: &Registry, id: NameId, number: u32) -> bool
         requires live { IsLive registry.now.table id.0 }
         requires number { position (is_named (name_in registry.now.table id)) registry.now.entries ≡ Some number }
@@ -97,7 +97,8 @@ impl Verdicts {
         }
     }
 
-    // What a change changes if no item and no followed fact leads to the entry: nothing, however many entries lead there.
+    // What a change changes if no item and no followed fact leads to the entry: nothing, however many entries lead
+    // there.
     fn ready_none(&mut self, alloc: Global, table: &NameTable) -> Result<Lead, Memory>
         requires { (rows : Rows) × IsLawful rows × HasVerdicts table.now self.old rows }
         ensures verdicts { (names : Names) (rows : Rows) → HasVerdicts names self.old rows → HasVerdicts names self.new rows }
@@ -115,8 +116,8 @@ impl Verdicts {
         })
     }
 
-    /// Changes the ends of the items and of the followed facts that lead to an entry, after its deprecation changed. Allocates:
-    /// no.
+    /// Changes the ends of the items and of the followed facts that lead to an entry, after its deprecation changed.
+    /// Allocates: no.
     pub fn lead<L: Ledger>(&mut self, table: &NameTable, lead: Lead, steps: &mut Steps<L>)
         requires { (rows : Rows) × (e : Edit) × (n : Values) × (deprecation_changed e ≡ Some n) × IsLawful rows × HasVerdicts table.now self.old rows × IsReadyLead self.old table.now rows (after rows e).entries n lead }
         ensures verdicts { (rows : Rows) (e : Edit) (n : Values) → deprecation_changed e ≡ Some n → HasVerdicts table.now self.old rows → HasLead self.old table.now rows (after rows e).entries n lead → HasVerdicts table.now self.new (after rows e) }

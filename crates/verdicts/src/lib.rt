@@ -9,8 +9,8 @@
 //! [`Verdicts::ready_result`]). The second stage cannot fail.
 //!
 //! The boards of facts have all items by product, and the ends of items. So they also find the items that a name covers
-//! or may cover ([`Verdicts::items_met`], [`Verdicts::items_covered`]). The boards
-//! don't keep the order of the items; the registry (`name_registry`) does.
+//! or may cover ([`Verdicts::items_met`], [`Verdicts::items_covered`]). The boards don't keep the order of the items; the
+//! registry (`name_registry`) does.
 #![tactic(auto)]
 
 mod addition;
@@ -26,8 +26,8 @@ mod truths;
 mod verdicts;
 
 pub use addition::Addition;
+pub use cpe_dictionary::FillFault;
 pub use lead::Lead;
-pub use name_registry::{FillFault, Registry};
+pub use name_registry::Registry;
 pub use removal::Removal;
-pub use statement_rows::ReadyResult;
 pub use verdicts::Verdicts;

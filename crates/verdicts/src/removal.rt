@@ -4,7 +4,7 @@ ghost use Rattle.std.specs.List.{list_any};
 ghost use Rattle.cpe_rows.specs.Prelude.{has_id, IsLawful, Rows};
 ghost use Rattle.name_index.specs.declared.table.NameId.{NameId};
 ghost use Rattle.facts.specs.fact_rows.Facts.{users_of};
-ghost use Rattle.facts.specs.fact_rows.Tickets.{is_empty, without};
+ghost use Rattle.facts.specs.ticket_list.Tickets.{is_empty, without};
 ghost use Rattle.facts.specs.Facts.{table_of};
 ghost use Rattle.verdicts.specs.Removal.{IsRemoval, IsRemovalOf, StatementRemoved};
 ghost use Rattle.verdicts.specs.Verdicts.{HasVerdicts, statements_in};

@@ -90,7 +90,8 @@ impl Verdicts {
         self.statements.statement_fault(statement)
     }
 
-    /// The statement at a place from 0, with its verdict. There is none exactly if the place is the number of statements or more.
+    /// The statement at a place from 0, with its verdict. There is none exactly if the place is the number of
+    /// statements or more.
     pub fn at(&self, place: usize) -> Option<(&Statement, Truth)>
         ensures statement { option_map (λ p. p.0.now) result ≡ slice_get (statements_in self.now) place }
         ensures verdict { (names : Names) (rows : Rows) → HasVerdicts names self.now rows → option_map (λ p. p.1) result ≡ option_map (verdict rows) (slice_get rows.statements place) }

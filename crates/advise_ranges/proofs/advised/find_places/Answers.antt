@@ -2,7 +2,7 @@ use Rattle.std.proofs.Common.{◌≡◌, ℕ, List, ◌++◌, length, sym, ap, s
 use Rattle.std.specs.List.{flat_map}
 use Rattle.std.specs.Map.{keys_of}
 use Rattle.cpe_rows.specs.cpe_values.declared.value.Value.TheVariants as value
-use Rattle.name_index.specs.product_orders.Elements.{SameElements}
+use Rattle.name_index.specs.Elements.{SameElements}
 use Rattle.names_in_order.proofs.Rising.{sorted_filter}
 use Rattle.advise_ranges.specs.Found.{is_beside, own_group, passes_at, advice_place_in, places_where}
 use Rattle.advise_ranges.specs.Groups.{group}

@@ -6,4 +6,4 @@ use Rattle.advise_ranges.proofs.groups.drop_empty.Goals as goal
 
 pub returns-then-is_empty : goal.returns-then-is_empty
 returns-then-is_empty c v =
-    ap (λ (o : Option (List (List ℕ))). option_map_or (λ ids. ids) o []) (c.swap_remove.ensures.updates.0 v) ∙ emptied c.args.product.now v c.args.lists.now.entries (c.if-is_empty.ensures refl)
+    ap (λ (o : Option (List (List ℕ))). option_map_or (λ ids. ids) o []) (c.swap_remove.ensures.updates.0 v) ∙ emptied c.args.product.now v c.args.ids_by_product.now.entries (c.if-is_empty.ensures refl)

@@ -3,7 +3,7 @@ use Rattle.cpe_rows.specs.cpe_name.Eleven.{Values}
 use Rattle.cpe_rows.specs.After.{after}
 use Rattle.cpe_rows.specs.Changes.{change}
 use Rattle.cpe_rows.specs.declared.edit.Edit.TheVariants as edit
-use Rattle.name_index.specs.product_orders.Elements.{SameElements}
+use Rattle.name_index.specs.Elements.{SameElements}
 use Rattle.name_index.specs.Table.{Names}
 use Rattle.fact_laws.specs.Shown.{holds_in, names_at}
 use Rattle.fact_laws.specs.Asked.{names_of_rows}

@@ -1,4 +1,4 @@
-use Rattle.name_index.specs.product_orders.declared.products.Side.TheVariants as side
+use Rattle.name_index.specs.declared.products.Side.TheVariants as side
 use Rattle.level_board.specs.Board.{probe_times, target_times, target_ids}
 use Rattle.fact_laws.specs.Asked.{asked, target_names}
 use Rattle.fact_laws.proofs.Different.{held_few}

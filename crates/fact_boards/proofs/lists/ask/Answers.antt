@@ -1,9 +1,9 @@
 use Rattle.std.proofs.Common.{◌+◌, ◌≤◌, drop, get_or, count_by, ap, arith}
-use Rattle.name_index.specs.product_orders.declared.products.Side.TheVariants as side
+use Rattle.name_index.specs.declared.products.Side.TheVariants as side
 use Rattle.name_index.specs.declared.table.NameId.{NameId}
 use Rattle.name_index.specs.Index.{ids, name_id}
 use Rattle.name_index.specs.Table.{kept_at}
-use Rattle.level_board.specs.target_index.Targets.{Targets, held}
+use Rattle.level_board.specs.Targets.{Targets, held}
 use Rattle.level_board.specs.Board.{target_ids}
 use Rattle.fact_laws.specs.Shown.{is_met_on}
 use Rattle.fact_boards.specs.Lists.{looks_at}

@@ -1,5 +1,5 @@
 use Rattle.std.proofs.Common.{ℕ, ◌+◌, ◌≤◌, List, drop, get_or, count_by, ap, arith}
-use Rattle.name_index.specs.product_orders.declared.products.Side.TheVariants as side
+use Rattle.name_index.specs.declared.products.Side.TheVariants as side
 use Rattle.name_index.specs.declared.table.NameId.{NameId}
 use Rattle.name_index.specs.Index.{ids, name_id}
 use Rattle.name_index.specs.Table.{kept_at}

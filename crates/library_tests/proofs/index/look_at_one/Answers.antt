@@ -2,7 +2,7 @@
 use Rattle.std.proofs.Common.{◌≡◌, ◌∷◌, [], ℕ, Bool, List, if◌then◌else◌, count_by, ap, ◌∙◌, arith}
 use Rattle.cpe_rows.specs.cpe_values.declared.value.Value.{Value}
 use Rattle.cpe_relation.specs.Near.{near}
-use Rattle.name_index.specs.product_orders.declared.products.Side.TheVariants as side
+use Rattle.name_index.specs.declared.products.Side.TheVariants as side
 use Rattle.name_index.specs.Table.{kept_at}
 use Rattle.name_index.specs.Index.{ids, is_near}
 use Rattle.library_tests.specs.Tried.{tried_value}

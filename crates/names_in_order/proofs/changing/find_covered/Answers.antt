@@ -1,8 +1,8 @@
 use Rattle.std.proofs.Common.{◌≡◌, List, ap, sym, ◌∙◌}
 use Rattle.std.specs.List.{filter, sum_by}
 use Rattle.std.proofs.lemmas.Result.{IfOk-weaker}
-use Rattle.name_index.specs.product_orders.Elements.{SameElements}
-use Rattle.name_index.proofs.product_orders.Sums.{filter_same}
+use Rattle.name_index.specs.Elements.{SameElements}
+use Rattle.name_index.proofs.Sums.{filter_same}
 use Rattle.name_index.specs.declared.table.NameId.{NameId}
 use Rattle.name_index.specs.Index.{ids, is_covered}
 use Rattle.names_in_order.specs.Marked.{PutsInOrder}

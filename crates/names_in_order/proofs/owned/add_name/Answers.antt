@@ -10,8 +10,8 @@ hold_moved-requires-clause-few g c id has =
     let names = g.N.PushHeld.roll c.args.names.now in
     absurd (name_free c.args.table.now names.held names.numbers c.args.name c.requires.own c.requires.fresh id has)
 
-pub put_last-requires : goal.put_last-requires
-put_last-requires g c =
+pub push_new_number-requires : goal.push_new_number-requires
+push_new_number-requires g c =
     let old = c.args.table.now in
     let mid = c.hold_moved.new.self in
     let names = g.N.PushHeld.roll c.args.names.now in
@@ -37,10 +37,10 @@ returns-clause-ok g c =
     let none = c.fitting_laws.ensures.number old mid id.0 name held (name_free old names.held names.numbers name c.requires.own c.requires.fresh) in
     let is : (kept_at mid id.0).name ≡ name = new_name old mid id name held none in
     let same : names_numbered mid names.numbers ≡ names_numbered old names.numbers = c.orders_stay.ensures.held_names old mid id.0 name names.held names.numbers held c.requires.own.order in
-    on_ok_weaker c.put_last.result (λ e. e ∙ (λ i. same i ++ is i ∷ [])) c.put_last.ensures.ok
+    on_ok_weaker c.push_new_number.result (λ e. e ∙ (λ i. same i ++ is i ∷ [])) c.push_new_number.ensures.ok
 
 pub returns-clause-err : goal.returns-clause-err
 returns-clause-err g c =
     let names = g.N.PushHeld.roll c.args.names.now in
     let same = c.orders_stay.ensures.held_names c.args.table.now c.hold_moved.new.self c.in_ok-id.id.0 c.args.name names.held names.numbers c.in_ok-id.ensures.held c.requires.own.order in
-    on_err_weaker c.put_last.result (λ e. e ∙ same) c.put_last.ensures.err
+    on_err_weaker c.push_new_number.result (λ e. e ∙ same) c.push_new_number.ensures.err

@@ -2,7 +2,7 @@ use Rattle.std.proofs.Common.{◌≡◌, List, [], ◌∷◌, ◌++◌, codes, a
 use Rattle.std.specs.List.{flat_map}
 use Rattle.json.specs.Token.{Token, string, key, begin_object, begin_array, end_array, end_object}
 use Rattle.json.specs.Tree.{json_tokens}
-use Rattle.record_members.specs.Words.{kind_word}
+use Rattle.cpe_records.specs.Words.{kind_word}
 use Rattle.cpe_records.specs.RecordKinds.{record_word}
 use Rattle.record_writer.specs.NameObject.{name_object}
 use Rattle.record_writer.proofs.Pieces.{around, closed}

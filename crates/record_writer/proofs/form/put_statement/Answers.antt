@@ -1,7 +1,7 @@
 use Rattle.std.proofs.Common.{◌≡◌, List, [], ◌∷◌, ◌++◌, codes}
 use Rattle.json.specs.Token.{Token, string, key, begin_object}
 use Rattle.json.specs.Tree.{json_tokens}
-use Rattle.record_members.specs.Words.{mode_word}
+use Rattle.cpe_records.specs.Words.{mode_word}
 use Rattle.record_writer.specs.WrittenRecord.{test_json, titled_end}
 use Rattle.record_writer.proofs.Pieces.{three}
 use Rattle.record_writer.proofs.form.put_statement.Goals as goal

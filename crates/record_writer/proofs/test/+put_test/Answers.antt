@@ -1,7 +1,7 @@
 use Rattle.std.proofs.Common.{◌≡◌, List, [], ◌∷◌, ◌++◌, codes, ap, subst, sym, ◌∙◌}
 use Rattle.json.specs.Token.{Token, string, boolean, key, begin_object, begin_array, end_array, end_object}
 use Rattle.json.specs.Tree.{json_tokens}
-use Rattle.record_members.specs.Words.{operator_word}
+use Rattle.cpe_records.specs.Words.{operator_word}
 use Rattle.record_writer.specs.Puts.{AppendsTokens}
 use Rattle.record_writer.specs.WrittenRecord.{test_json}
 use Rattle.record_writer.proofs.Pieces.{looped}

@@ -2,7 +2,7 @@ use Rattle.std.proofs.Common.{◌≡◌, List, [], ◌∷◌, ◌++◌, codes, a
 use Rattle.std.specs.List.{flat_map}
 use Rattle.json.specs.Token.{Token, string, key, begin_object, end_object, begin_array, end_array}
 use Rattle.json.specs.Tree.{json_tokens}
-use Rattle.record_members.specs.Words.{kind_word}
+use Rattle.cpe_records.specs.Words.{kind_word}
 use Rattle.record_writer.specs.Written.{name_json, deprecation_json}
 use Rattle.record_writer.proofs.Pieces.{listed}
 use Rattle.record_writer.proofs.write.put_deprecation.Goals as goal

@@ -1,10 +1,10 @@
 use Rattle.std.proofs.Common.{count_by, filter, sym, ap, subst, ◌∙◌}
 use Rattle.std.specs.Prelude.{IfOk}
 use Rattle.name_index.specs.step_count.Within.{StepsWithin}
-use Rattle.name_index.specs.product_orders.Elements.{SameElements}
+use Rattle.name_index.specs.Elements.{SameElements}
 use Rattle.name_index.specs.Index.{ids, is_covered}
-use Rattle.facts.specs.target_index.declared.meeting.Met.{Met}
-use Rattle.facts.specs.target_index.Targets.{FitsTargets, held, is_maybe_target, is_met, Targets}
+use Rattle.facts.specs.level_board.declared.meeting.Met.{Met}
+use Rattle.facts.specs.level_board.Targets.{FitsTargets, held, is_maybe_target, is_met, Targets}
 use Rattle.facts.specs.level_board.Board.{Board}
 use Rattle.verdicts.proofs.items.met.Goals as goal
 

@@ -1,5 +1,5 @@
 use Rattle.std.proofs.Common.{◌≡◌, drop}
-use Rattle.facts.specs.fact_rows.Tickets.{without}
+use Rattle.facts.specs.ticket_list.Tickets.{without}
 use Rattle.verdicts.proofs.removal.is_only.Given as goal
 
 abbrev pub invariant-loop-user : goal.invariant-loop-user

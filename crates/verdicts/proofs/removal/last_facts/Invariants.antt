@@ -2,7 +2,7 @@ use Rattle.std.proofs.Common.{◌≡◌, ◌++◌, drop}
 use Rattle.std.specs.Prelude.{filter}
 use Rattle.name_index.specs.declared.table.NameId.{NameId}
 use Rattle.facts.specs.fact_rows.Facts.{users_of}
-use Rattle.facts.specs.fact_rows.Tickets.{is_empty, without}
+use Rattle.facts.specs.ticket_list.Tickets.{is_empty, without}
 use Rattle.facts.specs.Facts.{table_of}
 use Rattle.verdicts.proofs.removal.last_facts.Given as goal
 

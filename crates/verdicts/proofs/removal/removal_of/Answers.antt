@@ -3,7 +3,7 @@ use Rattle.std.specs.List.{flat_map}
 use Rattle.name_index.specs.declared.table.NameId.{NameId}
 use Rattle.facts.specs.fact_laws.Shown.{times_in_list}
 use Rattle.facts.specs.fact_rows.Facts.{has_end_of_fact, leads_of, users_of}
-use Rattle.facts.specs.fact_rows.Tickets.{is_empty, without}
+use Rattle.facts.specs.ticket_list.Tickets.{is_empty, without}
 use Rattle.facts.specs.Facts.{table_of}
 use Rattle.verdicts.proofs.LastLemmas.{filtered_ends, one_at_most, same_ends}
 use Rattle.verdicts.proofs.removal.removal_of.Goals as goal

@@ -1,6 +1,6 @@
 use Rattle.std.proofs.Common.{ℕ, refl, subst}
 use Rattle.name_index.specs.step_count.Within.{StepsWithin}
-use Rattle.name_index.specs.product_orders.declared.products.Side.TheVariants as side
+use Rattle.name_index.specs.declared.products.Side.TheVariants as side
 use Rattle.cpe_rows.specs.Rows.{Rows}
 use Rattle.engine_edits.specs.Parts.{rows_in}
 use Rattle.engine_edits.specs.fact_laws.Shown.{near_names}

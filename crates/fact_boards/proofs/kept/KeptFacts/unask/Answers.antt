@@ -1,6 +1,6 @@
 use Rattle.std.proofs.Common.{◌≤◌, ℕ, ◌++◌, arith, refl, sym, ap, subst, ◌∙◌}
 use Rattle.std.specs.List.{flat_map}
-use Rattle.name_index.specs.product_orders.Elements.{SameElements}
+use Rattle.name_index.specs.Elements.{SameElements}
 use Rattle.level_board.specs.Board.{probe_times}
 use Rattle.cpe_rows.specs.After.{after}
 use Rattle.cpe_rows.specs.declared.edit.Edit.TheVariants as edit

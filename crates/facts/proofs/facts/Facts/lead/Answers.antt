@@ -1,7 +1,7 @@
 use Rattle.std.proofs.Common.{length, ◌≡◌, ◌+◌, ◌∙◌, List, ℕ, Bool, [], Some, true, false, not, refl, sym, ap, subst, arith}
 use Rattle.cpe_rows.specs.cpe_name.Eleven.{Values}
-use Rattle.name_index.specs.product_orders.declared.products.Side.{Side}
-use Rattle.name_index.specs.product_orders.declared.products.Side.TheVariants as side
+use Rattle.name_index.specs.declared.products.Side.{Side}
+use Rattle.name_index.specs.declared.products.Side.TheVariants as side
 use Rattle.cpe_rows.specs.After.{after}
 use Rattle.cpe_rows.specs.Rows.{Rows}
 use Rattle.cpe_rows.specs.Verdict.{fact_truth}
@@ -15,7 +15,7 @@ use Rattle.fact_laws.specs.Shown.{different, near_names}
 use Rattle.fact_laws.specs.Asked.{asked, statement_facts, target_names}
 use Rattle.fact_boards.specs.Kept.{ShowRows}
 use Rattle.fact_rows.specs.Facts.{truth_or_unknown}
-use Rattle.fact_rows.specs.Tickets.{is_empty}
+use Rattle.fact_rows.specs.ticket_list.Tickets.{is_empty}
 use Rattle.facts.specs.Facts.{FactsNow, HasFacts}
 use Rattle.facts.specs.LeadCalls.{EndsChanged, IsLead, MayChangeEnds}
 use Rattle.facts.specs.Leads.{AreLedBut}

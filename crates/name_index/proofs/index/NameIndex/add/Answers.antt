@@ -1,5 +1,5 @@
 use Rattle.std.proofs.Common.{◌≡◌, ◌∷◌, ℕ, sym, subst, arith}
-use Rattle.product_orders.specs.Elements.{SameElements}
+use Rattle.name_index.specs.Elements.{SameElements}
 use Rattle.name_index.specs.Index.{Held, pairs, times_held}
 use Rattle.name_index.proofs.Postings.{added}
 use Rattle.std.proofs.lemmas.Grind.{common_steps}

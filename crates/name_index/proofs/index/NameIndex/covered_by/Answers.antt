@@ -3,7 +3,7 @@ use Rattle.std.specs.List.{filter}
 use Rattle.std.specs.List.Sorted.{IsPermutation}
 use Rattle.std.proofs.lemmas.List.Sorted.{IsNonDecreasingBy-from_sort_by_key}
 use Rattle.cpe_relation.specs.NameRelation.{covers}
-use Rattle.product_orders.specs.Elements.{SameElements}
+use Rattle.name_index.specs.Elements.{SameElements}
 use Rattle.name_index.specs.declared.table.NameId.{NameId}
 use Rattle.name_index.specs.Table.{kept_at}
 use Rattle.name_index.specs.Index.{ids, is_product_covered, is_covered}

@@ -1,6 +1,6 @@
 use Rattle.std.proofs.Common.{◌≡◌, ◌∷◌, ◌+◌, ℕ, sym, ap, subst, ◌∙◌}
 use Rattle.std.specs.List.{Contains}
-use Rattle.product_orders.specs.Elements.{SameElements}
+use Rattle.name_index.specs.Elements.{SameElements}
 use Rattle.name_index.specs.Index.{Held, pairs}
 use Rattle.name_index.proofs.Postings.{product_known, removal, when_true}
 use Rattle.name_index.proofs.index.NameIndex.drop_name.Goals as goal

@@ -1,4 +1,4 @@
-use Rattle.product_orders.specs.Near.{near_on}
+use Rattle.name_index.specs.Near.{near_on}
 use Rattle.name_index.proofs.index.NameIndex.near.Goals as goal
 
 pub returns : goal.returns

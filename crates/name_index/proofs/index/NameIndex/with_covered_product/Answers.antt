@@ -1,4 +1,4 @@
-use Rattle.product_orders.specs.Near.{covers_product}
+use Rattle.name_index.specs.Near.{covers_product}
 use Rattle.name_index.proofs.index.NameIndex.with_covered_product.Goals as goal
 
 pub returns : goal.returns

@@ -1,7 +1,7 @@
 use Rattle.std.proofs.Common.{subst}
 use Rattle.std.specs.List.{filter}
-use Rattle.product_orders.specs.Listed.{product_value_at}
-use Rattle.product_orders.specs.Near.{covers_product}
+use Rattle.name_index.specs.Listed.{product_value_at}
+use Rattle.name_index.specs.Near.{covers_product}
 use Rattle.name_index.specs.Table.{Names}
 use Rattle.name_index.specs.Index.{WalksProducts}
 use Rattle.name_index.proofs.Freed.{product_there}

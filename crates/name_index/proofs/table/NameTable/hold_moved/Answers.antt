@@ -3,7 +3,7 @@ use Rattle.std.specs.Prelude.{Option, IsSome}
 use Rattle.std.proofs.lemmas.Bool.{both_ways}
 use Rattle.cpe_name.specs.Eleven.{Values}
 use Rattle.cpe_name.specs.Lower.{IsLower}
-use Rattle.product_orders.specs.Listed.{ProductList, product_at}
+use Rattle.name_index.specs.Listed.{ProductList, product_at}
 use Rattle.name_index.specs.Table.{Names, Kept, kept_at, kept_or, IsLive, HasName, HoldsName}
 use Rattle.name_index.specs.Rows.{table_of_rows, HasProductNumber}
 use Rattle.name_index.proofs.Names.{has_name, name_found}

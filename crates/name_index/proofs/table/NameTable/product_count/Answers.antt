@@ -1,6 +1,6 @@
 use Rattle.std.proofs.Common.{◌<◌, ℕ, sym, subst}
 use Rattle.name_index.proofs.Freed.{product_there}
-use Rattle.product_orders.proofs.Live.{known}
+use Rattle.name_index.proofs.Live.{known}
 use Rattle.name_index.proofs.table.NameTable.product_count.Goals as goal
 
 pub returns : goal.returns

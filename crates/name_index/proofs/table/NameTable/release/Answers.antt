@@ -6,7 +6,7 @@ use Rattle.name_index.specs.declared.table.NameRow.{NameRow}
 use Rattle.name_index.specs.Table.{Names, IsLive, Releases}
 use Rattle.name_index.specs.Rows.{product_row_with, product_row_at, name_in_place, table_of_rows, AreProductRows, AreProductCounts, product_count_at}
 use Rattle.std.specs.Prelude.{IsSome}
-use Rattle.product_orders.specs.Listed.{product_at}
+use Rattle.name_index.specs.Listed.{product_at}
 use Rattle.name_index.proofs.Counts.{other_holds, same_names, its_count, its_product, count_known, discards}
 use Rattle.name_index.proofs.TableChanges.{with_holds}
 use Rattle.name_index.proofs.Freed.{live_there, lowered, lived, gone}

@@ -1,6 +1,6 @@
 use Rattle.std.proofs.Common.{List, filter, sym, ap, subst, ◌∙◌}
 use Rattle.std.proofs.lemmas.Result.{IfOk-weaker}
-use Rattle.name_index.specs.product_orders.Elements.{SameElements}
+use Rattle.name_index.specs.Elements.{SameElements}
 use Rattle.name_index.specs.declared.table.NameId.{NameId}
 use Rattle.names_in_order.proofs.ChangeLemmas.{covered_live, passes, passing_names}
 use Rattle.fact_laws.specs.Shown.{names_at}

@@ -6,22 +6,22 @@ use Rattle.names_in_order.proofs.ChangeLemmas.{none_any}
 use Rattle.names_in_order.proofs.RoomLemmas.{spare_few, spare_room}
 use Rattle.names_in_order.proofs.marked.MarkedNumbersPushNumber.push.Goals as goal
 
-pub put_last-requires-clause-fresh : goal.put_last-requires-clause-fresh
-put_last-requires-clause-fresh c =
+pub append_slot-requires-clause-fresh : goal.append_slot-requires-clause-fresh
+append_slot-requires-clause-fresh c =
     none_any (numbers_in c.self.inside.slots.items) c.args.id (subst (λ (l : NumberList). (k : ℕ) → slice_get l.numbers k ≢ Some c.args.id) (sym c.self.view_is) c.requires.fresh)
 
-pub put_last-requires-clause-known : goal.put_last-requires-clause-known
-put_last-requires-clause-known c = subst (λ (l : NumberList). c.args.id.0 < l.reach) (sym c.self.view_is) c.requires.room.reach
+pub append_slot-requires-clause-known : goal.append_slot-requires-clause-known
+append_slot-requires-clause-known c = subst (λ (l : NumberList). c.args.id.0 < l.reach) (sym c.self.view_is) c.requires.room.reach
 
-pub put_last-requires-clause-room : goal.put_last-requires-clause-room
-put_last-requires-clause-room c =
+pub append_slot-requires-clause-room : goal.append_slot-requires-clause-room
+append_slot-requires-clause-room c =
     let slots = c.self.inside.slots in
     spare_room (vec_capacity slots) (length slots.items) (subst (λ (l : NumberList). 1 ≤ l.spare) (sym c.self.view_is) c.requires.room.spare)
 
-pub put_last-requires-clause-few : goal.put_last-requires-clause-few
-put_last-requires-clause-few c =
+pub append_slot-requires-clause-few : goal.append_slot-requires-clause-few
+append_slot-requires-clause-few c =
     let slots = c.self.inside.slots in
     spare_few (vec_capacity slots) (length slots.items) (subst (λ (l : NumberList). 1 ≤ l.spare) (sym c.self.view_is) c.requires.room.spare)
 
 pub returns : goal.returns
-returns c = record { numbers = c.put_last.ensures.numbers ∙ ap (λ (l : NumberList). l.numbers ++ c.args.id ∷ []) c.self.view_is }
+returns c = record { numbers = c.append_slot.ensures.numbers ∙ ap (λ (l : NumberList). l.numbers ++ c.args.id ∷ []) c.self.view_is }

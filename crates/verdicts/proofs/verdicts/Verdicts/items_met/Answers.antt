@@ -2,11 +2,11 @@ use Rattle.std.proofs.Common.{◌∙◌, count_by, sym, subst}
 use Rattle.name_index.specs.step_count.Within.{StepsWithin}
 use Rattle.cpe_rows.specs.cpe_relation.Maybe.{maybe}
 use Rattle.cpe_rows.specs.cpe_relation.NameRelation.{covers}
-use Rattle.name_index.specs.product_orders.declared.products.Side.TheVariants as side
+use Rattle.name_index.specs.declared.products.Side.TheVariants as side
 use Rattle.name_index.specs.Index.{ids}
 use Rattle.name_index.specs.declared.table.NameId.{NameId}
 use Rattle.name_index.specs.Table.{kept_at}
-use Rattle.facts.specs.target_index.Targets.{is_met}
+use Rattle.facts.specs.level_board.Targets.{is_met}
 use Rattle.facts.specs.level_board.Board.{FitsBoard, target_ids}
 use Rattle.cpe_rows.specs.Rows.{Rows}
 use Rattle.cpe_rows.specs.declared.statement.Mode.TheVariants.{Plain}

@@ -12,7 +12,7 @@ use Rattle.cpe_rows.specs.declared.statement.Mode.{Mode}
 use Rattle.cpe_rows.specs.declared.statement.Statement.{Statement}
 use Rattle.facts.specs.fact_laws.Shown.{names_at}
 use Rattle.fact_boards.specs.Kept.{AreFactNames}
-use Rattle.facts.specs.fact_rows.Tickets.{without}
+use Rattle.facts.specs.ticket_list.Tickets.{without}
 use Rattle.facts.specs.Facts.{HasFacts}
 use Rattle.statement_rows.specs.State.{is_of, StatementRow, use_in, use_of}
 use Rattle.verdicts.specs.Removal.{IsRemoval, RemovesWith, StatementRemoved}

@@ -1,0 +1,11 @@
+use Rattle.std.proofs.Common.{arith}
+use Rattle.level_board.proofs.TargetChanges.{loose_live}
+use Rattle.level_board.proofs.target_counts.count_loose.Goals as goal
+
+pub loop-one-init : goal.loop-one-init
+loop-one-init g c = record {
+  live = loose_live c.args.table.now c.args.loose.now c.requires.fits;
+  looked = omega arith;
+  counted = omega arith;
+  few = omega arith;
+}

@@ -1,5 +1,0 @@
-pub mod PartedLists
-pub mod Cuts
-pub mod BlockLemmas
-pub mod Halves
-pub mod Taken

@@ -1,4 +1,0 @@
-pub mod Walks
-pub mod Meetings
-pub mod Changes
-pub mod Stay
