@@ -1,7 +1,7 @@
 #!/usr/bin/env python3
 """Measures the memory of the program: python3 bench/memory.py [PROGRAM]. PROGRAM is build/cpe if left out.
 
-First names are added and removed: nothing is kept, so the memory has to stay the same however many there were. Then
+At first, names are added and removed: nothing is kept, so the memory has to stay the same however many there were. Then
 rows of each kind that only the weight limits, or that need much memory for their weight. It prints MiB, bytes for each
 unit of the weight, and the memory of such rows at the full weight of 536,870,912, or at their greatest number if that
 is reached first. The status is 1 if removed names are kept, or if a kind would take more than `--most` GiB (without it,

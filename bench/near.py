@@ -1,9 +1,18 @@
 #!/usr/bin/env python3
-"""Measures what edits and verdicts take of `cpe watch`, `cpe evaluate` and `cpe drill`, by how much else there is, and
-two long sessions whose whole output is known.
+"""Measures how long edits and verdicts take in `cpe watch`, `cpe evaluate` and `cpe drill`, by the number of other rows.
 
-Prints a table, and says of each target whether it is met. All times are of the processor, user and system, so that what
-else runs on the machine adds little. README.md beside this file says how to read it.
+Prints a table, and whether each target is met. All times are of the processor, user and system, so that other work on
+the machine adds little. The rows before the edits are loaded first, untimed. The parts:
+
+- long: 100,000 entries and a search for each; 100,000 statements and an item for each. The output is known.
+- lines: lines of `watch`, as `cpe make` writes them, and in blocks of statements, items, results and removals
+- untouching: edits that can change no verdict; for comparison, refused lines of the same length
+- items: an item that is added or removed, with five facts of its product, among few rows and many
+- table: the table at the end of `evaluate`, over 2,000 items and 1,000 statements
+- verdicts: 4,000 statements in mode follow, and a question for each
+- load: loading items and statements; for comparison, the same rows if no name matches, and reading the lines alone
+- partly: edits and questions among items that are known in part
+- drill: whole runs of `cpe drill`
 """
 import argparse
 import os
@@ -505,7 +514,7 @@ PARTS = {
 
 
 def said():
-    parser = argparse.ArgumentParser(description=__doc__)
+    parser = argparse.ArgumentParser(description=__doc__, formatter_class=argparse.RawDescriptionHelpFormatter)
     parser.add_argument("program", nargs="?", default=run.TOP / "build" / "cpe", type=pathlib.Path, help="the program cpe (build/cpe)")
     parser.add_argument("--rounds", type=int, default=3, help="how often each is timed (3); the longest drill once")
     parser.add_argument("--only", choices=PARTS, nargs="+", default=list(PARTS), help="these parts alone")

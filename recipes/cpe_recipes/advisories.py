@@ -18,8 +18,8 @@ holds with a vulnerable product on the machine.
   records have the same time and differ, what only the second has is UNKNOWN, and reported.
 - What can't be read in an advisory, such as a bad name or bound, becomes a check that stays UNKNOWN, and is reported.
   The rest of the advisory is kept.
-- An advisory with more names than a record can have becomes several statements, with ids such as CVE-..#2. One of these
-  statements is TRUE if the whole advisory would be TRUE. The tables join the statements by their ids.
+- An advisory with more names than a record can have becomes several statements, with ids such as CVE-..#2. The
+  whole advisory is TRUE exactly if at least one of these statements is TRUE. The tables join the statements by their ids.
 
 --ranges names the file for the ranges. --details names the file for scores and titles, which affected.sh reads. If
 something is left out, it is reported, and the status is 1. A feed without any vulnerability is refused, and so is a

@@ -1,5 +1,4 @@
-"""Advisories that are in the feeds and have no verdict: nobody has analysed them yet, so they have no configurations,
-or they are rejected.
+"""Advisories of the feeds without a verdict: not analysed yet, so without configurations, or rejected.
 
 What isn't analysed concerns perhaps every machine, and is neither TRUE nor FALSE on one: it is counted in one remark,
 listed where all is asked for, and is no reason for another status. A verdict that was TRUE before is `none` then, and

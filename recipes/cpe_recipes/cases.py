@@ -294,7 +294,7 @@ def lines_of_statements(feed_data: FeedData, asks: Mapping[int, str]) -> Iterato
     """The statements that have questions, and the questions while there is no item. There is no entry, because in mode
     plain no name leads anywhere."""
     yield from (feed_data.lines[place] for place in asks)
-    # (without items, no negated test and no part is met)
+    # While there is no item, each check that stands for a negated test or for a part is FALSE.
     negated = dict.fromkeys(
         key for place in asks for key in feed_data.statements[place].checks if key in feed_data.negated
     )

@@ -1,4 +1,4 @@
-"""Which products an advisory concerns, read from its record alone, without `cpe` and without a statement.
+"""Which products an advisory concerns, read from its record alone: no statement is made, and `cpe` isn't run.
 
 That is known only if all in the advisory is plain: its names are spelled as `cpe` writes them, in any letter case
 behind their parts, with a plain vendor and product; its bounds are ranges; and nothing of it will be reported. Then it

@@ -13,7 +13,7 @@ The verdict of a machine and an advisory depends on:
 5. The parts (operating systems, hardware) of which the machine has any item, because a list may not name them.
 6. Where the dictionary leads from negated names. An advisory with such a name isn't plain, and each scan decides it.
 7. The other advisories that have one of its ids, or another range under the id of one of its matches. If the store has
-   such ranges, all is decided again. If an id has several records, each scan decides it.
+   such ranges, all is decided again. Each scan decides again the advisories whose id has several records.
 
 Besides 1, the names of an item depend on:
 

@@ -1,8 +1,9 @@
 """The packages of package URLs, as lists give them for components; purls.py reads and writes package URLs.
 
 Names are compared by the rules of their types: in lower case, and for Python packages with `-` in place of `_` and `.`.
-The name of a Go module has no `/v2` at the end. The qualifier `epoch` belongs to the version. `upstream` names the
-source package of a binary package, in Syft's form: `openssl`, `util-linux@2.38.1-5` or `openssl-3.0.7-24.el9.src.rpm`.
+Of a Go module's name, `/v2` (or another number) at the end is dropped. The qualifier `epoch` belongs to the version.
+`upstream` names the source package of a binary package, in Syft's form: `openssl`, `util-linux@2.38.1-5` or
+`openssl-3.0.7-24.el9.src.rpm`.
 """
 from __future__ import annotations
 

@@ -4,10 +4,10 @@ For a negated test this isn't enough, because one more name could hide a machine
 is replaced by a check, which negations.py decides for each machine: TRUE if the test holds whichever name an item has,
 and FALSE if it holds by none of the names.
 
-An AND may ask for an operating system or hardware (part `o` or `h`) beside something else. A list that names none of
-that part doesn't show that it isn't there. So a check is added beside such a name. It is FALSE if the list has an item
-of that part, and otherwise has no result. An AND may ask for both parts and nothing else, as for firmware on its
-device. Then the check is FALSE too if the list has neither part.
+An AND may ask for an operating system or hardware (part `o` or `h`) beside something else. A list may name nothing of
+that part although the machine has it. So a check is added beside such a name. It is FALSE if the list has an item of
+that part, and otherwise has no result. An AND may ask for both parts and nothing else, as for firmware on its device.
+Then the check is FALSE too if the list has neither part.
 """
 from __future__ import annotations
 

@@ -11,8 +11,8 @@
   modified last is used. So pages of changes replace older records, older pages change nothing, and a known page is
   ignored. Each page is added whole or not at all. If a run was stopped or killed, or the disk was full, run add again
   with the same pages. Until then each scan reports these pages as left out. Each scan also reports what could not be
-  read, until you add a good page. Without pages, add finishes the work of a stopped run. --jobs is the number of
-  further processes that read pages.
+  read, until you add a good page. Without pages, `add` only derives again what other recipes derived, and what pages
+  say together. --jobs is the number of further processes that read pages.
 - status: writes how much is in the store, and when something was last added. It lists missing pages, unfinished runs of
   add, and what could not be read.
 - check: reads the whole store. It compares the derived tables with the records, and the records of each page with a

@@ -1,5 +1,5 @@
-"""What is known of the exploitation of advisories: CISA's list (--kev) and EPSS (--epss). They have columns in the
-table, and are in the JSON and on the page. They order the rows, and are terms of --fail-on (gate_grammar.py)."""
+"""What is known of the exploitation of advisories: CISA's list (--kev) and EPSS (--epss). Both are in the table, in the
+JSON, and on the page of `report.py`. They order the rows, and are terms of --fail-on (gate_grammar.py)."""
 from __future__ import annotations
 
 from collections.abc import Collection

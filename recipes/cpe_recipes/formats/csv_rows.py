@@ -4,9 +4,8 @@ All cells are quoted, and lines end with CR LF. A spreadsheet takes a cell that 
 formula, and runs it: so such a cell has a `'` before it, and so has one that begins with `'`, so that nothing is lost.
 What can't be printed is written by its number.
 
-CSV has no place but rows: what was left out is a row with the verdict LEFT OUT, advisories that aren't analysed are
-counted in one with the verdict NOT ANALYSED, and packages without a sure name in one of each machine with the verdict
-NO NAME.
+CSV has only rows. So each thing that was left out is a row with the verdict LEFT OUT. All advisories that aren't
+analysed are one row, NOT ANALYSED. Each machine's packages without a sure name are one row, NO NAME.
 """
 from __future__ import annotations
 

@@ -1,8 +1,8 @@
 """npm's `package-lock.json` and `npm-shrinkwrap.json`: of version 2 and 3 `packages`, of version 1 `dependencies` and
 those within.
 
-A key ends in the name of its package, unless the package has another, as an alias has. What the lock is about is no
-component, as the root; a link leads to what is listed too. A version that is a URL or a folder is none.
+A key ends in the name of its package, unless the package has another, as an alias has. The root (the project itself) is
+no component, nor is a link to a folder that is listed. A version that is a URL or a folder is none.
 """
 from __future__ import annotations
 
